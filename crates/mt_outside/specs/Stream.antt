@@ -1,0 +1,42 @@
+-- What the calls of a source and a sink do, and when they may fail. Where an object cannot tell its bytes, nothing is said of them.
+use Rattle.std.specs.Prelude.{◌≡◌, ◌≤◌, ◌+◌, ◌^◌, ◌-◌, ℕ, List, [], ◌++◌, Option, Some, None, Result, IsErr, min, ⊤}
+
+-- A count of 64 bits after one more, which stays at its last value once it is there.
+abbrev pub one_more : ℕ → ℕ
+one_more count = min (count + 1) (2 ^ 64 - 1)
+
+-- the count rose, or stands at its last value
+abbrev pub Rose : ℕ → ℕ → Type 0
+Rose before now = one_more before ≤ now
+
+-- The count of faults never falls, and a call fails only where it rose.
+pub record HasCause {T E : Type 0} (before now : ℕ) (result : Result T E) : Type 0 where
+  pub never_falls : before ≤ now
+  pub rose : IsErr result → Rose before now
+
+-- of what was left these bytes were given, in order, and the rest is left
+abbrev pub Gave : Option (List ℕ) → Option (List ℕ) → List ℕ → Type 0
+Gave None after bytes = ⊤
+Gave (Some left) after bytes = (rest : List ℕ) × (left ≡ bytes ++ rest) × (after ≡ Some rest)
+
+-- of what was left some front was given
+abbrev pub GavePart : Option (List ℕ) → Option (List ℕ) → Type 0
+GavePart before after = (bytes : List ℕ) × Gave before after bytes
+
+-- these bytes were all that was left, and nothing is left now
+abbrev pub ReadToEnd : Option (List ℕ) → Option (List ℕ) → List ℕ → Type 0
+ReadToEnd None after bytes = ⊤
+ReadToEnd (Some left) after bytes = (left ≡ bytes) × (after ≡ Some [])
+
+-- these bytes were added at the end of what was written
+abbrev pub Took : Option (List ℕ) → Option (List ℕ) → List ℕ → Type 0
+Took None after bytes = ⊤
+Took (Some before) after bytes = after ≡ Some (before ++ bytes)
+
+-- the one list begins with the other
+abbrev pub IsPrefix : List ℕ → List ℕ → Type 0
+IsPrefix front whole = (rest : List ℕ) × (whole ≡ front ++ rest)
+
+-- some front of these bytes, none or all of them too, was added at the end of what was written
+abbrev pub TookPart : Option (List ℕ) → Option (List ℕ) → List ℕ → Type 0
+TookPart before after bytes = (front : List ℕ) × IsPrefix front bytes × Took before after front
