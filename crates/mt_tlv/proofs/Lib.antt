@@ -1,0 +1,12 @@
+pub mod Again
+pub mod Cursors
+pub mod Elements
+pub mod LittleEndian
+pub mod Loop
+pub mod Narrowest
+pub mod Numbers
+pub mod Runs
+pub mod Same
+pub mod Signed
+pub mod Takes
+pub mod Texts

@@ -1,0 +1,9 @@
+pub mod Falls
+pub mod Limits
+pub mod Narrow
+pub mod Parts
+pub mod Reading
+pub mod Runs
+pub mod Spelling
+pub mod Tree
+pub mod View

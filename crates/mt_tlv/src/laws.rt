@@ -1,0 +1,41 @@
+//! Laws of the format, over its definitions alone. Each is the contract of a function that does
+//! nothing.
+
+ghost use Rattle.std.specs.Prelude.{◌≡◌, ◌≤◌, ◌++◌, List, ℕ, length, Ok, None};
+ghost use Rattle.mt_tlv.specs.declared.value.Tag.{Tag};
+ghost use Rattle.mt_tlv.specs.Tree.{Tree};
+ghost use Rattle.mt_tlv.specs.Narrow.{narrow};
+ghost use Rattle.mt_tlv.specs.Limits.{IsTag, IsAllowed, IsElement, deepest, longest};
+ghost use Rattle.mt_tlv.specs.Reading.{element_at};
+ghost use Rattle.mt_tlv.specs.Parts.{start, next_at};
+ghost use Rattle.mt_tlv.specs.Runs.{parts_of, Comes, behind};
+
+/// No element begins another, and bytes are the element of one tag and one value at most.
+pub fn no_element_begins_another()
+    ensures { (s t : Tag) (v w : Tree) (a b x y : List ℕ) → IsElement s v a → IsElement t w b → a ++ x ≡ b ++ y
+        → (a ≡ b) × (s ≡ t) × (v ≡ w) }
+{}
+
+/// An element is read, in whatever widths it is spelled and whatever follows it.
+pub fn element_is_read()
+    ensures { (tag : Tag) (v : Tree) (bytes rest : List ℕ) → IsElement tag v bytes → element_at (bytes ++ rest) ≡ Ok ((tag, v), rest) }
+{}
+
+/// The narrow encoding of what is allowed is an element, where it is not too long.
+pub fn narrow_is_element()
+    ensures { (tag : Tag) (v : Tree) → IsTag tag → IsAllowed v deepest → length (narrow tag v) ≤ longest → IsElement tag v (narrow tag v) }
+{}
+
+/// What is written is read again, whatever follows it.
+pub fn written_is_read()
+    ensures { (tag : Tag) (v : Tree) (rest : List ℕ) → IsTag tag → IsAllowed v deepest → length (narrow tag v) ≤ longest
+        → element_at (narrow tag v ++ rest) ≡ Ok ((tag, v), rest) }
+{}
+
+/// A cursor comes over the parts of an element in their order, whatever follows it, and then there is
+/// none.
+pub fn cursor_comes_over_the_element()
+    ensures parts { (tag : Tag) (v : Tree) (bytes rest : List ℕ) → IsElement tag v bytes
+        → Comes (start (bytes ++ rest)) (parts_of tag v) (behind (length (bytes ++ rest)) rest) }
+    ensures end { (whole : ℕ) (rest : List ℕ) → next_at (behind whole rest) ≡ Ok (None, behind whole rest) }
+{}

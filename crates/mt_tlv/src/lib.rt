@@ -1,0 +1,34 @@
+//! TLV, the tagged values of Matter (Matter Core Specification, Appendix A): the values as data, how
+//! they are read in any widths, and their narrow encoding, in which each number, length and tag takes
+//! the least width.
+//!
+//! - `bytes`: a string of bytes that contracts see as a list;
+//! - `value`: tags, values and the members of containers, seen as trees with no place in memory;
+//! - `fault`: what keeps bytes from being an element;
+//! - `reading`: the first element of some bytes;
+//! - `cursor`: the parts of an element one after the other, in no memory;
+//! - `writing`: an element as bytes;
+//! - `laws`: what holds of the format whatever the bytes.
+#![tactic(auto)]
+
+mod bytes;
+mod cursor;
+mod fault;
+mod laws;
+mod reading;
+mod value;
+mod writing;
+
+pub use bytes::Bytes;
+pub use cursor::{Cursor, Part};
+pub use fault::TlvFault;
+pub use laws::{
+    cursor_comes_over_the_element, element_is_read, narrow_is_element, no_element_begins_another,
+    written_is_read,
+};
+pub use reading::read;
+pub use value::{Members, Tag, Value};
+pub use writing::write;
+
+#[cfg(test)]
+mod tests;
