@@ -1,0 +1,65 @@
+//! Fabrics and their credentials.
+
+ghost use Rattle.std.specs.Prelude.{◌≡◌};
+
+use crate::listed::{ExactCopy, Listed};
+use mt_tlv::Bytes;
+use std::alloc::AllocError;
+
+/// What a fabric's administrator has given the node, so that it is one of the fabric's nodes.
+#[derive(Drop)]
+pub struct Credentials {
+    /// The root certificate.
+    pub root: Bytes,
+    /// The root's public key, which with the fabric id names the fabric.
+    pub root_key: Bytes,
+    pub fabric_id: u64,
+    /// The node's own operational id on this fabric.
+    pub node_id: u64,
+    /// The node's operational certificate.
+    pub noc: Bytes,
+    /// The intermediate certificate; no bytes where there is none.
+    pub icac: Bytes,
+    /// The identity protection key.
+    pub ipk: Bytes,
+}
+
+impl ExactCopy for Credentials {
+    fn copy(&self) -> Result<Credentials, AllocError> {
+        Ok(Credentials {
+            root: self.root.copy()?,
+            root_key: self.root_key.copy()?,
+            fabric_id: self.fabric_id,
+            node_id: self.node_id,
+            noc: self.noc.copy()?,
+            icac: self.icac.copy()?,
+            ipk: self.ipk.copy()?,
+        })
+    }
+}
+
+/// A fabric of the node's table.
+#[derive(Drop)]
+pub struct Fabric {
+    /// Its place in the table, from 1.
+    pub index: u8,
+    pub credentials: Credentials,
+    /// The vendor of the fabric's administrator.
+    pub vendor: u16,
+    /// What the administrator calls it, in UTF-8.
+    pub label: Bytes,
+}
+
+impl ExactCopy for Fabric {
+    fn copy(&self) -> Result<Fabric, AllocError> {
+        Ok(Fabric {
+            index: self.index,
+            credentials: self.credentials.copy()?,
+            vendor: self.vendor,
+            label: self.label.copy()?,
+        })
+    }
+}
+
+/// Fabrics, by ascending index.
+pub type Fabrics = Listed<Fabric>;

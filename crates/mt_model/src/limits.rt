@@ -1,0 +1,115 @@
+//! The limits of the node. All are this project's own, where the standard sets a minimum at most.
+
+/// The most fabrics that share the node.
+pub const FABRICS: usize = 16;
+
+/// The most access control entries of one fabric.
+pub const ENTRIES: usize = 4;
+
+/// The most subjects of one access control entry.
+pub const SUBJECTS: usize = 4;
+
+/// The most targets of one access control entry.
+pub const TARGETS: usize = 3;
+
+/// The most CATs (CASE authenticated tags) of one actor.
+pub const CATS: usize = 3;
+
+/// The most subscriptions of one fabric; PASE sessions without a fabric count as one.
+pub const SUBSCRIPTIONS: usize = 3;
+
+/// The most CASE sessions of one fabric in one boot.
+pub const CASE_SESSIONS: usize = 3;
+
+/// The most PASE sessions in one boot.
+pub const PASE_SESSIONS: usize = 4;
+
+/// The most exchanges that a peer may have open on one session.
+pub const EXCHANGES: usize = 4;
+
+/// The most attribute and event paths of one request.
+pub const PATHS: usize = 16;
+
+/// The most items of one write request.
+pub const WRITE_ITEMS: usize = 16;
+
+/// How many private events of one fabric are kept.
+pub const PRIVATE_EVENTS: usize = 32;
+
+/// How many shared events are kept.
+pub const SHARED_EVENTS: usize = 128;
+
+/// The most bytes of a certificate.
+pub const CERTIFICATE_BYTES: usize = 400;
+
+/// The bytes of a root's public key.
+pub const ROOT_KEY_BYTES: usize = 65;
+
+/// The bytes of an identity protection key.
+pub const IPK_BYTES: usize = 16;
+
+/// The most bytes of a fabric's label.
+pub const LABEL_BYTES: usize = 32;
+
+/// The most networks.
+pub const NETWORKS: usize = 4;
+
+/// The most items of a label list, and of one fabric's list of bindings or of bench items.
+pub const LIST_ITEMS: usize = 8;
+
+/// The most bytes of a datagram that is sent.
+pub const SENT_BYTES: usize = 1232;
+
+/// The most bytes of a datagram that is received.
+pub const RECEIVED_BYTES: usize = 1280;
+
+/// The most bytes of the payload of a plain line of a recording.
+pub const PAYLOAD_BYTES: usize = 1280;
+
+/// The most bytes that the items of one payload have together.
+pub const ITEM_BYTES: usize = 1176;
+
+/// The most lines of a recording behind its head.
+pub const RECORDING_LINES: usize = 1_048_576;
+
+/// The most bytes of a recording.
+pub const RECORDING_BYTES: usize = 67_108_864;
+
+/// The most bytes of a recording's line, without its end.
+pub const LINE_BYTES: usize = 4096;
+
+/// The most bytes of a configuration.
+pub const CONFIGURATION_BYTES: usize = 1_048_576;
+
+/// The most bytes of one durable change.
+pub const CHANGE_BYTES: usize = 65_536;
+
+/// The greatest time, in ms.
+pub const LAST_TIME: u64 = 281_474_976_710_655;
+
+/// The greatest operational node id; the least is 1.
+pub const LAST_OPERATIONAL_NODE: u64 = 0xffff_ffef_ffff_ffff;
+
+/// By how much the data versions of a boot begin above those of the boot before.
+pub const VERSIONS_OF_BOOT: u32 = 1_048_576;
+
+/// The most sessions of a configuration.
+pub const SESSIONS: usize = 64;
+
+/// The most verdicts of one kind in a configuration.
+pub const VERDICTS: usize = 16;
+
+/// The bytes of a nonce.
+pub const NONCE_BYTES: usize = 32;
+
+/// The most bytes of the elements of a certificate signing request.
+pub const ELEMENTS_BYTES: usize = 400;
+
+/// The bytes of a signature.
+pub const SIGNATURE_BYTES: usize = 64;
+
+/// The most bytes of a network's id.
+pub const NETWORK_ID_BYTES: usize = 32;
+
+/// The greatest group id; the least is 1.
+pub const LAST_GROUP: u64 = 65_535;
