@@ -1,0 +1,9 @@
+pub mod Access
+pub mod Laws
+pub mod Machine
+pub mod Messages
+pub mod Opened
+pub mod Recording
+pub mod Samples
+pub mod Text
+pub mod View
