@@ -1,0 +1,5 @@
+pub mod Bounded
+pub mod Faults
+pub mod Fields
+pub mod Run
+pub mod Words
