@@ -1,0 +1,12 @@
+use Rattle.std.proofs.Common.{ℕ, ◌-◌, List, length, take, refl, arith}
+use Rattle.mt_ccm.proofs.SealFacts.{sealed_is}
+use Rattle.mt_ccm.proofs.sealing.seal.Goals as goal
+
+pub returns : goal.returns
+returns c =
+    let key : List ℕ = c.args.key.now in
+    let old : List ℕ = c.args.buf.now in
+    let n : ℕ = length old - 16 in
+    sealed_is key c.args.nonce.now c.args.aad.now old c.mask.new.bytes (take n old) c.masked_tag_of-tag.result c.put_tag.new.bytes n
+    (omega arith) refl (c.mask.ensures key c.expanded-words.ensures)
+    (c.masked_tag_of-tag.ensures key c.expanded-words.ensures) c.put_tag.ensures

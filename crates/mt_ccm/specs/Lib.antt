@@ -1,0 +1,4 @@
+pub mod Aes
+pub mod Ccm
+pub mod Steps
+pub mod Words
