@@ -1,6 +1,7 @@
 pub mod Again
 pub mod Cursors
 pub mod Elements
+pub mod Faults
 pub mod LittleEndian
 pub mod Loop
 pub mod Narrowest

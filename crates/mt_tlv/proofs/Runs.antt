@@ -24,7 +24,7 @@ at_place whole rest ks begun = place whole rest ks begun None
 no_fault : (f : TlvFault) → None ≡ Some f → ⊥
 no_fault f e = cc
 
-comes_append : (p m q : Place) (xs ys : List Piece) → Comes p xs m → Comes m ys q → Comes p (xs ++ ys) q
+pub comes_append : (p m q : Place) (xs ys : List Piece) → Comes p xs m → Comes m ys q → Comes p (xs ++ ys) q
 comes_append p m q [] ys h k = subst (λ (x : Place). Comes x ys q) (sym h) k
 comes_append p m q (x ∷ xs) ys h k = (h.0, h.1, comes_append h.0 m q xs ys h.2 k)
 

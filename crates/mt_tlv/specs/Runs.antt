@@ -1,6 +1,7 @@
 -- The parts of a whole element, and how a cursor comes over them.
-use Rattle.std.specs.Prelude.{◌≡◌, ℕ, List, [], ◌∷◌, ◌++◌, Some, None, Ok, true}
+use Rattle.std.specs.Prelude.{◌≡◌, ℕ, List, [], ◌∷◌, ◌++◌, Some, None, Ok, Err, true}
 use Rattle.mt_tlv.specs.declared.value.Tag.{Tag}
+use Rattle.mt_tlv.specs.declared.fault.TlvFault.{TlvFault}
 use Rattle.mt_tlv.specs.Tree.{Tree, int, uint, bool, text, octets, null, bits32, bits64, structure, array, list, Elements, none, more}
 use Rattle.mt_tlv.specs.Parts.{Piece, scalar, enter, leave, Place, next_at}
 use Rattle.mt_tlv.specs.Parts as parts
@@ -33,3 +34,7 @@ Comes p (x ∷ xs) q = (m : Place) × (next_at p ≡ Ok (Some x, m)) × Comes m 
 -- the place behind an element, with these bytes still in front
 abbrev pub behind : ℕ → List ℕ → Place
 behind whole rest = record { whole = whole; rest = rest; open_kinds = []; begun = true; fault = None }
+
+-- Faults p e: from the place p a cursor comes over some parts, none or more, and then meets this fault.
+abbrev pub Faults : Place → TlvFault → Type 0
+Faults p e = (xs : List Piece) × (q : Place) × Comes p xs q × (next_at q ≡ Err e)

@@ -1,14 +1,16 @@
 //! Laws of the format, over its definitions alone. Each is the contract of a function that does
 //! nothing.
 
-ghost use Rattle.std.specs.Prelude.{◌≡◌, ◌≤◌, ◌++◌, List, ℕ, length, Ok, None};
+ghost use Rattle.std.specs.Prelude.{◌≡◌, ◌≢◌, ◌≤◌, ◌++◌, ◌⊎◌, List, ℕ, length, Ok, Err, None};
 ghost use Rattle.mt_tlv.specs.declared.value.Tag.{Tag};
+ghost use Rattle.mt_tlv.specs.declared.fault.TlvFault.{TlvFault};
+ghost use Rattle.mt_tlv.specs.declared.fault.TlvFault.TheVariants.{SameTag, Memory};
 ghost use Rattle.mt_tlv.specs.Tree.{Tree};
 ghost use Rattle.mt_tlv.specs.Narrow.{narrow};
 ghost use Rattle.mt_tlv.specs.Limits.{IsTag, IsAllowed, IsElement, deepest, longest};
 ghost use Rattle.mt_tlv.specs.Reading.{element_at};
 ghost use Rattle.mt_tlv.specs.Parts.{start, next_at};
-ghost use Rattle.mt_tlv.specs.Runs.{parts_of, Comes, behind};
+ghost use Rattle.mt_tlv.specs.Runs.{parts_of, Comes, behind, Faults};
 
 /// No element begins another, and bytes are the element of one tag and one value at most.
 pub fn no_element_begins_another()
@@ -38,4 +40,13 @@ pub fn cursor_comes_over_the_element()
     ensures parts { (tag : Tag) (v : Tree) (bytes rest : List ℕ) → IsElement tag v bytes
         → Comes (start (bytes ++ rest)) (parts_of tag v) (behind (length (bytes ++ rest)) rest) }
     ensures end { (whole : ℕ) (rest : List ℕ) → next_at (behind whole rest) ≡ Ok (None, behind whole rest) }
+{}
+
+/// A cursor meets the fault that reading meets, and no other, whatever the bytes are. But it keeps no
+/// tags: where a structure has a tag twice and reading stops, a cursor goes on, and may meet a fault
+/// that stands behind. It never tells of such a tag, nor of memory.
+pub fn cursor_meets_the_fault()
+    ensures read { (bytes : List ℕ) (e : TlvFault) → e ≢ SameTag → element_at bytes ≡ Err e → Faults (start bytes) e }
+    ensures met { (bytes : List ℕ) (e : TlvFault) → Faults (start bytes) e → (element_at bytes ≡ Err e) ⊎ (element_at bytes ≡ Err SameTag) }
+    ensures never { (bytes : List ℕ) (e : TlvFault) → Faults (start bytes) e → (e ≢ SameTag) × (e ≢ Memory) }
 {}
