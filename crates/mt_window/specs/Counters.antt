@@ -1,4 +1,4 @@
--- What is answered of a message counter (Matter Core Specification, section 4.6, Message Counters), over
+-- What is answered of a message counter (Matter Core Specification, section 4.5, Message Counters), over
 -- the list of all counters that were accepted before it. Nothing rolls over.
 use Rattle.std.specs.Prelude.{ℕ, ◌+◌, max, Bool, List, [], ◌∷◌, ◌++◌, fold, nat_eq, nat_lt, if◌then◌else◌}
 use Rattle.std.specs.List.{list_any}

@@ -1,4 +1,4 @@
-//! Which message counters of a peer are new (Matter Core Specification, section 4.6, Message
+//! Which message counters of a peer are new (Matter Core Specification, section 4.5, Message
 //! Counters): duplicates are found over all counters that were ever accepted, in one number and one
 //! word of bits. Counters of a session do not roll over.
 //!

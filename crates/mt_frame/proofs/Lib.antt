@@ -1,0 +1,4 @@
+pub mod Numbers
+pub mod Messages
+pub mod Protocols
+pub mod Writes
