@@ -1,0 +1,5 @@
+pub mod Bare
+pub mod Fabrics
+pub mod Order
+pub mod Places
+pub mod Sizes

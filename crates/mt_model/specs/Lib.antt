@@ -1,5 +1,9 @@
 pub mod Access
-pub mod Bench
+pub mod Blocks
 pub mod Config
 pub mod Devices
+pub mod Events
+pub mod Order
+pub mod Sight
 pub mod Status
+pub mod Verdicts

@@ -4,26 +4,44 @@
 
 mod access;
 mod config;
-mod configurations;
 mod fabric;
+mod laws;
 pub mod limits;
 mod listed;
 mod message;
+mod network;
 mod place;
+mod recording;
+mod sight;
+mod size;
 mod state;
 mod status;
+mod verdicts;
 
 pub use access::{AclEntries, AclEntry, Actor, Auth, Privilege, Subjects, Target, Targets};
 pub use config::{
     Config, CsrRow, CsrRows, JoinRow, JoinRows, RootRow, RootRows, SessionRow, SessionRows, Ssids,
 };
-pub use configurations::bench;
 pub use fabric::{Credentials, Fabric, Fabrics};
+pub use laws::{
+    entries_are_in_order, fabrics_are_in_order, in_order_sees, numbered_fabrics_ascend,
+    rows_of_a_place_are_in_order,
+};
 pub use listed::{ExactCopy, Listed};
-pub use message::{Event, Index, Item, Path, Sent, To};
+pub use message::{
+    Happened, Index, Item, Items, Path, Paths, Payload, Payloads, Places, Reply, Request,
+    WriteItem, Writes,
+};
+pub use network::{Armed, Network, Networks, Roots};
 pub use place::{Place, Row, Rows, device_type};
-pub use state::{NodeState, Version, Versions};
+pub use recording::{Event, Events, Sent, SentList, To};
+pub use sight::{Sight, View, sees};
+pub use size::item_size;
+pub use state::{
+    ChangeNumber, ChangeNumbers, NodeSession, NodeSessions, NodeState, Standing, Version, Versions,
+};
 pub use status::Status;
+pub use verdicts::{TableVerdicts, Verdicts};
 
 #[cfg(test)]
 mod tests;

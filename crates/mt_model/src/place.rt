@@ -1,7 +1,9 @@
 //! Where data stands on the node.
 
-ghost use Rattle.std.specs.Prelude.{◌≡◌, ◌↔◌, ◌++◌, ◌∷◌, [], IsTrue, IfOk, OnOk, OnErr, length};
+ghost use Rattle.std.specs.Prelude.{◌≡◌, ◌↔◌, ◌++◌, ◌∷◌, [], IsTrue, IfOk, OnOk, OnErr, length, filter, not};
 ghost use Rattle.mt_model.specs.Devices.{device_of};
+ghost use Rattle.mt_model.specs.Order.{are_ascending, may_follow, stands_before};
+ghost use Rattle.mt_model.specs.Sight.{stands_at};
 
 use crate::listed::ExactCopy;
 use mt_tlv::Value;
@@ -15,6 +17,12 @@ pub struct Place {
     pub cluster: u32,
     /// The id of the attribute, command or event.
     pub leaf: u32,
+}
+
+impl ExactCopy for Place {
+    fn copy(&self) -> Result<Place, AllocError> {
+        Ok(*self)
+    }
 }
 
 /// An attribute's value. A fabric-scoped list has one row for each item.
@@ -43,8 +51,9 @@ pub struct Rows {
 }
 
 impl Model for Rows {
-    ghost use Rattle.std.specs.Prelude.{List};
+    ghost use Rattle.std.specs.Prelude.{List, IsTrue};
     ghost use Rattle.mt_model.specs.declared.place.Row.{Row};
+    ghost use Rattle.mt_model.specs.Order.{are_ascending};
     ghost use Rattle.mt_tlv.specs.contracts.value.Value as values;
     ghost use Rattle.std.specs.Coded.{codes};
 
@@ -53,6 +62,8 @@ impl Model for Rows {
     ghost coded = { Prim.hlevel (codes, values.the_row.coded) };
 
     ghost view = { λ list. list.rows.items };
+
+    ghost invariant = { λ list. IsTrue (are_ascending list.rows.items) };
 }
 
 impl Rows {
@@ -65,8 +76,20 @@ impl Rows {
         }
     }
 
-    /// These rows, in the same memory.
+    /// Whether these rows ascend.
+    pub fn is_ascending(rows: &[Row]) -> bool
+        ensures { result ≡ are_ascending rows.now }
+    {
+        rows.is_sorted_by(
+            |row: &Row, next: &Row| -> bool
+                ensures { result ≡ may_follow row.now next.now }
+            { may_follow(row, next) },
+        )
+    }
+
+    /// These rows, which ascend, in the same memory.
     pub fn from_vec(rows: Vec<Row>) -> Self
+        requires { IsTrue (are_ascending rows.items) }
         ensures { result ≡ rows.items }
     {
         Rows { rows }
@@ -74,16 +97,54 @@ impl Rows {
 
     /// The rows, in the same memory.
     pub fn into_vec(self) -> Vec<Row>
-        ensures { result.items ≡ self }
+        ensures value { result.items ≡ self }
+        ensures ascending { IsTrue (are_ascending self) }
     {
         self.rows
     }
 
     /// The rows, lent.
     pub fn as_slice(&self) -> &[Row]
-        ensures { result.now ≡ self.now }
+        ensures value { result.now ≡ self.now }
+        ensures ascending { IsTrue (are_ascending self.now) }
     {
         self.rows.as_slice()
+    }
+
+    /// How many rows there are.
+    pub fn len(&self) -> usize
+        ensures { result ≡ length self.now }
+    {
+        self.rows.len()
+    }
+
+    /// The rows of a place, lent: by ascending fabric, and in the order of the list.
+    pub fn at(&self, place: &Place) -> &[Row]
+        ensures { result.now ≡ filter (stands_at place.now) self.now }
+    {
+        let rows = self.rows.as_slice();
+        let begin = rows.partition_point(
+            |row: &Row| -> bool
+                ensures { result ≡ stands_before row.now.place place.entry.now }
+            { stands_before(&row.place, place) },
+        );
+        let rest = &rows[begin..];
+        let end = rest.partition_point(
+            |row: &Row| -> bool
+                ensures { result ≡ not (stands_before place.entry.now row.now.place) }
+            { !stands_before(place, &row.place) },
+        );
+        &rest[..end]
+    }
+
+    /// Adds a row at the end, which it may follow.
+    pub fn push(&mut self, row: Row) -> Result<(), AllocError>
+        requires { IsTrue (are_ascending (self.old ++ row ∷ [])) }
+        ensures ok { OnOk result (self.new ≡ self.old ++ row ∷ []) }
+        ensures err { OnErr result (self.new ≡ self.old) }
+    {
+        self.rows.push(row)?;
+        Ok(())
     }
 }
 
@@ -95,6 +156,26 @@ impl ExactCopy for Rows {
         }
         Ok(Rows { rows })
     }
+}
+
+// Whether the first place stands before the second: by endpoint, then by cluster, then by leaf.
+fn stands_before(place: &Place, other: &Place) -> bool
+    ensures { result ≡ stands_before place.now other.now }
+{
+    if place.endpoint != other.endpoint {
+        return place.endpoint < other.endpoint;
+    }
+    if place.cluster != other.cluster {
+        return place.cluster < other.cluster;
+    }
+    place.leaf < other.leaf
+}
+
+// Whether the second row may come right after the first.
+fn may_follow(row: &Row, next: &Row) -> bool
+    ensures { result ≡ may_follow row.now next.now }
+{
+    stands_before(&row.place, &next.place) || (row.place == next.place && row.fabric <= next.fabric)
 }
 
 /// The device type of an endpoint: the root node on endpoint 0, the bench device on endpoint 1, and

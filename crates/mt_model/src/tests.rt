@@ -1,114 +1,8 @@
 use super::*;
-use mt_tlv::{Bytes, Value};
+use mt_tlv::{Bytes, Members, Tag, Value};
 use std::alloc::{AllocError, Global};
 use std::process::Abort;
 use std::test::*;
-
-fn check_fabrics(rt: &impl Abort, fabrics: &Fabrics) {
-    let rows: [(u8, &[u8], u64, &[u8], &[u8]); 2] = [
-        (1, b"\xa1", 10, b"\xb1", b"one"),
-        (2, b"\xa2", 20, b"\xb2", b"two"),
-    ];
-    assert_eq!(rt; fabrics.len(), 2);
-    for (fabric, row) in fabrics.as_slice().iter().zip(rows.iter()) {
-        let credentials = &fabric.credentials;
-        assert_eq!(rt; fabric.index, row.0);
-        assert_eq!(rt; credentials.root.as_slice(), row.1);
-        assert_eq!(rt; credentials.root_key.as_slice().len(), 65);
-        assert_eq!(rt; credentials.fabric_id, row.0 as u64);
-        assert_eq!(rt; credentials.node_id, row.2);
-        assert_eq!(rt; credentials.noc.as_slice(), row.3);
-        assert!(rt; credentials.icac.as_slice().is_empty());
-        assert_eq!(rt; credentials.ipk.as_slice().len(), 16);
-        assert_eq!(rt; fabric.vendor, 65521);
-        assert_eq!(rt; fabric.label.as_slice(), row.4);
-    }
-}
-
-fn check_entries(rt: &impl Abort, entries: &AclEntries) {
-    let rows: [(u8, Privilege, u64, Option<u16>); 3] = [
-        (1, Privilege::Administer, 1, None),
-        (2, Privilege::Administer, 1, None),
-        (2, Privilege::View, 0xffff_fffd_0001_0002, Some(1)),
-    ];
-    assert_eq!(rt; entries.len(), 3);
-    for (entry, row) in entries.as_slice().iter().zip(rows.iter()) {
-        assert_eq!(rt; entry.fabric, row.0);
-        assert_eq!(rt; entry.privilege, row.1);
-        assert_eq!(rt; entry.auth, Auth::Case);
-        assert_eq!(rt; entry.subjects.as_slice(), [row.2].as_slice());
-        assert_eq!(rt; entry.targets.is_empty(), row.3.is_none());
-        for target in entry.targets.as_slice() {
-            assert_eq!(rt; target.endpoint, row.3);
-            assert_eq!(rt; target.cluster, None);
-            assert_eq!(rt; target.device, None);
-        }
-    }
-}
-
-fn check_sessions(rt: &impl Abort, sessions: &SessionRows) {
-    let rows: [(u16, u16, Auth, u64, u64, u8, u8); 3] = [
-        (1, 101, Auth::Case, 1, 10, 0x51, 0x52),
-        (2, 102, Auth::Case, 2, 20, 0x61, 0x62),
-        (3, 103, Auth::Pase, 0, 0, 0x71, 0x72),
-    ];
-    assert_eq!(rt; sessions.len(), 3);
-    for (session, row) in sessions.as_slice().iter().zip(rows.iter()) {
-        assert_eq!(rt; session.session, row.0);
-        assert_eq!(rt; session.peer_session, row.1);
-        assert_eq!(rt; session.boot, 1);
-        assert_eq!(rt; session.auth, row.2);
-        assert_eq!(rt; session.fabric_id, row.3);
-        assert_eq!(rt; session.own_node, row.4);
-        assert_eq!(rt; session.cats, [0; 3]);
-        assert_eq!(rt; session.key_in, [row.5; 16]);
-        assert_eq!(rt; session.key_out, [row.6; 16]);
-        assert_eq!(rt; session.counter_in, 1000);
-        assert_eq!(rt; session.counter_out, 5000);
-    }
-}
-
-fn check_verdicts(rt: &impl Abort, config: &Config) {
-    assert_eq!(rt; config.roots.len(), 1);
-    for row in config.roots.as_slice() {
-        assert_eq!(rt; row.cert.as_slice(), b"\xa3".as_slice());
-        assert_eq!(rt; row.key.as_slice().first().copied(), Some(4));
-        assert_eq!(rt; row.key.as_slice().last().copied(), Some(0x33));
-    }
-    assert_eq!(rt; config.csrs.len(), 1);
-    for row in config.csrs.as_slice() {
-        assert_eq!(rt; row.nonce.as_slice(), [0x0e; 32].as_slice());
-        assert_eq!(rt; row.elements.as_slice(), b"\xd1".as_slice());
-        assert_eq!(rt; row.signature.as_slice(), [0xd2; 64].as_slice());
-    }
-    let joins: [(&[u8], &[u8], u64, u64); 2] = [
-        (b"\xa3", b"\xb3", 3, 30),
-        (b"\xa1", b"\xb9", 1, 11),
-    ];
-    assert_eq!(rt; config.joins.len(), 2);
-    for (row, wanted) in config.joins.as_slice().iter().zip(joins.iter()) {
-        assert_eq!(rt; row.root.as_slice(), wanted.0);
-        assert_eq!(rt; row.noc.as_slice(), wanted.1);
-        assert!(rt; row.icac.as_slice().is_empty());
-        assert_eq!(rt; row.nonce.as_slice(), [0x0e; 32].as_slice());
-        assert_eq!(rt; row.fabric_id, wanted.2);
-        assert_eq!(rt; row.node_id, wanted.3);
-    }
-    assert!(rt; config.reachable.is_empty());
-}
-
-#[test]
-fn bench_and_its_copy(rt: HostRuntime) -> Result<(), Fail> {
-    let config = bench(rt.alloc())?;
-    let copied = config.copy()?;
-    for config in [&config, &copied] {
-        check_fabrics(&rt, &config.fabrics);
-        check_entries(&rt, &config.entries);
-        check_sessions(&rt, &config.sessions);
-        check_verdicts(&rt, config);
-    }
-    Ok(())
-}
 
 fn check_privileges(rt: &impl Abort) {
     let all = [
@@ -182,7 +76,6 @@ fn check_lists(rt: &impl Abort, alloc: Global) -> Result<(), AllocError> {
         let wanted = Value::Octets(Bytes::from_slice(alloc, b"on")?);
         assert!(rt; row.value.equals(&wanted));
     }
-    assert!(rt; Rows::new(alloc).as_slice().is_empty());
     let version = Version {
         endpoint: 1,
         cluster: 6,
@@ -192,10 +85,263 @@ fn check_lists(rt: &impl Abort, alloc: Global) -> Result<(), AllocError> {
     Ok(())
 }
 
+fn place(endpoint: u16, cluster: u32, leaf: u32) -> Place {
+    Place {
+        endpoint,
+        cluster,
+        leaf,
+    }
+}
+
+// Rows at these places and of these fabrics.
+fn rows_of(alloc: Global, list: &[(Place, u8)]) -> Result<Vec<Row>, AllocError> {
+    let mut rows = Vec::new(alloc);
+    for (place, fabric) in list {
+        rows.push(Row {
+            place: *place,
+            fabric: *fabric,
+            value: Value::Null,
+        })?;
+    }
+    Ok(rows)
+}
+
+#[test]
+fn rows_ascend(rt: HostRuntime) -> Result<(), Fail> {
+    let cases = [
+        ([(place(0, 6, 1), 0), (place(0, 6, 1), 0)], true),
+        ([(place(0, 6, 1), 1), (place(0, 6, 1), 2)], true),
+        ([(place(0, 6, 1), 2), (place(0, 6, 1), 1)], false),
+        ([(place(0, 6, 1), 2), (place(0, 6, 2), 1)], true),
+        ([(place(0, 6, 2), 0), (place(0, 6, 1), 0)], false),
+        ([(place(0, 6, 2), 0), (place(0, 7, 1), 0)], true),
+        ([(place(0, 7, 1), 0), (place(0, 6, 2), 0)], false),
+        ([(place(0, 7, 2), 0), (place(1, 6, 1), 0)], true),
+        ([(place(1, 6, 1), 0), (place(0, 7, 2), 0)], false),
+    ];
+    for (list, wanted) in &cases {
+        let rows = rows_of(rt.alloc(), list)?;
+        assert_eq!(rt; Rows::is_ascending(&rows), *wanted);
+    }
+    Ok(())
+}
+
+#[test]
+fn rows_of_a_place_are_found(rt: HostRuntime) -> Result<(), Fail> {
+    let list = [
+        (place(1, 6, 0), 0),
+        (place(1, 6, 2), 1),
+        (place(1, 6, 2), 2),
+        (place(1, 8, 0), 0),
+    ];
+    let rows = rows_of(rt.alloc(), &list)?;
+    if !Rows::is_ascending(&rows) {
+        return Err(Fail::from("not ascending"));
+    }
+    let rows = Rows::from_vec(rows);
+    assert_eq!(rt; rows.len(), 4);
+    let cases = [
+        (place(1, 6, 2), Some(1), Some(2)),
+        (place(1, 8, 0), Some(0), Some(0)),
+        (place(1, 6, 1), None, None),
+        (place(0, 6, 2), None, None),
+        (place(2, 0, 0), None, None),
+    ];
+    for (place, first, last) in cases {
+        let found = rows.at(&place);
+        assert_eq!(rt; found.first().map(|row| row.fabric), first, "{place:?}");
+        assert_eq!(rt; found.last().map(|row| row.fabric), last, "{place:?}");
+    }
+    let mut rows = Rows::new(rt.alloc());
+    assert!(rt; rows.as_slice().is_empty());
+    rows.push(Row {
+        place: place(1, 6, 0),
+        fabric: 0,
+        value: Value::Null,
+    })?;
+    assert_eq!(rt; rows.into_vec().len(), 1);
+    Ok(())
+}
+
 #[test]
 fn tables_and_lists(rt: HostRuntime) -> Result<(), Fail> {
     check_privileges(&rt);
     check_tables(&rt);
     check_lists(&rt, rt.alloc())?;
+    Ok(())
+}
+
+// An access control entry of fabric 2 as rows of the list show it: whom it grants to, and whose it is.
+fn entry_row(alloc: Global) -> Result<Row, AllocError> {
+    let subjects = Members::from_vec(vec![in alloc; (Tag::Anonymous, Value::Uint(7))]?);
+    let fields = vec![in alloc;
+        (Tag::Context(1), Value::Uint(5)),
+        (Tag::Context(3), Value::Array(subjects)),
+        (Tag::Context(254), Value::Uint(2)),
+    ]?;
+    Ok(Row {
+        place: Place {
+            endpoint: 0,
+            cluster: 0x1f,
+            leaf: 0,
+        },
+        fabric: 2,
+        value: Value::Struct(Members::from_vec(fields)),
+    })
+}
+
+#[test]
+fn others_see_whose_an_entry_is_and_no_more(rt: HostRuntime) -> Result<(), Fail> {
+    let row = entry_row(rt.alloc())?;
+    let rows = [(2, 3), (1, 1)];
+    for (fabric, fields) in rows {
+        let seen = sees(rt.alloc(), fabric, &row)?;
+        assert_eq!(rt; seen.fabric, 2);
+        let Value::Struct(members) = &seen.value else {
+            return Err(Fail::from("no structure"));
+        };
+        assert_eq!(rt; members.as_slice().len(), fields, "fabric {fabric}");
+        assert_eq!(rt;
+            members.as_slice().last().map(|member| member.0),
+            Some(Tag::Context(254))
+        );
+    }
+    Ok(())
+}
+
+fn rows_in_three_kinds(alloc: Global) -> Result<TableVerdicts, AllocError> {
+    let root = RootRow {
+        cert: Bytes::from_slice(alloc, b"\xa3")?,
+        key: Bytes::from_slice(alloc, b"\x04")?,
+    };
+    let csr = CsrRow {
+        nonce: Bytes::from_slice(alloc, b"\x0e")?,
+        elements: Bytes::from_slice(alloc, b"\xd1")?,
+        signature: Bytes::from_slice(alloc, b"\xd2")?,
+    };
+    let join = JoinRow {
+        root: Bytes::from_slice(alloc, b"\xa3")?,
+        noc: Bytes::from_slice(alloc, b"\xb3")?,
+        icac: Bytes::new(alloc),
+        nonce: Bytes::from_slice(alloc, b"\x0e")?,
+        fabric_id: 3,
+        node_id: 30,
+    };
+    Ok(TableVerdicts {
+        roots: Listed::from_vec(vec![in alloc; root]?),
+        csrs: Listed::from_vec(vec![in alloc; csr]?),
+        joins: Listed::from_vec(vec![in alloc; join]?),
+    })
+}
+
+#[test]
+fn verdicts_are_found_by_what_they_judge(rt: HostRuntime) -> Result<(), Fail> {
+    let verdicts = rows_in_three_kinds(rt.alloc())?;
+    assert_eq!(rt;
+        verdicts.root(b"\xa3").map(|row| row.key.as_slice().len()),
+        Some(1)
+    );
+    assert!(rt; verdicts.root(b"\xa4").is_none());
+    assert!(rt; verdicts.csr(b"\x0e").is_some());
+    assert!(rt; verdicts.csr(b"\x0f").is_none());
+    assert_eq!(rt;
+        verdicts
+            .join(b"\xa3", b"\xb3", b"")
+            .map(|row| row.fabric_id),
+        Some(3)
+    );
+    assert!(rt; verdicts.join(b"\xa3", b"\xb3", b"\xc3").is_none());
+    Ok(())
+}
+
+// A structure with values and tags of all kinds, in many widths.
+fn all_kinds(alloc: Global) -> Result<Value, AllocError> {
+    let strings = vec![in alloc;
+        (
+            Tag::Anonymous,
+            Value::Octets(Bytes::from_slice(alloc, &[7; 4])?)
+        ),
+        (
+            Tag::Anonymous,
+            Value::Text(Bytes::from_slice(alloc, &[b'x'; 300])?)
+        ),
+    ]?;
+    let list = vec![in alloc; (Tag::Anonymous, Value::Int(-5))]?;
+    let full = Tag::Full {
+        vendor: 0xfff1,
+        profile: 1,
+        number: 9,
+    };
+    let members = vec![in alloc;
+        (Tag::Context(1), Value::Int(-129)),
+        (Tag::Context(2), Value::Uint(70_000)),
+        (Tag::Common(5), Value::Bool(true)),
+        (Tag::Implicit(70_000), Value::Null),
+        (full, Value::Bits32(7)),
+        (Tag::Context(4), Value::Bits64(7)),
+        (Tag::Context(5), Value::Array(Members::from_vec(strings))),
+        (Tag::Context(6), Value::List(Members::from_vec(list))),
+    ]?;
+    Ok(Value::Struct(Members::from_vec(members)))
+}
+
+fn start_up(alloc: Global) -> Result<Happened, AllocError> {
+    let version = vec![in alloc; (Tag::Context(0), Value::Uint(1))]?;
+    Ok(Happened {
+        number: 0x1_0000_0000,
+        place: Place {
+            endpoint: 0,
+            cluster: 0x28,
+            leaf: 0,
+        },
+        priority: 2,
+        at: 256,
+        fabric: 0,
+        value: Value::Struct(Members::from_vec(version)),
+    })
+}
+
+fn path(endpoint: Option<u16>, cluster: u32, leaf: Option<u32>, index: Index) -> Path {
+    Path {
+        endpoint,
+        cluster: Some(cluster),
+        leaf,
+        index,
+    }
+}
+
+// The lengths are those of bytes that were encoded without this crate.
+#[test]
+fn sizes_of_items(rt: HostRuntime) -> Result<(), Fail> {
+    let alloc = rt.alloc();
+    let on_off = Item::Attribute {
+        path: path(Some(1), 6, Some(0), Index::Whole),
+        version: 1,
+        value: Value::Bool(false),
+    };
+    let long = Item::Attribute {
+        path: path(Some(1), 0xfff1_fc00, Some(2), Index::At(300)),
+        version: 0x1234_5678,
+        value: all_kinds(alloc)?,
+    };
+    let denial = Item::Refused {
+        path: path(None, 0x1f, None, Index::Append),
+        code: 0x7e,
+    };
+    let event = Item::Event(start_up(alloc)?);
+    let event_denial = Item::EventRefused {
+        path: path(Some(0xfffe), 0x1f, Some(0x1_0000), Index::Whole),
+        code: 0xc7,
+    };
+    let rows = [
+        (&on_off, 22),
+        (&long, 389),
+        (&denial, 19),
+        (&event, 40),
+        (&event_denial, 27),
+    ];
+    for (item, wanted) in rows {
+        assert_eq!(rt; item_size(item), wanted);
+    }
     Ok(())
 }

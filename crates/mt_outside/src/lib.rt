@@ -1,15 +1,20 @@
 //! What lies outside of the node: where bytes come from and where they go.
 //!
 //! `stream` has the traits `Source` and `Sink`, `memory` a form of each that keeps its bytes in
-//! memory and fails at the calls that a test names, and `whole` reads and writes everything.
+//! memory and fails at the calls that a test names, `whole` reads and writes everything, `network`
+//! says who a datagram comes from or goes to, and `fate` what becomes of a disk that stops.
 #![tactic(auto)]
 
 mod failures;
+mod fate;
 mod memory;
+mod network;
 mod stream;
 mod whole;
 
+pub use fate::Fate;
 pub use memory::{MemSink, MemSource};
+pub use network::Peer;
 pub use stream::{Failed, Sink, Source};
 pub use whole::{ReadFault, read_all, write_all};
 
