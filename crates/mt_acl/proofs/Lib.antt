@@ -1,0 +1,2 @@
+pub mod FirstGrants
+pub mod Tags
