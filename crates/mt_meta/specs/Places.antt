@@ -1,0 +1,64 @@
+-- The places of attributes, and those that a path names (Matter Core Specification, section 8.2.1, Path).
+use Rattle.std.specs.Prelude.{ℕ, ◌==◌, nat_lt, ◌&&◌, ◌||◌, not, Bool, true, false, is_none, List, [], ◌∷◌, ◌++◌, Option, Some, None, map, filter}
+use Rattle.std.specs.List.{flat_map, list_any}
+use Rattle.mt_model.specs.declared.message.Path.{Path}
+use Rattle.mt_model.specs.declared.place.Place.{Place}
+use Rattle.mt_meta.specs.declared.table.AttributeRow.{AttributeRow}
+use Rattle.mt_meta.specs.Table.{attributes_of, clusters_of, endpoints, globals}
+
+abbrev pub place_of : ℕ → ℕ → AttributeRow → Place
+place_of endpoint cluster row = record { endpoint = endpoint; cluster = cluster; leaf = row.number }
+
+-- the places of a cluster on an endpoint: its own attributes, then the global ones
+abbrev pub places_of_cluster : ℕ → ℕ → List Place
+places_of_cluster endpoint cluster = map (place_of endpoint cluster) (attributes_of cluster ++ globals)
+
+abbrev pub places_of_endpoint : ℕ → List Place
+places_of_endpoint endpoint = flat_map (places_of_cluster endpoint) (clusters_of endpoint)
+
+-- all places, ascending by endpoint, cluster and attribute
+abbrev pub all_places : List Place
+all_places = flat_map places_of_endpoint endpoints
+
+-- a field that is not there fits everything
+abbrev pub fits : Option ℕ → ℕ → Bool
+fits None number = true
+fits (Some wanted) number = wanted == number
+
+-- the place has each field that the path has
+abbrev pub is_named : Path → Place → Bool
+is_named path place = fits path.endpoint place.endpoint && (fits path.cluster place.cluster && fits path.leaf place.leaf)
+
+-- the places that a path names
+abbrev pub places : Path → List Place
+places path = filter (is_named path) all_places
+
+-- whether every cluster has the attribute
+abbrev pub is_global : ℕ → Bool
+is_global attribute = list_any (λ row. row.number == attribute) globals
+
+-- whether an attribute is given, and it is not global
+abbrev pub is_particular : Option ℕ → Bool
+is_particular None = false
+is_particular (Some attribute) = not (is_global attribute)
+
+-- of every cluster only a global attribute may be asked
+abbrev pub is_not_global : Path → Bool
+is_not_global path = is_none path.cluster && is_particular path.leaf
+
+-- Order.
+
+abbrev pub stands_before : Place → Place → Bool
+stands_before p q = nat_lt p.endpoint q.endpoint || p.endpoint == q.endpoint && (nat_lt p.cluster q.cluster || p.cluster == q.cluster && nat_lt p.leaf q.leaf)
+
+-- whether each place stands before the next
+abbrev pub ascend_from : Place → List Place → Bool
+ascend_from p [] = true
+ascend_from p (q ∷ places) = stands_before p q && ascend_from q places
+
+abbrev pub ascend : List Place → Bool
+ascend [] = true
+ascend (p ∷ places) = ascend_from p places
+
+abbrev pub is_at : Place → Place → Bool
+is_at place listed = listed.endpoint == place.endpoint && (listed.cluster == place.cluster && listed.leaf == place.leaf)

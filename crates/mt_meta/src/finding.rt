@@ -1,0 +1,117 @@
+//! What the table says of a place, and which privilege is asked there.
+
+ghost use Rattle.std.specs.Prelude.{◌≡◌, ◌↔◌, ◌==◌, ◌++◌, if◌then◌else◌, Some, None, not, option_copied, IsFalse, IsTrue, IsOkAnd};
+ghost use Rattle.std.specs.List.{find, list_any};
+ghost use Rattle.std.specs.Option.{option_map};
+ghost use Rattle.mt_model.specs.declared.status.Status.TheVariants.{UnsupportedEndpoint, UnsupportedCluster};
+ghost use Rattle.mt_meta.specs.Finding.{attribute_of, command_of, event_of, find_command_of, find_event_of, find_of, has_cluster, is_endpoint, missing_of, privilege_found, privilege_of};
+
+use crate::meta::{CommandMeta, EventMeta, Meta};
+use crate::table::{attributes_of, clusters_of, commands_of, endpoints, events_of, globals};
+use mt_model::{Place, Privilege, Status};
+
+/// What the table says of an attribute. What is not there is refused with UNSUPPORTED_ENDPOINT,
+/// UNSUPPORTED_CLUSTER or UNSUPPORTED_ATTRIBUTE, the first that fits.
+pub fn find(place: &Place) -> Result<Meta, Status>
+    ensures { result ≡ find_of place.now }
+{
+    if let Some(status) = missing(place) {
+        return Err(status);
+    }
+    attribute_of(place).ok_or(Status::UnsupportedAttribute)
+}
+
+/// What the table says of a command. What is not there is refused with UNSUPPORTED_ENDPOINT,
+/// UNSUPPORTED_CLUSTER or UNSUPPORTED_COMMAND, the first that fits.
+pub fn find_command(place: &Place) -> Result<CommandMeta, Status>
+    ensures { result ≡ find_command_of place.now }
+{
+    if let Some(status) = missing(place) {
+        return Err(status);
+    }
+    command_of(place).ok_or(Status::UnsupportedCommand)
+}
+
+/// What the table says of an event. What is not there is refused with UNSUPPORTED_ENDPOINT,
+/// UNSUPPORTED_CLUSTER or UNSUPPORTED_EVENT, the first that fits.
+pub fn find_event(place: &Place) -> Result<EventMeta, Status>
+    ensures { result ≡ find_event_of place.now }
+{
+    if let Some(status) = missing(place) {
+        return Err(status);
+    }
+    event_of(place).ok_or(Status::UnsupportedEvent)
+}
+
+/// What an actor wants of a place.
+#[derive(Clone, Copy, Debug, PartialEq, Eq)]
+pub enum Asked {
+    Read,
+    Write,
+    Command,
+    Event,
+}
+
+/// The privilege that an actor must have for what it wants: that of the table, and View where there is
+/// nothing. None where nobody can be granted it, which is a write of what is not writable.
+pub fn privilege_asked(place: &Place, what: Asked) -> Option<Privilege>
+    ensures exact { result ≡ privilege_of place.now what }
+    ensures none { (result ≡ None)
+        ↔ ((what ≡ Asked.Write) × IsOkAnd (find_of place.now) (λ meta. meta.write ≡ None)) }
+{
+    match privilege_found(place, what) {
+        Ok(privilege) => privilege,
+        Err(_) => Some(Privilege::View),
+    }
+}
+
+// The privilege of what is there.
+fn privilege_found(place: &Place, what: Asked) -> Result<Option<Privilege>, Status>
+    ensures { result ≡ privilege_found place.now what }
+{
+    match what {
+        Asked::Read => Ok(Some(find(place)?.read)),
+        Asked::Write => Ok(find(place)?.write),
+        Asked::Command => Ok(Some(find_command(place)?.invoke)),
+        Asked::Event => Ok(Some(find_event(place)?.read)),
+    }
+}
+
+// What is missing before the attribute, command or event is looked for.
+fn missing(place: &Place) -> Option<Status>
+    ensures { result ≡ missing_of place.now }
+{
+    if !endpoints().contains(&place.endpoint) {
+        return Some(Status::UnsupportedEndpoint);
+    }
+    if !clusters_of(place.endpoint).contains(&place.cluster) {
+        return Some(Status::UnsupportedCluster);
+    }
+    None
+}
+
+fn attribute_of(place: &Place) -> Option<Meta>
+    ensures { result ≡ attribute_of place.now }
+{
+    let mut rows = attributes_of(place.cluster).iter().chain(globals().iter());
+    let row = rows.find(|row| row.number == place.leaf)?;
+    Some(row.meta)
+}
+
+fn command_of(place: &Place) -> Option<CommandMeta>
+    ensures { result ≡ command_of place.now }
+{
+    let row = commands_of(place.cluster)
+        .iter()
+        .find(|row| row.number == place.leaf)?;
+    Some(row.meta)
+}
+
+fn event_of(place: &Place) -> Option<EventMeta>
+    ensures { result ≡ event_of place.now }
+{
+    let row = events_of(place.cluster)
+        .iter()
+        .find(|row| row.number == place.leaf)?;
+    Some(row.meta)
+}

@@ -1,0 +1,23 @@
+//! Laws of the table. Each is the contract of a function that does nothing.
+
+ghost use Rattle.std.specs.Prelude.{◌≡◌, ℕ, IsTrue, is_ok, is_some};
+ghost use Rattle.std.specs.List.{list_any};
+ghost use Rattle.mt_model.specs.Devices.{device_of};
+ghost use Rattle.mt_model.specs.declared.place.Place.{Place};
+ghost use Rattle.mt_meta.specs.Finding.{find_of, is_endpoint};
+ghost use Rattle.mt_meta.specs.Places.{all_places, ascend, is_at};
+
+/// The places of all attributes ascend, so that none stands twice.
+pub fn places_ascend()
+    ensures { IsTrue (ascend all_places) }
+{}
+
+/// What is found is what stands among all places.
+pub fn places_are_found()
+    ensures { (place : Place) → is_ok (find_of place) ≡ list_any (is_at place) all_places }
+{}
+
+/// The endpoints of the table are those that have a device type.
+pub fn endpoints_have_devices()
+    ensures { (endpoint : ℕ) → is_endpoint endpoint ≡ is_some (device_of endpoint) }
+{}
