@@ -1,0 +1,10 @@
+mod Allowed
+mod BlockLaws
+mod BlockLists
+mod FaultLaws
+mod FieldLaws
+mod Fitting
+mod MessageLaws
+mod Places
+mod RequestLaws
+mod Written

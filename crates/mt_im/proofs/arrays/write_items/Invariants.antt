@@ -1,0 +1,9 @@
+-- what was read, and what stands in the blocks from here on, is what stands in all of them
+use Rattle.std.proofs.Common.{◌≡◌, drop}
+use Rattle.mt_tlv.specs.View.{elements}
+use Rattle.mt_im.specs.Blocks.{blocks_of, write_item_in}
+use Rattle.mt_im.proofs.BlockLists.{with_front}
+use Rattle.mt_im.proofs.arrays.write_items.Given as goal
+
+abbrev pub invariant-loop-block : goal.invariant-loop-block
+invariant-loop-block l = with_front l.items (blocks_of write_item_in (elements (drop l.block-index l.blocks))) ≡ blocks_of write_item_in (elements l.initial.blocks)

@@ -1,0 +1,6 @@
+pub mod Blocks
+pub mod Fields
+pub mod Limits
+pub mod Reading
+pub mod Requests
+pub mod Spelling
