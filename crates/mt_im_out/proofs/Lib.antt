@@ -1,0 +1,8 @@
+pub mod Bodies
+pub mod Ends
+pub mod Greedy
+pub mod Only
+pub mod Puts
+pub mod Splits
+pub mod Tails
+pub mod Values

@@ -1,0 +1,35 @@
+-- Which items are split.
+use Rattle.std.proofs.Common.{◌≡◌, ℕ, ◌<◌, ◌≤◌, true, false, [], ◌∷◌, length, refl, ap, ◌∙◌, if◌then◌else◌, arith}
+use Rattle.std.specs.Prelude.{nat_le}
+use Rattle.std.proofs.lemmas.Bool.{le-leb}
+use Rattle.std.proofs.lemmas.Bool.Decides.{nat_tests}
+use Rattle.std.proofs.lemmas.List.{append-nil}
+use Rattle.mt_tlv.specs.declared.value.Value.TheVariants as values
+use Rattle.mt_tlv.specs.Tree.{Elements, none}
+use Rattle.mt_model.specs.Blocks.{item_block}
+use Rattle.mt_model.specs.declared.limits.TheConstants.{ITEM_BYTES}
+use Rattle.mt_model.specs.declared.message.Item.{Item}
+use Rattle.mt_model.specs.declared.message.Item.TheVariants as items
+use Rattle.mt_model.specs.declared.message.Path.{Path}
+use Rattle.mt_im_out.specs.Chunks.{fit, appended, split_item}
+
+pub fit_alone : (x : Item) → fit (x ∷ []) ≡ nat_le (length (item_block x)) ITEM_BYTES
+fit_alone x = ap (λ z. nat_le (length z) ITEM_BYTES) (append-nil (item_block x))
+
+fits : (x : Item) → length (item_block x) ≤ ITEM_BYTES → fit (x ∷ []) ≡ true
+fits x h = fit_alone x ∙ le-leb (length (item_block x)) ITEM_BYTES h
+
+too_long : (n : ℕ) → ITEM_BYTES < n → nat_le n ITEM_BYTES ≡ false
+too_long n h = grind (arith, nat_tests)
+
+-- an item that is short enough stays
+pub short_stays : (x : Item) → length (item_block x) ≤ ITEM_BYTES → split_item x ≡ x ∷ []
+short_stays (items.Attribute path version (values.Array es)) h = ap (λ b. if b then items.Attribute path version (values.Array es) ∷ [] else items.Attribute path version (values.Array none) ∷ appended path version es) (fits (items.Attribute path version (values.Array es)) h)
+short_stays (items.Attribute path version v) h = refl
+short_stays x h = refl
+
+-- a list that is too long is split
+pub long_splits : (path : Path) (version : ℕ) (es : Elements) → ITEM_BYTES < length (item_block (items.Attribute path version (values.Array es)))
+    → split_item (items.Attribute path version (values.Array es)) ≡ items.Attribute path version (values.Array none) ∷ appended path version es
+long_splits path version es h = ap (λ b. if b then items.Attribute path version (values.Array es) ∷ [] else items.Attribute path version (values.Array none) ∷ appended path version es)
+    (fit_alone (items.Attribute path version (values.Array es)) ∙ too_long (length (item_block (items.Attribute path version (values.Array es)))) h)

@@ -1,0 +1,4 @@
+pub mod Chunks
+pub mod Greedy
+pub mod Messages
+pub mod Packing

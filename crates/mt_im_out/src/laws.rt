@@ -1,0 +1,42 @@
+//! Laws of the payloads of a report, over the definitions alone. Each is the contract of a function that
+//! does nothing.
+
+ghost use Rattle.std.specs.Prelude.{◌≡◌, ◌≢◌, ◌≤◌, ◌++◌, [], ◌∷◌, true, false, ℕ, Bool, List, Option, All, map};
+ghost use Rattle.std.specs.List.{flat_map};
+ghost use Rattle.mt_model.specs.declared.limits.TheConstants.{ITEM_BYTES};
+ghost use Rattle.mt_model.specs.declared.message.Item.{Item};
+ghost use Rattle.mt_im_out.specs.Chunks.{Part, size_of, attribute_items, event_items, split_items, greedy, parts_of, report_payload, report_payloads};
+ghost use Rattle.mt_im_out.specs.Greedy.{IsShort, IsWithin, IsOfOneKind, AreFull, IsGreedySplit};
+
+/// The payloads have the items and no others, in their order: those of attributes, with the lists split
+/// that are too long, and those of events. No payload has items of both kinds.
+pub fn payloads_have_the_items()
+    ensures attributes { (items : List Item) → flat_map (λ (part : Part). part.attributes) (parts_of items) ≡ split_items (attribute_items items) }
+    ensures events { (items : List Item) → flat_map (λ (part : Part). part.events) (parts_of items) ≡ event_items items }
+    ensures apart { (items : List Item) → All IsOfOneKind (parts_of items) }
+{}
+
+/// The items of a payload have at most `ITEM_BYTES` bytes together, where that holds of each item of an
+/// attribute once lists are split, and of the items of events together.
+pub fn payloads_are_within()
+    ensures { (items : List Item) → All IsShort (split_items (attribute_items items)) → size_of (event_items items) ≤ ITEM_BYTES → All IsWithin (parts_of items) }
+{}
+
+/// Each payload has as many items as go into it: the next item of an attribute would have been too much.
+pub fn payloads_are_full()
+    ensures { (items : List Item) → AreFull (parts_of items) }
+{}
+
+/// Greedy payloads are the one split in which each payload has as many items as go into it.
+pub fn greedy_is_the_one_split()
+    ensures is_one { (items : List Item) → IsGreedySplit items (greedy items) }
+    ensures only { (items : List Item) (parts : List (List Item)) → IsGreedySplit items parts → parts ≡ greedy items }
+{}
+
+/// All payloads but the last say that more follows and that a confirmation is wanted. The last one says
+/// that nothing follows.
+pub fn last_payload_ends()
+    ensures { (subscription : Option ℕ) (suppress : Bool) (parts : List Part) (last : Part)
+        → report_payloads subscription suppress (parts ++ last ∷ [])
+        ≡ map (λ part. report_payload subscription part true false) parts ++ report_payload subscription last false suppress ∷ [] }
+{}
