@@ -1,9 +1,8 @@
-pub mod Access
+pub mod Bench
+pub mod Computed
 pub mod Laws
 pub mod Machine
-pub mod Messages
 pub mod Opened
-pub mod Recording
+pub mod Reading
 pub mod Samples
-pub mod Text
 pub mod View

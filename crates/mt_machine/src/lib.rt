@@ -3,31 +3,57 @@
 #![tactic(auto)]
 
 ghost use Rattle.std.specs.Prelude.{◌≡◌, ◌∷◌, []};
-ghost use Rattle.mt_machine.specs.Laws.{IsBuiltByItsViewAlone, SeesItsViewAlone};
-ghost use Rattle.mt_machine.specs.Machine.{read_on_off};
-ghost use Rattle.mt_machine.specs.Samples.{data_report, denial_report, sent_to_reader};
+ghost use Rattle.mt_machine.specs.Laws.{AnswersLines, KeepsTheOwn, OpensOrderly, SeesItsViewAlone, SeesTheVeil, StandsInOrder, StaysOrderly};
+ghost use Rattle.mt_machine.specs.Samples.{acl_report, data_report, denial_report, empty_report, hidden_report, invalid_action, no_cluster_report, no_endpoint_report, read_acl, read_acl_anywhere, read_cluster_99, read_endpoint_7, read_on_off, sent_to_reader, too_deep};
 
-/// What an event sends, and whether it is built, is determined by the own part of its fabric and by
-/// what is public.
+/// What a fabric sees of a state is made of its own part and of what is public to it.
+pub fn sees_the_veil()
+    ensures { SeesTheVeil }
+{}
+
+/// What an event sends is determined by the own part of its fabric and by what is public to it.
 pub fn sees_its_view_alone()
-    ensures sent { SeesItsViewAlone }
-    ensures built { IsBuiltByItsViewAlone }
+    ensures { SeesItsViewAlone }
 {}
 
-/// The read of On/Off on endpoint 1, byte by byte: a structure of an array with one path {endpoint
-/// 1, cluster 6, attribute 0}, the filter flag, and the revision.
-pub fn read_on_off_is_spelled()
-    ensures { read_on_off ≡ 0x15 ∷ 0x36 ∷ 0x00 ∷ 0x17 ∷ 0x24 ∷ 0x02 ∷ 0x01 ∷ 0x24 ∷ 0x03 ∷ 0x06 ∷ 0x24 ∷ 0x04 ∷ 0x00 ∷ 0x18 ∷ 0x18 ∷ 0x29 ∷ 0x03 ∷ 0x24 ∷ 0xff ∷ 0x01 ∷ 0x18 ∷ [] }
+/// An event that is built changes nothing that is a fabric's own.
+pub fn keeps_the_own()
+    ensures { KeepsTheOwn }
 {}
 
-/// What a new bench node sends to readers of On/Off, byte by byte: the data where an entry names the
-/// node or a CAT of its version or an earlier one, a denial where none does, and nothing to a fabric
-/// that is not in the table.
+/// A new node's state is orderly, and events leave it so: fabrics, access control entries and rows stand
+/// in their order.
+pub fn states_are_orderly()
+    ensures opens { OpensOrderly }
+    ensures stays { StaysOrderly }
+{}
+
+/// The rows of each place stand in the order in which every fabric sees them.
+pub fn rows_stand_in_order()
+    ensures { StandsInOrder }
+{}
+
+/// What a plain line sends is the node's reply to whoever is taken as asking.
+pub fn lines_are_answered()
+    ensures { AnswersLines }
+{}
+
+/// What a new bench node sends to readers, byte by byte: the data where an entry names the node or a
+/// CAT of its version or an earlier one, a denial where none does, and nothing to a fabric that is not
+/// in the table; of others' access control entries whose they are and no more; nothing of what a
+/// wildcard names without a grant; a denial before it is told that something is not there; a status for
+/// what is no request.
 pub fn samples_are_sent()
-    ensures named_node { sent_to_reader 1 1 0 ≡ data_report ∷ [] }
-    ensures other_node { sent_to_reader 1 9 0 ≡ denial_report ∷ [] }
-    ensures unknown_fabric { sent_to_reader 3 1 0 ≡ [] }
-    ensures earlier_tag { sent_to_reader 2 5 0x10001 ≡ denial_report ∷ [] }
-    ensures same_tag { sent_to_reader 2 5 0x10002 ≡ data_report ∷ [] }
-    ensures later_tag { sent_to_reader 2 5 0x10003 ≡ data_report ∷ [] }
+    ensures named_node { sent_to_reader 1 1 0 read_on_off ≡ data_report ∷ [] }
+    ensures other_node { sent_to_reader 1 9 0 read_on_off ≡ denial_report ∷ [] }
+    ensures unknown_fabric { sent_to_reader 3 1 0 read_on_off ≡ [] }
+    ensures earlier_tag { sent_to_reader 2 5 0x10001 read_on_off ≡ denial_report ∷ [] }
+    ensures same_tag { sent_to_reader 2 5 0x10002 read_on_off ≡ data_report ∷ [] }
+    ensures later_tag { sent_to_reader 2 5 0x10003 read_on_off ≡ data_report ∷ [] }
+    ensures others_entries { sent_to_reader 1 1 0 read_acl ≡ acl_report ∷ [] }
+    ensures wildcard { sent_to_reader 2 5 0x10002 read_acl_anywhere ≡ empty_report ∷ [] }
+    ensures hidden_endpoint { sent_to_reader 2 5 0x10002 read_endpoint_7 ≡ hidden_report ∷ [] }
+    ensures no_endpoint { sent_to_reader 1 1 0 read_endpoint_7 ≡ no_endpoint_report ∷ [] }
+    ensures no_cluster { sent_to_reader 2 5 0x10002 read_cluster_99 ≡ no_cluster_report ∷ [] }
+    ensures malformed { sent_to_reader 1 1 0 too_deep ≡ invalid_action ∷ [] }
 {}

@@ -1,0 +1,130 @@
+-- What a fabric sees of a state is what it sees of the veil.
+use Rattle.std.proofs.Common.{◌≡◌, ℕ, Bool, true, false, ◌&&◌, ◌==◌, nat_lt, List, [], ◌∷◌, ◌++◌, Option, Some, None, cond, refl, ap, sym, subst, ◌∙◌, filter, map, if◌then◌else◌, arith}
+use Rattle.std.specs.List.{list_any}
+use Rattle.std.proofs.lemmas.List.{map-append}
+use Rattle.mt_tlv.specs.Tree.{Elements}
+use Rattle.mt_model.specs.Config.{ascend_from}
+use Rattle.mt_model.specs.Order.{are_ascending, fabrics_ascend, in_order}
+use Rattle.mt_model.specs.Sight.{is_acl, is_nocs, seen_by, stands_at, version_in}
+use Rattle.mt_model.specs.declared.fabric.Fabric.{Fabric}
+use Rattle.mt_model.specs.declared.network.Network.{Network}
+use Rattle.mt_model.specs.declared.place.Place.{Place}
+use Rattle.mt_model.specs.declared.place.Row.{Row}
+use Rattle.mt_machine.specs.Computed.{Parts, computed_rows, computed_value, entry_row, fabric_row, is_fabrics, is_stored, network_tree, noc_row, untagged, value_rows}
+use Rattle.mt_machine.specs.View.{State, bare_network, has_fabric, is_orderly, observation, parts, rows_of, veil}
+use Rattle.mt_machine.proofs.Rows.{apart-others, apart-own, passed}
+use Rattle.mt_machine.proofs.Entries as entries
+use Rattle.mt_machine.proofs.Entries.{acl_place, both_true, entries-others, entries-own, own_entries-apart}
+use Rattle.mt_machine.proofs.Fabrics.{known-length, known-members, known-nocs, known-rows, known_to, noc_place, rebuilt-known}
+
+-- The parts of the veil.
+
+networks-bare : (networks : List Network) → untagged network_tree (map bare_network networks) ≡ untagged network_tree networks
+networks-bare [] = refl
+networks-bare (network ∷ networks) = ap (λ (es : Elements). Rattle.mt_tlv.specs.Tree.more Rattle.mt_tlv.specs.declared.value.Tag.TheVariants.Anonymous (network_tree network) es) (networks-bare networks)
+
+abbrev known_parts : ℕ → State → Parts
+known_parts fabric s = record { entries = entries.apart fabric s.entries; fabrics = map (known_to fabric) s.fabrics; roots = s.roots; networks = map bare_network s.networks }
+
+parts-veil : (fabric : ℕ) (s : State) → fabrics_ascend s.fabrics ≡ true → parts (veil fabric s) ≡ known_parts fabric s
+parts-veil fabric s up = λ i. record { entries = entries.apart fabric s.entries; fabrics = rebuilt-known fabric s.fabrics up i; roots = s.roots; networks = map bare_network s.networks }
+
+value-same : (fabric : ℕ) (s : State) (place : Place) → computed_value (known_parts fabric s) place ≡ computed_value (parts s) place
+value-same fabric s place = rw (networks-bare s.networks, known-length fabric s.fabrics) refl
+
+acl-is : (place : Place) → is_acl place ≡ true → acl_place place.endpoint ≡ place
+acl-is place h =
+    let both = both_true (place.cluster == 0x1f) (place.leaf == 0) h in
+    let cluster : 0x1f ≡ place.cluster = grind (arith, both.0) in
+    let leaf : 0 ≡ place.leaf = grind (arith, both.1) in
+    λ i. record { endpoint = place.endpoint; cluster = cluster i; leaf = leaf i }
+
+nocs-is : (place : Place) → is_nocs place ≡ true → noc_place place.endpoint ≡ place
+nocs-is place h =
+    let both = both_true (place.cluster == 0x3e) (place.leaf == 0) h in
+    let cluster : 0x3e ≡ place.cluster = grind (arith, both.0) in
+    let leaf : 0 ≡ place.leaf = grind (arith, both.1) in
+    λ i. record { endpoint = place.endpoint; cluster = cluster i; leaf = leaf i }
+
+-- the rows of one kind or of the other
+choose : (F : List Row → List Row) (b : Bool) (x y x' y' : List Row) → (b ≡ true → F x ≡ F x') → (b ≡ false → F y ≡ F y') → F (cond b x y) ≡ F (cond b x' y')
+choose F true x y x' y' h k = h refl
+choose F false x y x' y' h k = k refl
+
+module _ (fabric : ℕ) (s : State) (up : fabrics_ascend s.fabrics ≡ true) (test : ℕ → Bool)
+    (same_entries : (endpoint : ℕ) → passed fabric test (map (entry_row (acl_place endpoint)) (entries.apart fabric s.entries)) ≡ passed fabric test (map (entry_row (acl_place endpoint)) s.entries))
+    (same_stored : (place : Place) → passed fabric test (filter (stands_at place) (veil fabric s).rows) ≡ passed fabric test (filter (stands_at place) s.rows)) where
+  computed-known : (place : Place) → passed fabric test (computed_rows (known_parts fabric s) place) ≡ passed fabric test (computed_rows (parts s) place)
+  unfolding computed_rows
+  computed-known place = choose (passed fabric test) (is_acl place)
+      (map (entry_row place) (entries.apart fabric s.entries)) _ (map (entry_row place) s.entries) _
+      (λ h. subst (λ (p : Place). passed fabric test (map (entry_row p) (entries.apart fabric s.entries)) ≡ passed fabric test (map (entry_row p) s.entries)) (acl-is place h) (same_entries place.endpoint))
+      (λ _. choose (passed fabric test) (is_nocs place)
+      (map (noc_row place) (map (known_to fabric) s.fabrics)) _ (map (noc_row place) s.fabrics) _
+      (λ h. subst (λ (p : Place). passed fabric test (map (noc_row p) (map (known_to fabric) s.fabrics)) ≡ passed fabric test (map (noc_row p) s.fabrics)) (nocs-is place h) (known-nocs place.endpoint fabric test 0 s.fabrics up))
+      (λ _. choose (passed fabric test) (is_fabrics place)
+      (map (fabric_row place) (map (known_to fabric) s.fabrics)) (value_rows place (computed_value (known_parts fabric s) place)) (map (fabric_row place) s.fabrics) (value_rows place (computed_value (parts s) place))
+      (λ _. ap (passed fabric test) (known-rows place fabric s.fabrics))
+      (λ _. ap (λ (o : Option Rattle.mt_tlv.specs.declared.value.Value.Value). passed fabric test (value_rows place o)) (value-same fabric s place))))
+
+  passed-veil : (place : Place) → passed fabric test (rows_of (veil fabric s) place) ≡ passed fabric test (rows_of s place)
+  passed-veil place = choose (passed fabric test) (is_stored place)
+      (filter (stands_at place) (veil fabric s).rows) (computed_rows (parts (veil fabric s)) place) (filter (stands_at place) s.rows) (computed_rows (parts s) place)
+      (λ _. same_stored place)
+      (λ _. ap (λ (p : Parts). passed fabric test (computed_rows p place)) (parts-veil fabric s up) ∙ computed-known place)
+
+-- in the order of fabrics
+abbrev ordered : ℕ → List Row → List Row
+ordered fabric rows = passed fabric (λ n. nat_lt n fabric) rows ++ (passed fabric (λ n. n == fabric) rows ++ passed fabric (λ n. nat_lt fabric n) rows)
+
+seen-ordered : (fabric : ℕ) (rows : List Row) → map (seen_by fabric) (in_order fabric rows) ≡ ordered fabric rows
+seen-ordered fabric rows =
+    let lower = filter (λ (row : Row). nat_lt row.fabric fabric) rows in
+    let own = filter (λ (row : Row). row.fabric == fabric) rows in
+    let higher = filter (λ (row : Row). nat_lt fabric row.fabric) rows in
+    map-append (seen_by fabric) lower (own ++ higher) ∙ ap (λ (rs : List Row). map (seen_by fabric) lower ++ rs) (map-append (seen_by fabric) own higher)
+
+-- fabrics and entries ascend
+ordered_parts : (s : State) → is_orderly s ≡ true → (fabrics_ascend s.fabrics ≡ true) × (ascend_from 1 s.entries ≡ true)
+ordered_parts s orderly =
+    let both = both_true (fabrics_ascend s.fabrics) (ascend_from 1 s.entries && are_ascending s.rows) orderly in
+    (both.0, (both_true (ascend_from 1 s.entries) (are_ascending s.rows) both.1).0)
+
+not_below : (n : ℕ) → nat_lt n n ≡ false
+not_below n = grind arith
+
+rows-veil : (fabric : ℕ) (s : State) → is_orderly s ≡ true → (place : Place) → map (seen_by fabric) (in_order fabric (rows_of (veil fabric s) place)) ≡ map (seen_by fabric) (in_order fabric (rows_of s place))
+rows-veil fabric s orderly place =
+    let both = ordered_parts s orderly in
+    let lower = passed-veil fabric s both.0 (λ n. nat_lt n fabric) (λ e. entries-others e fabric (λ n. nat_lt n fabric) s.entries (not_below fabric) both.1) (λ p. apart-others fabric p (λ n. nat_lt n fabric) s.rows (not_below fabric)) place in
+    let own = passed-veil fabric s both.0 (λ n. n == fabric) (λ e. entries-own e fabric s.entries) (λ p. apart-own fabric p s.rows) place in
+    let higher = passed-veil fabric s both.0 (λ n. nat_lt fabric n) (λ e. entries-others e fabric (λ n. nat_lt fabric n) s.entries (not_below fabric) both.1) (λ p. apart-others fabric p (λ n. nat_lt fabric n) s.rows (not_below fabric)) place in
+    seen-ordered fabric (rows_of (veil fabric s) place)
+    ∙ (λ i. lower i ++ (own i ++ higher i))
+    ∙ sym (seen-ordered fabric (rows_of s place))
+
+plain-veil : (fabric : ℕ) (plain : Option ℕ) → has_fabric fabric (if has_fabric fabric plain then Some fabric else None) ≡ has_fabric fabric plain
+plain-veil fabric None = refl
+plain-veil fabric (Some other) = by_test (other == fabric)
+  where
+    by_test : (own : Bool) → has_fabric fabric (if own then Some fabric else None) ≡ own
+    by_test true = grind arith
+    by_test false = refl
+
+members-veil : (fabric : ℕ) (s : State) → fabrics_ascend s.fabrics ≡ true → list_any (λ (f : Fabric). f.index == fabric) (veil fabric s).fabrics ≡ list_any (λ (f : Fabric). f.index == fabric) s.fabrics
+members-veil fabric s up = ap (list_any (λ (f : Fabric). f.index == fabric)) (rebuilt-known fabric s.fabrics up) ∙ known-members fabric s.fabrics
+
+pub sees-veil : (fabric : ℕ) (s : State) → is_orderly s ≡ true → observation fabric (veil fabric s) ≡ observation fabric s
+sees-veil fabric s orderly =
+    let both = ordered_parts s orderly in
+    λ i. record {
+      fabric = fabric;
+      is_member = members-veil fabric s both.0 i;
+      is_plain = plain-veil fabric s.plain i;
+      seen = record {
+        rows_at = λ place. rows-veil fabric s orderly place i;
+        version_of = version_in s.versions;
+        entries = own_entries-apart fabric s.entries i;
+      };
+      clock = s.clock;
+    }

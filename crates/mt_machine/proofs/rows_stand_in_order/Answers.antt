@@ -1,0 +1,5 @@
+use Rattle.mt_machine.proofs.Order.{stands_in_order}
+use Rattle.mt_machine.proofs.rows_stand_in_order.Goals as goal
+
+pub returns : goal.returns
+returns c = stands_in_order
