@@ -1,0 +1,174 @@
+//! The answer to a request, path by path.
+
+ghost use Rattle.std.specs.Prelude.{◌≡◌, ◌↔◌, ◌++◌, None, Some, IfOk, OnOk, option_to_list};
+ghost use Rattle.std.specs.List.{flat_map, list_any};
+ghost use Rattle.mt_machine.specs.Reading.{path_items, place_named, read_answer, seen_as, wildcard_items};
+ghost use Rattle.mt_meta.specs.Places.{is_not_global, places};
+
+use crate::items::{concrete_item, wildcard_item};
+use mt_meta::{expand, is_global};
+use mt_model::{Actor, Item, Items, Path, Paths, Place, Sight, Version, Versions};
+use std::alloc::{AllocError, Global};
+
+/// Why a read is not answered.
+#[derive(Clone, Copy, Debug, PartialEq, Eq)]
+pub enum ReadFault {
+    /// A path asks every cluster for an attribute that not every cluster has.
+    NotGlobal = 1,
+    /// There was no memory.
+    Memory = 2,
+}
+
+/// What the actor is answered, path by path in their order. A path that names one place is answered
+/// with its data or with the status that refuses it, where access is asked before existence. Of what a
+/// wildcard names, the places that the actor may read are answered with their data, and the others are
+/// left out. Data that the actor has in this version already, which `versions` tells, is left out
+/// always. Where `filtered` is set, of lists that are scoped by fabric the actor's own items alone are
+/// told; otherwise those of others too, without their sensitive fields.
+pub fn read<S: Sight>(
+    alloc: Global,
+    sight: &S,
+    actor: &Actor,
+    paths: &Paths,
+    filtered: bool,
+    versions: &Versions,
+) -> Result<Items, ReadFault>
+    ensures exact { let seen = seen_as actor.now.fabric (S.rows_of sight.now) (S.versions sight.now) (S.all_entries sight.now) in
+        IfOk result (λ items. read_answer seen actor.now paths.now filtered versions.now ≡ Some items) }
+
+    // Before anything else is looked at.
+    ensures not_global { let seen = seen_as actor.now.fabric (S.rows_of sight.now) (S.versions sight.now) (S.all_entries sight.now) in
+        (result ≡ Err ReadFault.NotGlobal) ↔ (read_answer seen actor.now paths.now filtered versions.now ≡ None) }
+{
+    let paths = paths.as_slice();
+    if any_not_global(paths) {
+        return Err(ReadFault::NotGlobal);
+    }
+    match answered(alloc, sight, actor, paths, filtered, versions.as_slice()) {
+        Ok(items) => Ok(Items::from_vec(items)),
+        Err(_) => Err(ReadFault::Memory),
+    }
+}
+
+fn any_not_global(paths: &[Path]) -> bool
+    ensures { result ≡ list_any is_not_global paths.now }
+{
+    paths.iter().any(is_not_global)
+}
+
+fn is_not_global(path: &Path) -> bool
+    ensures { result ≡ is_not_global path.now }
+{
+    match (path.cluster, path.leaf) {
+        (None, Some(attribute)) => !is_global(attribute),
+        _ => false,
+    }
+}
+
+fn answered<S: Sight>(
+    alloc: Global,
+    sight: &S,
+    actor: &Actor,
+    paths: &[Path],
+    filtered: bool,
+    versions: &[Version],
+) -> Result<Vec<Item>, AllocError>
+    ensures { let seen = seen_as actor.now.fabric (S.rows_of sight.now) (S.versions sight.now) (S.all_entries sight.now) in
+        IfOk result (λ items. items.items ≡ flat_map (path_items seen actor.now filtered versions.now) paths.now) }
+{
+    let mut items = Vec::new(alloc);
+    for path in paths {
+        push_path(alloc, sight, actor, path, filtered, versions, &mut items)?;
+    }
+    Ok(items)
+}
+
+fn push_path<S: Sight>(
+    alloc: Global,
+    sight: &S,
+    actor: &Actor,
+    path: &Path,
+    filtered: bool,
+    versions: &[Version],
+    items: &mut Vec<Item>,
+) -> Result<(), AllocError>
+    ensures { let seen = seen_as actor.now.fabric (S.rows_of sight.now) (S.versions sight.now) (S.all_entries sight.now) in
+        OnOk result (items.new.items ≡ items.old.items ++ path_items seen actor.now filtered versions.now path.now) }
+{
+    match place_named(path) {
+        Some(place) => {
+            let item = concrete_item(alloc, sight, actor, &place, filtered, versions)?;
+            push_one(item, items)
+        }
+        None => push_wildcard(alloc, sight, actor, path, filtered, versions, items),
+    }
+}
+
+// The place that a path without a wildcard names.
+fn place_named(path: &Path) -> Option<Place>
+    ensures { result ≡ place_named path.now }
+{
+    match (path.endpoint, path.cluster, path.leaf) {
+        (Some(endpoint), Some(cluster), Some(leaf)) => Some(Place {
+            endpoint,
+            cluster,
+            leaf,
+        }),
+        _ => None,
+    }
+}
+
+fn push_one(item: Option<Item>, items: &mut Vec<Item>) -> Result<(), AllocError>
+    ensures { OnOk result (items.new.items ≡ items.old.items ++ option_to_list item) }
+{
+    if let Some(item) = item {
+        items.push(item)?;
+    }
+    Ok(())
+}
+
+fn push_wildcard<S: Sight>(
+    alloc: Global,
+    sight: &S,
+    actor: &Actor,
+    path: &Path,
+    filtered: bool,
+    versions: &[Version],
+    items: &mut Vec<Item>,
+) -> Result<(), AllocError>
+    ensures { let seen = seen_as actor.now.fabric (S.rows_of sight.now) (S.versions sight.now) (S.all_entries sight.now) in
+        OnOk result (items.new.items ≡ items.old.items ++ flat_map (wildcard_items seen actor.now filtered versions.now) (places path.now)) }
+{
+    // No path is left that is not global, so that nothing fails but for want of memory.
+    let Ok(places) = expand(alloc, path) else {
+        return Err(AllocError);
+    };
+    push_places(
+        alloc,
+        sight,
+        actor,
+        places.as_slice(),
+        filtered,
+        versions,
+        items,
+    )
+}
+
+fn push_places<S: Sight>(
+    alloc: Global,
+    sight: &S,
+    actor: &Actor,
+    places: &[Place],
+    filtered: bool,
+    versions: &[Version],
+    items: &mut Vec<Item>,
+) -> Result<(), AllocError>
+    ensures { let seen = seen_as actor.now.fabric (S.rows_of sight.now) (S.versions sight.now) (S.all_entries sight.now) in
+        OnOk result (items.new.items ≡ items.old.items ++ flat_map (wildcard_items seen actor.now filtered versions.now) places.now) }
+{
+    for place in places {
+        let item = wildcard_item(alloc, sight, actor, place, filtered, versions)?;
+        push_one(item, items)?;
+    }
+    Ok(())
+}
