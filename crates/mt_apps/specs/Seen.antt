@@ -1,0 +1,6 @@
+-- What of a view the computed rows are computed from.
+use Rattle.mt_machine.specs.Computed.{Parts}
+use Rattle.mt_model.specs.declared.sight.View.{View}
+
+abbrev pub parts_in : View → Parts
+parts_in view = record { entries = view.entries.now; fabrics = view.fabrics.now; roots = view.roots.now; networks = view.networks.now }
