@@ -1,0 +1,5 @@
+pub mod Ascending
+pub mod Entries
+pub mod Sessions
+pub mod Orderly
+pub mod Replies

@@ -1,0 +1,4 @@
+pub mod Action
+pub mod Laws
+pub mod Plan
+pub mod Sessions

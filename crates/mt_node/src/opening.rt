@@ -1,0 +1,192 @@
+//! The state in which a new node begins.
+
+ghost use Rattle.std.specs.Prelude.{◌≡◌, ◌==◌, ◌++◌, [], bytes_eq, IfOk, OnOk};
+ghost use Rattle.std.specs.List.{find, list_any};
+ghost use Rattle.mt_machine.specs.Opened.{first_rows, first_version, has_identity, live_or_waits, opened, session_of, sessions_of, standing_of, unscoped_row, versions_at, versions_of_endpoint, with_root, with_roots_of};
+
+use mt_meta::{clusters_of, endpoints};
+use mt_model::{
+    Auth, Config, ExactCopy, Fabric, Listed, NodeSession, NodeSessions, NodeState, Place, Roots,
+    Row, Rows, SessionRow, Standing, Version, Versions,
+};
+use mt_tlv::{Bytes, Members, Value};
+use std::alloc::{AllocError, Global};
+
+// The version of every cluster as the first boot begins.
+const FIRST_VERSION: u32 = 1;
+
+/// The first boot of a node with this configuration.
+pub fn opened(alloc: Global, config: &Config) -> Result<NodeState, AllocError>
+    ensures { IfOk result (λ state. state ≡ opened config.now) }
+{
+    let fabrics = config.fabrics.as_slice();
+    Ok(NodeState {
+        rows: first_rows(alloc)?,
+        entries: config.entries.copy()?,
+        fabrics: config.fabrics.copy()?,
+        roots: roots(alloc, fabrics)?,
+        networks: Listed::new(alloc),
+        armed: None,
+        versions: versions(alloc, FIRST_VERSION)?,
+        changes: Listed::new(alloc),
+        changed: 0,
+        sessions: sessions(alloc, 1, fabrics, config.sessions.as_slice())?,
+        plain: Some(0),
+        boot: 1,
+        clock: 0,
+    })
+}
+
+fn first_rows(alloc: Global) -> Result<Rows, AllocError>
+    ensures { IfOk result (λ rows. rows ≡ first_rows) }
+{
+    let no_labels = Members::from_vec(Vec::new(alloc));
+    let rows = vec![in alloc;
+        row(0, 0x28, 5, Value::Text(Bytes::new(alloc))),
+        row(0, 0x28, 6, Value::Text(Bytes::from_slice(alloc, b"XX")?)),
+        row(0, 0x30, 0, Value::Uint(0)),
+        row(0, 0x30, 2, Value::Uint(2)),
+        row(0, 0x31, 4, Value::Bool(true)),
+        row(0, 0x31, 5, Value::Null),
+        row(0, 0x31, 6, Value::Null),
+        row(1, 0x06, 0, Value::Bool(false)),
+        row(1, 0x41, 0, Value::Array(no_labels)),
+        row(1, 0xfff1_fc00, 1, Value::Uint(0)),
+    ]?;
+    Ok(Rows::from_vec(rows))
+}
+
+fn row(endpoint: u16, cluster: u32, leaf: u32, value: Value) -> Row
+    ensures { result ≡ unscoped_row endpoint cluster leaf value }
+{
+    Row {
+        place: Place {
+            endpoint,
+            cluster,
+            leaf,
+        },
+        fabric: 0,
+        value,
+    }
+}
+
+// All clusters of all endpoints, each with this version.
+fn versions(alloc: Global, version: u32) -> Result<Versions, AllocError>
+    ensures { IfOk result (λ versions. versions ≡ versions_at version) }
+{
+    let all = endpoints();
+    let mut versions = Vec::new(alloc);
+    for endpoint in all {
+        push_versions(version, *endpoint, &mut versions)?;
+    }
+    Ok(Listed::from_vec(versions))
+}
+
+fn push_versions(version: u32, endpoint: u16, versions: &mut Vec<Version>) -> Result<(), AllocError>
+    ensures { OnOk result (versions.new.items ≡ versions.old.items ++ versions_of_endpoint version endpoint) }
+{
+    let clusters = clusters_of(endpoint);
+    for cluster in clusters {
+        versions.push(Version {
+            endpoint,
+            cluster: *cluster,
+            version,
+        })?;
+    }
+    Ok(())
+}
+
+// The root certificates of fabrics, each once.
+fn roots(alloc: Global, fabrics: &[Fabric]) -> Result<Roots, AllocError>
+    ensures { IfOk result (λ roots. roots ≡ with_roots_of [] fabrics.now) }
+{
+    let mut roots = Roots::new(alloc);
+    for fabric in fabrics {
+        push_root(&fabric.credentials.root, &mut roots)?;
+    }
+    Ok(roots)
+}
+
+fn push_root(root: &Bytes, roots: &mut Roots) -> Result<(), AllocError>
+    ensures { OnOk result (roots.new ≡ with_root roots.old root.now) }
+{
+    if !has_root(roots.as_slice(), root) {
+        roots.push(root.copy()?)?;
+    }
+    Ok(())
+}
+
+fn has_root(roots: &[Bytes], root: &Bytes) -> bool
+    ensures { result ≡ list_any (bytes_eq root.now) roots.now }
+{
+    roots
+        .iter()
+        .any(|other| is_same(root.as_slice(), other.as_slice()))
+}
+
+fn is_same(bytes: &[u8], other: &[u8]) -> bool
+    ensures { result ≡ bytes_eq bytes.now other.now }
+{
+    bytes == other
+}
+
+// The sessions of a boot.
+fn sessions(
+    alloc: Global,
+    boot: u32,
+    fabrics: &[Fabric],
+    rows: &[SessionRow],
+) -> Result<NodeSessions, AllocError>
+    ensures { IfOk result (λ sessions. sessions ≡ sessions_of boot fabrics.now rows.now) }
+{
+    let mut sessions = NodeSessions::new(alloc);
+    for row in rows {
+        if row.boot == boot {
+            sessions.push(session(fabrics, row)?)?;
+        }
+    }
+    Ok(sessions)
+}
+
+fn session(fabrics: &[Fabric], row: &SessionRow) -> Result<NodeSession, AllocError>
+    ensures { IfOk result (λ session. session ≡ session_of fabrics.now row.now) }
+{
+    Ok(NodeSession {
+        session: row.session,
+        auth: row.auth,
+        root_key: row.root_key.copy()?,
+        fabric_id: row.fabric_id,
+        peer_node: row.peer_node,
+        cats: row.cats,
+        standing: standing(fabrics, row),
+    })
+}
+
+// A session of PASE may be used at once. One of CASE may where its fabric is in the table.
+fn standing(fabrics: &[Fabric], row: &SessionRow) -> Standing
+    ensures { result ≡ standing_of fabrics.now row.now row.now.auth }
+{
+    match row.auth {
+        Auth::Pase => Standing::Live(0),
+        Auth::Case => live_or_waits(fabrics, row.root_key.as_slice(), row.fabric_id),
+        Auth::Group => live_or_waits(fabrics, row.root_key.as_slice(), row.fabric_id),
+    }
+}
+
+fn live_or_waits(fabrics: &[Fabric], root_key: &[u8], fabric_id: u64) -> Standing
+    ensures { result ≡ live_or_waits (find (has_identity root_key.now fabric_id) fabrics.now) }
+{
+    for fabric in fabrics {
+        if has_identity(root_key, fabric_id, fabric) {
+            return Standing::Live(fabric.index);
+        }
+    }
+    Standing::Waits
+}
+
+fn has_identity(root_key: &[u8], fabric_id: u64, fabric: &Fabric) -> bool
+    ensures { result ≡ has_identity root_key.now fabric_id fabric.now }
+{
+    is_same(fabric.credentials.root_key.as_slice(), root_key)
+        && fabric.credentials.fabric_id == fabric_id
+}

@@ -1,0 +1,116 @@
+//! What of the node answers are made of.
+
+ghost use Rattle.std.specs.Prelude.{◌≡◌, ◌==◌, not, nat_le, nat_lt, filter, IfOk, IsTrue};
+ghost use Rattle.mt_model.specs.Config.{ascend_from};
+ghost use Rattle.mt_model.specs.Order.{are_ascending};
+ghost use Rattle.mt_model.specs.Sight.{stands_at, version_in};
+ghost use Rattle.mt_model.specs.declared.access.AclEntry.{AclEntry};
+ghost use Rattle.mt_machine.specs.Computed.{computed_rows, is_stored};
+ghost use Rattle.mt_machine.specs.View.{parts, rows_of};
+
+use crate::node::Node;
+use mt_apps::rows_at;
+use mt_meta::clusters::{
+    BASIC_INFORMATION, BENCH, BINDING, GENERAL_COMMISSIONING, NETWORK_COMMISSIONING, ON_OFF,
+    USER_LABEL,
+};
+use mt_model::{AclEntry, ExactCopy, Place, Row, Rows, Sight, Version, View};
+use std::alloc::{AllocError, Global};
+
+impl Sight for Node {
+    ghost rows_of = { rows_of };
+
+    ghost versions = { λ s. s.versions };
+
+    ghost all_entries = { λ s. s.entries };
+
+    fn rows_at(&self, place: &Place) -> Result<Rows, AllocError> {
+        if is_stored(place) {
+            copied(self.alloc, self.state.rows.at(place))
+        } else {
+            computed(self, place)
+        }
+    }
+
+    fn version(&self, endpoint: u16, cluster: u32) -> u32 {
+        version_among(self.state.versions.as_slice(), endpoint, cluster)
+    }
+
+    fn entries(&self, fabric: u8) -> &[AclEntry] {
+        entries_of(self.state.entries.as_slice(), fabric)
+    }
+}
+
+// Whether the rows of a place are stored; those of all others are computed.
+#[tactic(auto, unfolding(mt_machine::specs::Computed::is_stored))]
+fn is_stored(place: &Place) -> bool
+    ensures { result ≡ is_stored place.now }
+{
+    let leaf = place.leaf;
+    match place.cluster {
+        ON_OFF | BINDING | USER_LABEL => leaf == 0,
+        BASIC_INFORMATION => leaf == 5 || leaf == 6,
+        GENERAL_COMMISSIONING => leaf == 0 || leaf == 2,
+        NETWORK_COMMISSIONING => leaf == 4 || leaf == 5 || leaf == 6,
+        BENCH => leaf == 0 || leaf == 1,
+        _ => false,
+    }
+}
+
+// Copies of rows that ascend.
+fn copied(alloc: Global, rows: &[Row]) -> Result<Rows, AllocError>
+    requires { IsTrue (are_ascending rows.now) }
+    ensures { IfOk result (λ copied. copied ≡ rows.now) }
+{
+    let mut copied = Vec::with_capacity(alloc, rows.len())?;
+    for row in rows {
+        copied.push(row.copy()?)?;
+    }
+    Ok(Rows::from_vec(copied))
+}
+
+fn computed(node: &Node, place: &Place) -> Result<Rows, AllocError>
+    ensures { IfOk result (λ rows. rows ≡ computed_rows (parts node.now) place.now) }
+{
+    let state = &node.state;
+    let view = View {
+        rows: &state.rows,
+        entries: &state.entries,
+        fabrics: &state.fabrics,
+        roots: &state.roots,
+        networks: &state.networks,
+        armed: state.armed.as_ref(),
+    };
+    rows_at(node.alloc, &view, place)
+}
+
+// The data version of a cluster on an endpoint, 0 where there is none.
+fn version_among(versions: &[Version], endpoint: u16, cluster: u32) -> u32
+    ensures { result ≡ version_in versions.now endpoint cluster }
+{
+    for row in versions {
+        if row.endpoint == endpoint && row.cluster == cluster {
+            return row.version;
+        }
+    }
+    0
+}
+
+// The entries of a fabric, which stand together.
+fn entries_of(entries: &[AclEntry], fabric: u8) -> &[AclEntry]
+    requires { IsTrue (ascend_from 1 entries.now) }
+    ensures { result.now ≡ filter (λ (entry : AclEntry). entry.fabric == fabric) entries.now }
+{
+    let begin = entries.partition_point(
+        |entry: &AclEntry| -> bool
+            ensures { result ≡ nat_lt entry.now.fabric fabric }
+        { entry.fabric < fabric },
+    );
+    let rest = &entries[begin..];
+    let end = rest.partition_point(
+        |entry: &AclEntry| -> bool
+            ensures { result ≡ not (nat_lt fabric entry.now.fabric) }
+        { entry.fabric <= fabric },
+    );
+    &rest[..end]
+}
