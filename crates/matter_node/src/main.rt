@@ -1,10 +1,10 @@
-//! The program: makes the real source and sink, and hands them to the top call.
+//! The program: opens the files that the words name, and hands them to the top call.
 #![tactic(auto)]
 
 mod adapters;
 
 use adapters::{ReaderSource, WriterSink};
-use mt_top::run;
+use mt_top::{files_of, run};
 use std::fs::File;
 use std::process::ExitCode;
 use std::rt::Env;
@@ -22,13 +22,26 @@ fn main(rt: HostRuntime) -> ExitCode {
         // A word that is not UTF-8 is in no command, and neither is no word at all.
         Err(_) => Vec::new(rt.alloc()),
     };
-    let recording = match words.as_slice() {
-        [_, _, name] => File::open(&rt, name.as_str()).ok(),
-        _ => None,
+    let (config, first) = match files_of(&words) {
+        Ok(files) => (Some(files.config), files.first),
+        Err(_) => (None, None),
     };
-    let mut first = ReaderSource::new(recording);
+    let mut config = ReaderSource::new(named(&rt, &words, config));
+    let mut first = ReaderSource::new(named(&rt, &words, first));
     let mut out = WriterSink::new(io::writer(&rt));
-    ExitCode::from(run(rt.alloc(), &words, &mut first, &mut out))
+    ExitCode::from(run(
+        rt.alloc(),
+        &words,
+        &mut config,
+        &mut first,
+        &mut out,
+    ))
+}
+
+// The file that the word at this place names; None where there is none, or it can't be opened.
+fn named(rt: &HostRuntime, words: &[String], place: Option<usize>) -> Option<File> {
+    let name = words.get(place?)?;
+    File::open(rt, name.as_str()).ok()
 }
 
 // The words of the command line behind the program's name.

@@ -1,4 +1,4 @@
-pub mod Cuts
-pub mod Numbers
+pub mod Counts
 pub mod Plays
 pub mod Rows
+pub mod Steps

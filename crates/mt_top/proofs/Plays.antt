@@ -1,109 +1,84 @@
--- A recording that is played line by line.
-use Rattle.std.proofs.Common.{◌≡◌, ℕ, ◌+◌, true, false, cond, List, [], ◌∷◌, ◌++◌, length, Option, Some, None, string_bytes, refl, sym, ap, ◌∙◌, append_assoc, arith}
-use Rattle.std.specs.Prelude.{String}
-use Rattle.std.specs.Global.{Global}
-use Rattle.std.specs.Option.{option_map_or}
-use Rattle.std.proofs.lemmas.List.{append-nil}
+-- A recording that is played event by event.
+use Rattle.std.proofs.Common.{◌≡◌, ℕ, ◌+◌, ◌<◌, ◌≤◌, true, false, cond, List, [], ◌∷◌, ◌++◌, length, drop, get_or, Option, Some, None, refl, sym, ap, ◌∙◌, append_assoc, map}
+use Rattle.std.proofs.lemmas.List.{append-nil, drop_all, drop_more}
+use Rattle.std.proofs.lemmas.List.Sums.{take_while-cons}
 use Rattle.mt_outside.specs.Stream.{Took, TookPart}
 use Rattle.mt_outside.proofs.Streams.{TookPart-then, TookPart-more}
-use Rattle.mt_model.specs.declared.message.Event.{Event}
-use Rattle.mt_model.specs.declared.message.Sent.{Sent}
-use Rattle.mt_machine.specs.Machine.{next, run, sent}
-use Rattle.mt_machine.specs.Recording.{built_event, events_behind_head, events_from, is_head, lines_of, unbuilt_from, unbuilt_line, unbuilt_line_in}
-use Rattle.mt_machine.specs.Text.{line_of, output_from, text}
+use Rattle.mt_model.specs.declared.recording.Event.{Event}
+use Rattle.mt_model.specs.declared.recording.Sent.{Sent}
+use Rattle.mt_files.specs.Lines.{ended}
+use Rattle.mt_files.specs.Output.{output_text, sent_line}
+use Rattle.mt_machine.specs.Machine.{built_events, is_built, next, run, sent}
 use Rattle.mt_machine.specs.View.{State}
-use Rattle.mt_top.specs.Run.{StepsBy}
+use Rattle.mt_top.specs.declared.fault.Fault.TheVariants.{Unbuilt}
+use Rattle.mt_top.specs.Run.{unbuilt_from, Steps}
 
--- what is sent for the lines of a text, from a state on
-abbrev pub output_behind : State → List ℕ → List ℕ
-output_behind s rest = text (run s (events_from s (lines_of rest)))
+-- the text of what is sent for events, up to the first that is not built
+abbrev pub output_of : State → List Event → List ℕ
+output_of s events = output_text (run s (built_events events))
 
-text-append : (xs ys : List Sent) → text (xs ++ ys) ≡ text xs ++ text ys
-text-append [] ys = refl
-text-append (x ∷ xs) ys = ap (λ (w : List ℕ). line_of x ++ w) (text-append xs ys) ∙ sym (append_assoc (line_of x) (text xs) (text ys))
+output-append : (xs ys : List Sent) → output_text (xs ++ ys) ≡ output_text xs ++ output_text ys
+output-append [] ys = refl
+output-append (x ∷ xs) ys = ap (λ (w : List ℕ). ended (sent_line x) ++ w) (output-append xs ys) ∙ sym (append_assoc (ended (sent_line x)) (output_text xs) (output_text ys))
 
--- the head is in front of the lines
-pub record Begins (s : State) (recording rest : List ℕ) : Type 0 where
-  pub output : output_from s recording ≡ output_behind s rest
-  pub unbuilt : unbuilt_line s recording ≡ unbuilt_from 2 s (lines_of rest)
+-- the text of one more message
+pub output-one : (xs : List Sent) (x : Sent) → output_text (xs ++ x ∷ []) ≡ output_text xs ++ ended (sent_line x)
+output-one xs x = output-append xs (x ∷ []) ∙ ap (λ (w : List ℕ). output_text xs ++ w) (append-nil (ended (sent_line x)))
 
-pub begins : (s : State) (recording head rest : List ℕ) → lines_of recording ≡ head ∷ lines_of rest → is_head head ≡ true → Begins s recording rest
-begins s recording head rest lines is = record {
-  output = ap (λ ls. text (run s (events_behind_head s ls))) lines ∙ ap (λ t. text (run s (cond t (events_from s (lines_of rest)) []))) is;
-  unbuilt = ap (unbuilt_line_in s) lines ∙ ap (λ t. cond t (unbuilt_from 2 s (lines_of rest)) (Some 1)) is;
-}
+-- an event that is built
+output_built : (s : State) (event : Event) (events : List Event) → is_built event ≡ true → output_of s (event ∷ events) ≡ output_text (sent s event) ++ output_of (next s event) events
+output_built s event events built = ap (λ es. output_text (run s es)) (take_while-cons is_built event events) ∙ ap (λ t. output_text (run s (cond t (event ∷ built_events events) []))) built ∙ output-append (sent s event) (run (next s event) (built_events events))
 
--- the first line is not built
-pub record BeginsNot (s : State) (recording : List ℕ) : Type 0 where
-  pub output : output_from s recording ≡ []
-  pub unbuilt : unbuilt_line s recording ≡ Some 1
+output_unbuilt : (s : State) (event : Event) (events : List Event) → is_built event ≡ false → output_of s (event ∷ events) ≡ []
+output_unbuilt s event events not = ap (λ es. output_text (run s es)) (take_while-cons is_built event events) ∙ ap (λ t. output_text (run s (cond t (event ∷ built_events events) []))) not
 
-pub begins_not : (s : State) (recording head rest : List ℕ) → lines_of recording ≡ head ∷ lines_of rest → is_head head ≡ false → BeginsNot s recording
-begins_not s recording head rest lines is = record {
-  output = ap (λ ls. text (run s (events_behind_head s ls))) lines ∙ ap (λ t. text (run s (cond t (events_from s (lines_of rest)) []))) is;
-  unbuilt = ap (unbuilt_line_in s) lines ∙ ap (λ t. cond t (unbuilt_from 2 s (lines_of rest)) (Some 1)) is;
-}
+unbuilt_built : (line : ℕ) (event : Event) (events : List Event) → is_built event ≡ true → unbuilt_from line (event ∷ events) ≡ unbuilt_from (line + 1) events
+unbuilt_built line event events built = ap (λ t. cond t (unbuilt_from (line + 1) events) (Some (Unbuilt line))) built
 
-pub begins_empty : (s : State) (recording : List ℕ) → length recording ≡ 0 → BeginsNot s recording
-begins_empty s [] none = record { output = refl; unbuilt = refl }
-begins_empty s (b ∷ bytes) none = absurd (omega arith)
+unbuilt_here : (line : ℕ) (event : Event) (events : List Event) → is_built event ≡ false → unbuilt_from line (event ∷ events) ≡ Some (Unbuilt line)
+unbuilt_here line event events not = ap (λ t. cond t (unbuilt_from (line + 1) events) (Some (Unbuilt line))) not
 
--- a line that was built, and what its step made
-pub record Steps (s new : State) (one line : List ℕ) : Type 0 where
-  pub event : Event
-  pub built : built_event s one ≡ Some event
-  pub told : line ≡ text (sent s event)
-  pub state : new ≡ next s event
+-- One more event, at this place of all.
+pub drop_event : (all : List Event) (i : ℕ) (event : Event) → i < length all → event ≡ get_or all i event → drop i all ≡ event ∷ drop (i + 1) all
+drop_event all i event lt is = drop_more all i event lt ∙ ap (λ e. e ∷ drop (i + 1) all) (sym is)
 
-steps_by : (o : Option Event) (s new : State) (line : String Global) → StepsBy o s new (Some line) → (e : Event) × (o ≡ Some e) × (string_bytes line ≡ text (sent s e)) × (new ≡ next s e)
-steps_by None s new line h = absurd h
-steps_by (Some e) s new line h = (e, refl, h.0, h.1)
+pub output-step : (s new : State) (all : List Event) (i : ℕ) (event : Event) (text : List ℕ) → i < length all → event ≡ get_or all i event → is_built event ≡ true → Steps text s new event → output_of s (drop i all) ≡ text ++ output_of new (drop (i + 1) all)
+output-step s new all i event text lt is built step =
+    ap (output_of s) (drop_event all i event lt is)
+    ∙ output_built s event (drop (i + 1) all) built
+    ∙ (λ k. sym step.0 k ++ output_of (sym step.1 k) (drop (i + 1) all))
 
-pub steps : (s new : State) (one : List ℕ) (line : String Global) → StepsBy (built_event s one) s new (Some line) → Steps s new one (string_bytes line)
-steps s new one line h = let p = steps_by (built_event s one) s new line h in record { event = p.0; built = p.1; told = p.2; state = p.3 }
+pub unbuilt-step : (line : ℕ) (all : List Event) (i : ℕ) (event : Event) → i < length all → event ≡ get_or all i event → is_built event ≡ true → unbuilt_from line (drop i all) ≡ unbuilt_from (line + 1) (drop (i + 1) all)
+unbuilt-step line all i event lt is built = ap (unbuilt_from line) (drop_event all i event lt is) ∙ unbuilt_built line event (drop (i + 1) all) built
 
-unbuilt_by : (o : Option Event) (s new : State) → StepsBy o s new None → o ≡ None
-unbuilt_by None s new h = refl
-unbuilt_by (Some e) s new h = absurd h
+-- the event at this place is not built
+pub output-stop : (s : State) (all : List Event) (i : ℕ) (event : Event) → i < length all → event ≡ get_or all i event → is_built event ≡ false → output_of s (drop i all) ≡ []
+output-stop s all i event lt is not = ap (output_of s) (drop_event all i event lt is) ∙ output_unbuilt s event (drop (i + 1) all) not
 
--- one more line
-pub output-step : (s new : State) (rest one behind line : List ℕ) → lines_of rest ≡ one ∷ lines_of behind → Steps s new one line → output_behind s rest ≡ line ++ output_behind new behind
-output-step s new rest one behind line lines p =
-    ap (λ ls. text (run s (events_from s ls))) lines
-    ∙ ap (λ o. text (run s (option_map_or (λ e. e ∷ events_from (next s e) (lines_of behind)) o []))) p.built
-    ∙ text-append (sent s p.event) (run (next s p.event) (events_from (next s p.event) (lines_of behind)))
-    ∙ (λ i. sym p.told i ++ output_behind (sym p.state i) behind)
+pub unbuilt-stop : (line : ℕ) (all : List Event) (i : ℕ) (event : Event) → i < length all → event ≡ get_or all i event → is_built event ≡ false → unbuilt_from line (drop i all) ≡ Some (Unbuilt line)
+unbuilt-stop line all i event lt is not = ap (unbuilt_from line) (drop_event all i event lt is) ∙ unbuilt_here line event (drop (i + 1) all) not
 
-pub unbuilt-step : (s new : State) (number : ℕ) (rest one behind line : List ℕ) → lines_of rest ≡ one ∷ lines_of behind → Steps s new one line → unbuilt_from number s (lines_of rest) ≡ unbuilt_from (number + 1) new (lines_of behind)
-unbuilt-step s new number rest one behind line lines p =
-    ap (unbuilt_from number s) lines
-    ∙ ap (λ o. option_map_or (λ e. unbuilt_from (number + 1) (next s e) (lines_of behind)) o (Some number)) p.built
-    ∙ ap (λ t. unbuilt_from (number + 1) t (lines_of behind)) (sym p.state)
+-- no more events
+pub output-end : (s : State) (all : List Event) (i : ℕ) → length all ≤ i → output_of s (drop i all) ≡ []
+output-end s all i le = ap (output_of s) (drop_all i all le)
 
--- a line that is not built
-pub output-stop : (s new : State) (rest one behind : List ℕ) → lines_of rest ≡ one ∷ lines_of behind → StepsBy (built_event s one) s new None → output_behind s rest ≡ []
-output-stop s new rest one behind lines h =
-    ap (λ ls. text (run s (events_from s ls))) lines
-    ∙ ap (λ o. text (run s (option_map_or (λ e. e ∷ events_from (next s e) (lines_of behind)) o []))) (unbuilt_by (built_event s one) s new h)
+pub unbuilt-end : (line : ℕ) (all : List Event) (i : ℕ) → length all ≤ i → unbuilt_from line (drop i all) ≡ None
+unbuilt-end line all i le = ap (unbuilt_from line) (drop_all i all le)
 
-pub unbuilt-stop : (s new : State) (number : ℕ) (rest one behind : List ℕ) → lines_of rest ≡ one ∷ lines_of behind → StepsBy (built_event s one) s new None → unbuilt_from number s (lines_of rest) ≡ Some number
-unbuilt-stop s new number rest one behind lines h =
-    ap (unbuilt_from number s) lines
-    ∙ ap (λ o. option_map_or (λ e. unbuilt_from (number + 1) (next s e) (lines_of behind)) o (Some number)) (unbuilt_by (built_event s one) s new h)
+-- one more element at this place of all, each of which comes to a message
+pub map_text-step : {X : Type 0} (f : X → Sent) (all : List X) (i : ℕ) (x : X) (text whole : List ℕ) → i < length all → x ≡ get_or all i x → text ++ output_text (map f (drop i all)) ≡ whole → (text ++ ended (sent_line (f x))) ++ output_text (map f (drop (i + 1) all)) ≡ whole
+map_text-step f all i x text whole lt is h =
+    append_assoc text (ended (sent_line (f x))) (output_text (map f (drop (i + 1) all)))
+    ∙ ap (λ (w : List ℕ). text ++ w) (sym (ap (λ l. output_text (map f l)) (drop_more all i x lt ∙ ap (λ m. m ∷ drop (i + 1) all) (sym is))))
+    ∙ h
 
--- no more lines
-pub record Ended (s : State) (number : ℕ) (rest : List ℕ) : Type 0 where
-  pub output : output_behind s rest ≡ []
-  pub unbuilt : unbuilt_from number s (lines_of rest) ≡ None
-
-pub ended : (s : State) (number : ℕ) (rest : List ℕ) → length rest ≡ 0 → Ended s number rest
-ended s number [] none = record { output = refl; unbuilt = refl }
-ended s number (b ∷ bytes) none = absurd (omega arith)
+pub map_text-end : {X : Type 0} (f : X → Sent) (all : List X) (i : ℕ) (text whole : List ℕ) → length all ≤ i → text ++ output_text (map f (drop i all)) ≡ whole → text ≡ whole
+map_text-end f all i text whole le h = sym (append-nil text) ∙ ap (λ (w : List ℕ). text ++ w) (sym (ap (λ l. output_text (map f l)) (drop_all i all le))) ∙ h
 
 -- all was told
 pub took-all : (a b : Option (List ℕ)) (told rest all : List ℕ) → Took a b told → all ≡ told ++ rest → rest ≡ [] → Took a b all
 took-all a b told rest all took is none = let same : all ≡ told = is ∙ ap (λ (w : List ℕ). told ++ w) none ∙ append-nil told in rw same took
 
--- a front of the next line was told
-pub took-front : (a b c : Option (List ℕ)) (told line rest all : List ℕ) → Took a b told → TookPart b c line → all ≡ told ++ (line ++ rest) → TookPart a c all
-took-front a b c told line rest all took part is = TookPart-more a c (told ++ line) all (TookPart-then a b c told line took part) (rest, is ∙ sym (append_assoc told line rest))
+-- a front of the next text was told
+pub took-front : (a b c : Option (List ℕ)) (told text rest all : List ℕ) → Took a b told → TookPart b c text → all ≡ told ++ (text ++ rest) → TookPart a c all
+took-front a b c told text rest all took part is = TookPart-more a c (told ++ text) all (TookPart-then a b c told text took part) (rest, is ∙ sym (append_assoc told text rest))

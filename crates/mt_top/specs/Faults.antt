@@ -1,28 +1,44 @@
 -- The status of each fault, and the last line that tells it.
-use Rattle.std.specs.Prelude.{ℕ, List, [], ◌++◌, Option, Some, None, codes}
+use Rattle.std.specs.Prelude.{ℕ, List, [], ◌++◌, codes}
 use Rattle.std.specs.Fmt.{decimal}
+use Rattle.mt_files.specs.Configuration.{name_of}
+use Rattle.mt_files.specs.declared.line_fault.LineFault.{LineFault}
+use Rattle.mt_files.specs.declared.line_fault.LineFault.TheVariants as lines
+use Rattle.mt_files.specs.declared.line_fault.LineKind.{LineKind}
+use Rattle.mt_files.specs.declared.line_fault.LineKind.TheVariants as kinds
 use Rattle.mt_top.specs.declared.fault.Fault.{Fault}
-use Rattle.mt_top.specs.declared.fault.Fault.TheVariants.{ReadFault, WriteFault, Memory, TooLong, Unbuilt}
+use Rattle.mt_top.specs.declared.fault.Fault.TheVariants.{BadWords, BadConfig, BadRecord, ReadFault, WriteFault, Memory, TooLong, Unbuilt}
+
+-- what a text comes to that is no recording, or was not read
+abbrev pub fault_of : LineFault → Fault
+fault_of (lines.Line line kind) = BadRecord line kind
+fault_of lines.TooLong = TooLong
+fault_of lines.Memory = Memory
 
 abbrev pub status_of : Fault → ℕ
+status_of BadWords = 2
+status_of (BadConfig field) = 3
+status_of (BadRecord line kind) = 4
 status_of ReadFault = 5
 status_of WriteFault = 6
 status_of Memory = 7
 status_of TooLong = 10
-status_of (Unbuilt number) = 14
+status_of (Unbuilt line) = 14
 
+abbrev pub kind_name : LineKind → List ℕ
+kind_name kinds.Head = codes "head"
+kind_name kinds.Form = codes "form"
+kind_name kinds.Number = codes "number"
+kind_name kinds.Hex = codes "hex"
+kind_name kinds.Time = codes "time"
+
+-- the last line of a run that a fault ended; a sink that failed gets none
 unfoldable pub fault_line : Fault → List ℕ
+fault_line BadWords = codes "fault 2 words\n"
+fault_line (BadConfig field) = codes "fault 3 config " ++ (name_of field ++ codes "\n")
+fault_line (BadRecord line kind) = codes "fault 4 line " ++ (decimal line ++ (codes " " ++ (kind_name kind ++ codes "\n")))
 fault_line ReadFault = codes "fault 5 read\n"
 fault_line WriteFault = []
 fault_line Memory = codes "fault 7 memory\n"
 fault_line TooLong = codes "fault 10 long\n"
-fault_line (Unbuilt number) = codes "fault 14 line " ++ decimal number ++ codes "\n"
-
--- the last line where the words have no form; its status is 2
-abbrev pub bad_words_line : List ℕ
-bad_words_line = codes "fault 2 words\n"
-
--- the last line for the first line that is not built, where there is one
-abbrev pub unbuilt_fault : Option ℕ → List ℕ
-unbuilt_fault None = []
-unbuilt_fault (Some number) = fault_line (Unbuilt number)
+fault_line (Unbuilt line) = codes "fault 14 line " ++ (decimal line ++ codes "\n")

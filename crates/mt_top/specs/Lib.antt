@@ -1,5 +1,4 @@
-pub mod Bounded
+pub mod Answers
 pub mod Faults
-pub mod Fields
 pub mod Run
 pub mod Words

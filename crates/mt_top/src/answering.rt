@@ -1,95 +1,134 @@
-//! What the node answers: whether an event is built, and what it sends.
+//! What a line of a recording makes the node send.
 
-ghost use Rattle.std.specs.Prelude.{◌≡◌, ◌==◌, ◌∷◌, [], true, filter, map, IfOk, option_copied};
-ghost use Rattle.std.specs.List.{find, list_all, list_any};
-ghost use Rattle.std.specs.Option.{option_map};
-ghost use Rattle.mt_machine.specs.Machine.{actor_of, is_built, may_view, next, path_of, place_asked, read_item, sent};
-ghost use Rattle.mt_model.specs.Config.{is_operational};
-ghost use Rattle.mt_machine.specs.View.{descriptor_of, observation, same_place, stands_at, version_in};
+ghost use Rattle.std.specs.Prelude.{◌≡◌, true, IfOk};
+ghost use Rattle.mt_files.specs.Output.{output_text};
+ghost use Rattle.mt_machine.specs.Machine.{asker, fault_reply, is_built_request, line_actor, sent_as, sent_to};
+ghost use Rattle.mt_top.specs.Answers.{Answers};
+ghost use Rattle.mt_top.specs.Run.{StepsIf};
 
-use crate::access::grants;
-use crate::reports::report;
-use mt_model::limits::LAST_OPERATIONAL_NODE;
-use mt_model::{
-    Actor, Auth, Event, Fabric, Index, Item, NodeState, Path, Place, Privilege, Row, Sent, Status,
-    To, Version,
-};
-use mt_tlv::Value;
+use mt_files::write_sent;
+use mt_im::{ImFault, decode};
+use mt_im_out::chunks;
+use mt_model::{Actor, Auth, Event, Reply, Request, Sent, Status, To};
+use mt_node::{Action, Node};
 use std::alloc::{AllocError, Global};
 
-// On/Off of endpoint 1.
-const ON_OFF: Place = Place {
-    endpoint: 1,
-    cluster: 6,
-    leaf: 0,
-};
-
-// The opcodes of a ReadRequest and of a ReportData.
-const READ_REQUEST: u8 = 2;
-
-const REPORT_DATA: u8 = 5;
-
-// The one request that is built: a read of On/Off, filtered.
-const READ_ON_OFF: [u8; 21] = [
-    0x15, 0x36, 0x00, 0x17, 0x24, 0x02, 0x01, 0x24, 0x03, 0x06, 0x24, 0x04, 0x00, 0x18, 0x18, 0x29,
-    0x03, 0x24, 0xff, 0x01, 0x18,
-];
-
-/// Whether an event is one of those that are built so far.
-pub fn is_built(state: &NodeState, event: &Event) -> bool
-    ensures { result ≡ is_built state.now event.now }
+/// Makes of the node what the event makes of it, and gives the text of what is sent; None where the
+/// event is not built.
+pub fn step(alloc: Global, node: &mut Node, event: &Event) -> Result<Option<Vec<u8>>, AllocError>
+    ensures { IfOk result (StepsIf node.old node.new event.now) }
 {
     let Event::Ask {
         ms,
         fabric,
-        node,
+        node: id,
         cats,
         opcode,
         payload,
-    } = event;
-    state.clock <= *ms
-        && *fabric >= 1
-        && is_member(state.fabrics.as_slice(), *fabric)
-        && is_operational(*node)
-        && are_none(cats)
-        && place_asked(*opcode, payload.as_slice()).is_some()
-        && may_view(state, &actor(*fabric, *node, *cats), &ON_OFF)
+    } = event
+    else {
+        return Ok(None);
+    };
+    let actor = line_actor(*fabric, *id, *cats);
+    match decode(alloc, *opcode, payload.as_slice()) {
+        Ok(request) => {
+            if !is_built(&request) {
+                return Ok(None);
+            }
+            Ok(Some(asked(alloc, node, *ms, &actor, request)?))
+        }
+        Err(ImFault::Memory) => Err(AllocError),
+        Err(fault) => Ok(Some(refused(alloc, node, *ms, &actor, fault)?)),
+    }
 }
 
-/// The message that an event that is built sends.
-pub fn answer(alloc: Global, state: &NodeState, event: &Event) -> Result<Sent, AllocError>
-    requires { is_built state.now event.now ≡ true }
-    ensures { IfOk result (λ message. sent state.now event.now ≡ message ∷ []) }
+// What a request makes the node send.
+fn asked(
+    alloc: Global,
+    node: &mut Node,
+    ms: u64,
+    actor: &Actor,
+    request: Request,
+) -> Result<Vec<u8>, AllocError>
+    requires { is_built_request request ≡ true }
+    ensures { IfOk result (λ text. Answers node.old node.new ms actor.now (Ok request) text.items) }
 {
-    let Event::Ask {
-        ms,
-        fabric,
-        node,
-        cats,
-        ..
-    } = event;
-    let item = read_item(state, &actor(*fabric, *node, *cats), &ON_OFF)?;
-    Ok(Sent {
-        ms: *ms,
-        to: To::Plain {
-            fabric: *fabric,
-            opcode: REPORT_DATA,
-        },
-        bytes: report(alloc, item)?,
-    })
+    let action = Action::Ask {
+        actor: *actor,
+        request,
+        timed: None,
+    };
+    let outcome = node.plan(&action, ms)?;
+    let text = text_to(alloc, node, ms, actor, &outcome.reply)?;
+    node.apply(outcome);
+    Ok(text)
 }
 
-/// Makes of the state what the event makes of it.
-pub fn advance(state: &mut NodeState, event: &Event)
-    ensures { state.new ≡ next state.old event.now }
+// What a payload that is no request makes the node send.
+fn refused(
+    alloc: Global,
+    node: &mut Node,
+    ms: u64,
+    actor: &Actor,
+    fault: ImFault,
+) -> Result<Vec<u8>, AllocError>
+    ensures { IfOk result (λ text. Answers node.old node.new ms actor.now (Err fault) text.items) }
 {
-    let Event::Ask { ms, .. } = event;
-    state.clock = *ms;
+    let text = text_to(alloc, node, ms, actor, &fault_reply(fault))?;
+    let outcome = node.plan(&Action::Nothing, ms)?;
+    node.apply(outcome);
+    Ok(text)
 }
 
-fn actor(fabric: u8, node: u64, cats: [u32; 3]) -> Actor
-    ensures { result ≡ actor_of fabric node cats }
+// The lines of a reply to whoever is taken as asking; none where nobody is.
+fn text_to(
+    alloc: Global,
+    node: &Node,
+    ms: u64,
+    actor: &Actor,
+    reply: &Reply,
+) -> Result<Vec<u8>, AllocError>
+    ensures { IfOk result (λ text. text.items ≡ output_text (sent_to (asker node.now actor.now) ms reply.now)) }
 {
+    match node.asker(actor) {
+        Some(asker) => lines(alloc, ms, asker.fabric, reply),
+        None => Ok(Vec::new(alloc)),
+    }
+}
+
+// A line for each payload of a reply.
+fn lines(alloc: Global, ms: u64, fabric: u8, reply: &Reply) -> Result<Vec<u8>, AllocError>
+    ensures { IfOk result (λ text. text.items ≡ output_text (sent_as ms fabric reply.now)) }
+{
+    let mut text = Vec::new(alloc);
+    let payloads = chunks(alloc, reply)?;
+    for payload in payloads.as_slice() {
+        let message = Sent {
+            ms,
+            to: To::Plain {
+                fabric,
+                opcode: payload.opcode,
+            },
+            bytes: payload.bytes.copy()?,
+        };
+        write_sent(&message, &mut text)?;
+    }
+    Ok(text)
+}
+
+// Whom a line names.
+fn line_actor(fabric: u8, node: u64, cats: [u32; 3]) -> Actor
+    ensures { result ≡ line_actor fabric node cats }
+{
+    if fabric == 0 {
+        return Actor {
+            fabric: 0,
+            auth: Auth::Pase,
+            node: 0,
+            cats: [0; 3],
+            session: None,
+        };
+    }
     Actor {
         fabric,
         auth: Auth::Case,
@@ -99,102 +138,26 @@ fn actor(fabric: u8, node: u64, cats: [u32; 3]) -> Actor
     }
 }
 
-fn is_operational(node: u64) -> bool
-    ensures { result ≡ is_operational node }
+// Whether a request is one of those that are built so far.
+fn is_built(request: &Request) -> bool
+    ensures { result ≡ is_built_request request.now }
 {
-    node >= 1 && node <= LAST_OPERATIONAL_NODE
-}
-
-fn are_none(cats: &[u32]) -> bool
-    ensures { result ≡ list_all (λ cat. cat == 0) cats.now }
-{
-    cats.iter().all(|cat| *cat == 0)
-}
-
-fn is_member(fabrics: &[Fabric], index: u8) -> bool
-    ensures { result ≡ list_any (λ descriptor. descriptor.index == index) (map descriptor_of fabrics.now) }
-{
-    for fabric in fabrics {
-        if fabric.index == index {
-            return true;
-        }
+    match request {
+        Request::Status { .. } => true,
+        Request::Read { events, .. } => events.is_empty(),
+        _ => false,
     }
-    false
 }
 
-// The place that a payload asks to read.
-fn place_asked(opcode: u8, payload: &[u8]) -> Option<Place>
-    ensures { result ≡ place_asked opcode payload.now }
+// The reply to a payload that is no request.
+fn fault_reply(fault: ImFault) -> Reply
+    ensures { result ≡ fault_reply fault }
 {
-    if opcode == READ_REQUEST && payload == READ_ON_OFF.as_slice() {
-        return Some(ON_OFF);
-    }
-    None
-}
-
-fn may_view(state: &NodeState, actor: &Actor, place: &Place) -> bool
-    ensures { result ≡ may_view (observation actor.now.fabric state.now) actor.now place.now }
-{
-    grants(state.entries.as_slice(), actor, place, Privilege::View)
-}
-
-// The answer to a read of one concrete path.
-fn read_item(state: &NodeState, actor: &Actor, place: &Place) -> Result<Item, AllocError>
-    ensures { IfOk result (λ item. item ≡ read_item (observation actor.now.fabric state.now) actor.now place.now) }
-{
-    let path = concrete(place);
-    if !may_view(state, actor, place) {
-        let code = Status::UnsupportedAccess.code();
-        return Ok(Item::Refused { path, code });
-    }
-    let Some(value) = value_at(state.rows.as_slice(), place) else {
-        let code = Status::UnsupportedAttribute.code();
-        return Ok(Item::Refused { path, code });
+    let status = match fault {
+        ImFault::TooManyPaths => Status::PathsExhausted,
+        _ => Status::InvalidAction,
     };
-    Ok(Item::Attribute {
-        path,
-        version: version_of(state.versions.as_slice(), place.endpoint, place.cluster),
-        value: value.copy()?,
-    })
-}
-
-fn concrete(place: &Place) -> Path
-    ensures { result ≡ path_of place.now }
-{
-    Path {
-        endpoint: Some(place.endpoint),
-        cluster: Some(place.cluster),
-        leaf: Some(place.leaf),
-        index: Index::Whole,
+    Reply::Status {
+        code: status.code(),
     }
-}
-
-// The value of an attribute that is not fabric-scoped.
-fn value_at<'a>(rows: &'a [Row], place: &Place) -> Option<&'a Value>
-    ensures { option_copied result ≡ option_map (λ row. row.value) (find (stands_at place.now) (filter (λ row. row.fabric == 0) rows.now)) }
-{
-    for row in rows {
-        if row.fabric == 0 && is_same(&row.place, place) {
-            return Some(&row.value);
-        }
-    }
-    None
-}
-
-fn is_same(place: &Place, other: &Place) -> bool
-    ensures { result ≡ same_place place.now other.now }
-{
-    place.endpoint == other.endpoint && place.cluster == other.cluster && place.leaf == other.leaf
-}
-
-// The data version of a cluster on an endpoint, 0 where there is none.
-fn version_of(versions: &[Version], endpoint: u16, cluster: u32) -> u32
-    ensures { result ≡ version_in versions.now endpoint cluster }
-{
-    for row in versions {
-        if row.endpoint == endpoint && row.cluster == cluster {
-            return row.version;
-        }
-    }
-    0
 }

@@ -2,17 +2,14 @@
 //! output and its exit status.
 #![tactic(auto)]
 
-mod access;
 mod answering;
 mod fault;
-mod lines;
-mod opening;
-mod output;
+mod last_line;
 mod replaying;
-mod reports;
 mod words;
 
 pub use replaying::{replay_with, run};
+pub use words::{BadWords, Files, files_of};
 
 #[cfg(test)]
 mod tests;

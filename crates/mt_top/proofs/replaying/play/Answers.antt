@@ -1,89 +1,64 @@
-use Rattle.std.proofs.Common.{◌≡◌, ◌++◌, true, [], None, Some, length, ap, sym, subst, ◌∙◌, append_assoc, arith, rules}
-use Rattle.mt_machine.specs.Recording.{built_event, is_head}
-use Rattle.mt_machine.specs.Text.{output_from}
+use Rattle.std.proofs.Common.{◌++◌, ◌+◌, ◌≤◌, length, drop, [], ap, sym, ◌∙◌, append_assoc, subst, arith, rules}
 use Rattle.mt_outside.proofs.Streams.{Rose-from, Took-nil, Took-then}
-use Rattle.mt_top.specs.Run.{StepsBy}
-use Rattle.mt_top.proofs.Plays.{output_behind, Steps, begins, steps, output-step, unbuilt-step, output-stop, unbuilt-stop, ended, took-all, took-front}
+use Rattle.mt_top.specs.Run.{StepsIf, unbuilt_from}
+use Rattle.mt_top.proofs.Plays.{output_of, output-step, unbuilt-step, output-end, unbuilt-end, took-all, took-front}
 use Rattle.mt_top.proofs.replaying.play.Goals as goal
 
-pub lines-init : goal.lines-init
-lines-init g c =
-    let head : is_head c.cut_line.result.0.now ≡ true = search rules in
-    let b = begins c.args.state c.args.recording.now c.cut_line.result.0.now c.cut_line.result.1.now c.cut_line.ensures.lines head in
-    record {
-      told = [];
-      took = Took-nil (g.W.Sink.written c.args.out.now);
-      output = b.output;
-      unbuilt = b.unbuilt;
-      never_falls = omega arith;
-      room = omega (arith, c.cut_line.ensures.shorter);
-    }
+pub loop-event-init : goal.loop-event-init
+loop-event-init g c = record {
+  told = [];
+  took = Took-nil (g.W.Sink.written c.args.out.now);
+  output = ap (output_of c.args.node) (sym c.as_slice-event-items.ensures);
+  unbuilt = ap (unbuilt_from 2) (sym c.as_slice-event-items.ensures);
+  line = omega arith;
+  never_falls = omega arith;
+}
 
 pub returns-in_default-clause-err : goal.returns-in_default-clause-err
 returns-in_default-clause-err g c =
-    let l = c.lines in
-    (l.invariant.told, (output_behind l.state l.rest.now, l.invariant.output), l.invariant.took)
-
-pub returns-in_default-step-clause-err : goal.returns-in_default-step-clause-err
-returns-in_default-step-clause-err g c =
-    let l = c.lines in
-    let i = l.invariant in
-    let cut = c.cut_line-in-lines in
-    let s = l.state in
-    let new = c.step.new.state in
-    let one = cut.result.0.now in
-    let none : StepsBy (built_event s one) s new None = subst (λ o. StepsBy (built_event s one) s new o) c.in_default-step.is c.in-Ok.ensures in (
-      i.unbuilt ∙ unbuilt-stop s new l.number l.rest.now one cut.result.1.now cut.ensures.lines none,
-      took-all (g.W.Sink.written c.args.out.now) (g.W.Sink.written l.out) i.told (output_behind s l.rest.now) (output_from c.args.state c.args.recording.now) i.took i.output (output-stop s new l.rest.now one cut.result.1.now cut.ensures.lines none),
-    )
+    let l = c.loop-event in
+    (l.invariant.told, (output_of l.node (drop l.event-index c.as_slice-event-items.result.now), l.invariant.output), l.invariant.took)
 
 pub returns-in_default-write_all-clause-err : goal.returns-in_default-write_all-clause-err
 returns-in_default-write_all-clause-err g c =
     let written = g.W.Sink.written in
     let faults = g.W.Sink.faults in
-    let l = c.lines in
+    let l = c.loop-event in
     let i = l.invariant in
-    let cut = c.cut_line-in-lines in
-    let s = l.state in
-    let new = c.step.new.state in
-    let one = cut.result.0.now in
-    let behind = cut.result.1.now in
-    let some : StepsBy (built_event s one) s new (Some c.in-Some.text) = subst (λ o. StepsBy (built_event s one) s new o) c.in-Some.is c.in-Ok.ensures in
-    let line = c.as_bytes.result.now in
-    let step : Steps s new one line = rw c.as_bytes.ensures.value (steps s new one c.in-Some.text some) in
+    let all = c.as_slice-event-items.result.now in
+    let event = c.event-item.result in
+    let text = c.in-Some.text.items in
+    let new = c.step.new.node in
+    let steps = subst (StepsIf l.node new event) c.in-Some.is c.in-Ok.ensures in
     let k = c.write_all.ensures in (
       Rose-from (faults c.args.out.now) (faults l.out) (faults c.write_all.new.sink) i.never_falls (k.cause.rose (search rules)),
-      took-front (written c.args.out.now) (written l.out) (written c.write_all.new.sink) i.told line (output_behind new behind) (output_from c.args.state c.args.recording.now) i.took (search rules)
-          (i.output ∙ ap (λ w. i.told ++ w) (output-step s new l.rest.now one behind line cut.ensures.lines step)),
+      took-front (written c.args.out.now) (written l.out) (written c.write_all.new.sink) i.told text (output_of new (drop (l.event-index + 1) all)) (output_of c.args.node c.args.events.now) i.took (search rules)
+          (i.output ∙ ap (λ w. i.told ++ w) (output-step l.node new all l.event-index event text c.loop-event-test.true c.event-item.is steps.0 steps.1)),
     )
 
-pub lines-preserved : goal.lines-preserved
-lines-preserved g c =
+pub loop-event-preserved : goal.loop-event-preserved
+loop-event-preserved g c =
     let written = g.W.Sink.written in
-    let l = c.lines in
+    let l = c.loop-event in
     let i = l.invariant in
-    let cut = c.cut_line-in-lines in
-    let s = l.state in
-    let new = c.step.new.state in
-    let one = cut.result.0.now in
-    let behind = cut.result.1.now in
-    let some : StepsBy (built_event s one) s new (Some c.in-Some.text) = subst (λ o. StepsBy (built_event s one) s new o) c.in-Some.is c.in-Ok.ensures in
-    let line = c.as_bytes.result.now in
-    let step : Steps s new one line = rw c.as_bytes.ensures.value (steps s new one c.in-Some.text some) in
+    let all = c.as_slice-event-items.result.now in
+    let event = c.event-item.result in
+    let text = c.in-Some.text.items in
+    let new = c.step.new.node in
+    let steps = subst (StepsIf l.node new event) c.in-Some.is c.in-Ok.ensures in
     let k = c.write_all.ensures in
     record {
-      told = i.told ++ line;
-      took = Took-then (written c.args.out.now) (written l.out) (written c.write_all.new.sink) i.told line i.took (search rules);
-      output = i.output ∙ ap (λ w. i.told ++ w) (output-step s new l.rest.now one behind line cut.ensures.lines step) ∙ sym (append_assoc i.told line (output_behind new behind));
-      unbuilt = i.unbuilt ∙ unbuilt-step s new l.number l.rest.now one behind line cut.ensures.lines step;
+      told = i.told ++ text;
+      took = Took-then (written c.args.out.now) (written l.out) (written c.write_all.new.sink) i.told text i.took (search rules);
+      output = i.output ∙ ap (λ w. i.told ++ w) (output-step l.node new all l.event-index event text c.loop-event-test.true c.event-item.is steps.0 steps.1) ∙ sym (append_assoc i.told text (output_of new (drop (l.event-index + 1) all)));
+      unbuilt = i.unbuilt ∙ unbuilt-step l.line all l.event-index event c.loop-event-test.true c.event-item.is steps.0;
+      line = omega (arith, i.line);
       never_falls = omega (arith, i.never_falls, k.cause.never_falls);
-      room = omega (arith, i.room, cut.ensures.shorter);
     }
 
 pub returns-clause-ok : goal.returns-clause-ok
 returns-clause-ok g c =
-    let l = c.lines in
+    let l = c.loop-event in
     let i = l.invariant in
-    let none : length l.rest.now ≡ 0 = search rules in
-    let e = ended l.state l.number l.rest.now none in
-    (i.unbuilt ∙ e.unbuilt, took-all (g.W.Sink.written c.args.out.now) (g.W.Sink.written l.out) i.told (output_behind l.state l.rest.now) (output_from c.args.state c.args.recording.now) i.took i.output e.output)
+    let le : length c.as_slice-event-items.result.now ≤ l.event-index = omega arith in
+    (i.unbuilt ∙ unbuilt-end l.line c.as_slice-event-items.result.now l.event-index le, took-all (g.W.Sink.written c.args.out.now) (g.W.Sink.written l.out) i.told (output_of l.node (drop l.event-index c.as_slice-event-items.result.now)) (output_of c.args.node c.args.events.now) i.took i.output (output-end l.node c.as_slice-event-items.result.now l.event-index le))

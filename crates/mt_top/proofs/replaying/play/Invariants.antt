@@ -1,20 +1,16 @@
-use Rattle.std.proofs.Common.{◌≡◌, ◌≤◌, ◌+◌, ◌++◌, ℕ, List, length}
+use Rattle.std.proofs.Common.{◌≡◌, ◌≤◌, ◌+◌, ◌++◌, ℕ, List, drop}
 use Rattle.mt_outside.specs.Stream.{Took}
-use Rattle.mt_machine.specs.Recording.{lines_of, unbuilt_from, unbuilt_line}
-use Rattle.mt_machine.specs.Text.{output_from}
-use Rattle.mt_top.proofs.Plays.{output_behind}
+use Rattle.mt_top.specs.Run.{unbuilt_from}
+use Rattle.mt_top.proofs.Plays.{output_of}
 use Rattle.mt_top.proofs.replaying.play.Given as goal
 
 -- what was told so far, and what is told for the rest
-abbrev pub invariant-lines : goal.invariant-lines
-invariant-lines g l = record {
+abbrev pub invariant-loop-event : goal.invariant-loop-event
+invariant-loop-event g l = record {
   told : List ℕ;
   took : Took (g.W.Sink.written l.fn.out) (g.W.Sink.written l.out) told;
-  output : output_from l.fn.state l.fn.recording ≡ told ++ output_behind l.state l.rest;
-  unbuilt : unbuilt_line l.fn.state l.fn.recording ≡ unbuilt_from l.number l.state (lines_of l.rest);
+  output : output_of l.fn.node l.fn.events ≡ told ++ output_of l.node (drop l.event-index l.event-items);
+  unbuilt : unbuilt_from 2 l.fn.events ≡ unbuilt_from l.line (drop l.event-index l.event-items);
+  line : l.line ≡ l.event-index + 2;
   never_falls : g.W.Sink.faults l.fn.out ≤ g.W.Sink.faults l.out;
-  room : l.number + length l.rest ≤ length l.fn.recording + 2;
 }
-
-abbrev pub decreases-lines : goal.decreases-lines
-decreases-lines g l = length l.rest

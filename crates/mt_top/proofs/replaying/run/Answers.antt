@@ -1,23 +1,48 @@
-use Rattle.std.proofs.Common.{◌≡◌, true, false, None, Some, ap, if◌then◌else◌, rules}
-use Rattle.mt_machine.specs.Opened.{opened}
-use Rattle.mt_model.specs.Bench.{bench_of}
-use Rattle.mt_top.specs.Run.{asked_of, moment}
-use Rattle.mt_top.specs.Words.{is_replay, words_of}
-use Rattle.mt_top.proofs.Rows.{ends_badly, ends_early}
+use Rattle.std.proofs.Common.{◌≡◌, Some, None, ap, sym, ◌∙◌, arith, rules}
+use Rattle.std.specs.Option.{option_map}
+use Rattle.std.specs.Result.{result_ok}
+use Rattle.mt_top.specs.Faults.{fault_line}
+use Rattle.mt_top.specs.Run.{asked_of, input, moment, replayed}
+use Rattle.mt_top.specs.Words.{words_of}
+use Rattle.mt_top.proofs.Rows.{configuring_never_writes, configuring_stops, ends_badly, ends_behind, ends_by}
 use Rattle.mt_top.proofs.replaying.run.Goals as goal
 
-pub returns-then-not-is_replay : goal.returns-then-not-is_replay
-returns-then-not-is_replay g c =
-    let bad : is_replay (words_of c.args.words.now) ≡ false = search rules in
-    let none : asked_of (words_of c.args.words.now) ≡ None = ap (λ t. if t then Some (opened bench_of) else None) bad in
-    ends_badly
-    (moment (g.A.Source.left c.args.first.now) (g.A.Source.faults c.args.first.now) (g.W.Sink.written c.args.out.now) (g.W.Sink.faults c.args.out.now))
-    (g.W.Sink.written c.tell.new.out) (g.W.Sink.faults c.tell.new.out) (asked_of (words_of c.args.words.now)) c.tell.result none c.tell.ensures
+pub tell-requires : goal.tell-requires
+unfolding fault_line
+tell-requires g c = search rules
 
 pub returns-in_default : goal.returns-in_default
 returns-in_default g c =
-    let good : is_replay (words_of c.args.words.now) ≡ true = search rules in
-    let some : asked_of (words_of c.args.words.now) ≡ Some (opened bench_of) = ap (λ t. if t then Some (opened bench_of) else None) good in
-    ends_early
-    (moment (g.A.Source.left c.args.first.now) (g.A.Source.faults c.args.first.now) (g.W.Sink.written c.args.out.now) (g.W.Sink.faults c.args.out.now))
-    (g.W.Sink.written c.finish.new.out) (g.W.Sink.faults c.finish.new.out) (opened bench_of) (asked_of (words_of c.args.words.now)) c.finish.result some c.finish.ensures
+    let none : asked_of (words_of c.args.words.now) ≡ None = ap (option_map (λ files. replayed)) (sym c.files_of.ensures ∙ ap result_ok c.in_default.is) in
+    ends_badly (asked_of (words_of c.args.words.now))
+    (moment (input (g.C.Source.left c.args.config.now) (g.C.Source.faults c.args.config.now)) (input (g.A.Source.left c.args.first.now) (g.A.Source.faults c.args.first.now)) (g.W.Sink.written c.args.out.now) (g.W.Sink.faults c.args.out.now))
+    (g.W.Sink.written c.tell.new.out) (g.W.Sink.faults c.tell.new.out) c.tell.result none c.tell.ensures.memory c.tell.ensures.finishes
+
+pub returns-in-Ok-configured : goal.returns-in-Ok-configured
+returns-in-Ok-configured g c =
+    let some : asked_of (words_of c.args.words.now) ≡ Some replayed = ap (option_map (λ files. replayed)) (sym c.files_of.ensures ∙ ap result_ok c.in-Ok.is) in
+    let h = c.in-Ok-configured.ensures.ok in
+    rw some (ends_behind c.in-Ok-configured.config h.0 h.2
+    (input (g.C.Source.left c.args.config.now) (g.C.Source.faults c.args.config.now)) (input (g.C.Source.left c.configured.new.source) (g.C.Source.faults c.configured.new.source))
+    (input (g.A.Source.left c.args.first.now) (g.A.Source.faults c.args.first.now)) (input (g.A.Source.left c.replay_with.new.first) (g.A.Source.faults c.replay_with.new.first))
+    (g.W.Sink.written c.args.out.now) (g.W.Sink.written c.replay_with.new.out) (g.W.Sink.faults c.args.out.now) (g.W.Sink.faults c.replay_with.new.out)
+    h.1 c.replay_with.result c.replay_with.ensures)
+
+pub finish-requires : goal.finish-requires
+finish-requires g c =
+    configuring_never_writes c.in-Err.fault
+    (input (g.C.Source.left c.args.config.now) (g.C.Source.faults c.args.config.now)) (input (g.C.Source.left c.configured.new.source) (g.C.Source.faults c.configured.new.source))
+    c.in-Err.ensures.err
+
+pub returns-in-Err : goal.returns-in-Err
+returns-in-Err g c =
+    let some : asked_of (words_of c.args.words.now) ≡ Some replayed = ap (option_map (λ files. replayed)) (sym c.files_of.ensures ∙ ap result_ok c.in-Ok.is) in
+    let config = input (g.C.Source.left c.args.config.now) (g.C.Source.faults c.args.config.now) in
+    let read = input (g.C.Source.left c.configured.new.source) (g.C.Source.faults c.configured.new.source) in
+    let first = input (g.A.Source.left c.args.first.now) (g.A.Source.faults c.args.first.now) in
+    let written = g.W.Sink.written c.args.out.now in
+    let faults = g.W.Sink.faults c.args.out.now in
+    rw some (ends_by replayed (moment config first written faults) (moment read first written faults) (g.W.Sink.written c.finish.new.out) (g.W.Sink.faults c.finish.new.out) c.in-Err.fault c.finish.result
+    (configuring_never_writes c.in-Err.fault config read c.in-Err.ensures.err)
+    (configuring_stops c.in-Err.fault config read first written faults c.in-Err.ensures.err)
+    (omega arith) c.finish.ensures)
