@@ -29,13 +29,7 @@ fn main(rt: HostRuntime) -> ExitCode {
     let mut config = ReaderSource::new(named(&rt, &words, config));
     let mut first = ReaderSource::new(named(&rt, &words, first));
     let mut out = WriterSink::new(io::writer(&rt));
-    ExitCode::from(run(
-        rt.alloc(),
-        &words,
-        &mut config,
-        &mut first,
-        &mut out,
-    ))
+    ExitCode::from(run(rt.alloc(), &words, &mut config, &mut first, &mut out))
 }
 
 // The file that the word at this place names; None where there is none, or it can't be opened.

@@ -34,6 +34,9 @@ impl Sight for Kept {
                 rows.push(row.copy()?)?;
             }
         }
+        if !Rows::is_ascending(&rows) {
+            return Err(AllocError);
+        }
         Ok(Rows::from_vec(rows))
     }
 
