@@ -1,4 +1,5 @@
-pub mod Numbers
+pub mod First
 pub mod Messages
+pub mod Numbers
 pub mod Protocols
 pub mod Writes

@@ -2,3 +2,4 @@ pub mod Fields
 pub mod Spelling
 pub mod Writing
 pub mod Reading
+pub mod Faults

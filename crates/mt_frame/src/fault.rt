@@ -1,5 +1,8 @@
 //! Why bytes are no header, or a header was not written.
 
+ghost use Rattle.std.specs.Prelude.{◌≡◌};
+ghost use Rattle.mt_frame.specs.Faults.{number_of};
+
 /// What keeps bytes from being a header that is read here, or a header from being written. Of several
 /// faults, reading answers the first in the order of the format.
 #[derive(Clone, Copy, Debug, PartialEq, Eq)]
@@ -22,4 +25,13 @@ pub enum FrameFault {
     NoRoom = 8,
     /// The C flag: a control message.
     Control = 9,
+}
+
+impl FrameFault {
+    /// The fault's number, under which logs and counts name it: 1 to 9.
+    pub fn number(self) -> u8
+        ensures { result ≡ number_of self }
+    {
+        self as u8
+    }
 }

@@ -1,13 +1,15 @@
 //! Laws of the two headers, over their definitions alone. Each is the contract of a function that does
 //! nothing.
 
-ghost use Rattle.std.specs.Prelude.{◌≡◌, ◌≤◌, ◌++◌, List, ℕ, length, take, Ok};
+ghost use Rattle.std.specs.Prelude.{◌≡◌, ◌≤◌, ◌++◌, ◌↔◌, List, ℕ, length, take, Ok, Err, IsOk};
+ghost use Rattle.mt_frame.specs.declared.fault.FrameFault.{FrameFault};
 ghost use Rattle.mt_frame.specs.declared.header.MessageHeader.{MessageHeader};
 ghost use Rattle.mt_frame.specs.declared.header.ProtocolHeader.{ProtocolHeader};
 ghost use Rattle.mt_frame.specs.Fields.{AreBytes};
 ghost use Rattle.mt_frame.specs.Spelling.{MessageSpells, ProtocolSpells};
 ghost use Rattle.mt_frame.specs.Writing.{IsMessage, IsProtocol, message_bytes, protocol_bytes};
 ghost use Rattle.mt_frame.specs.Reading.{message_at, protocol_at};
+ghost use Rattle.mt_frame.specs.Faults.{AreClear, IsFirst, message_tests, protocol_tests};
 
 /// A header that is spelled is read, with its length, whatever follows it.
 pub fn header_is_read()
@@ -42,6 +44,15 @@ pub fn written_is_read()
         → message_at (message_bytes header ++ rest) ≡ Ok (header, length (message_bytes header)) }
     ensures protocol { (header : ProtocolHeader) (rest : List ℕ) → IsProtocol header
         → protocol_at (protocol_bytes header ++ rest) ≡ Ok (header, length (protocol_bytes header)) }
+{}
+
+/// A fault is answered exactly where it is the first in the order of the format: it stands, and none
+/// before it does. A header is answered exactly where none stands.
+pub fn first_fault_is_answered()
+    ensures message { (bytes : List ℕ) (fault : FrameFault) → (message_at bytes ≡ Err fault) ↔ IsFirst fault (message_tests bytes) }
+    ensures message_clear { (bytes : List ℕ) → IsOk (message_at bytes) ↔ AreClear (message_tests bytes) }
+    ensures protocol { (bytes : List ℕ) (fault : FrameFault) → (protocol_at bytes ≡ Err fault) ↔ IsFirst fault (protocol_tests bytes) }
+    ensures protocol_clear { (bytes : List ℕ) → IsOk (protocol_at bytes) ↔ AreClear (protocol_tests bytes) }
 {}
 
 /// No header's spelling begins another's, and bytes spell one header at most.

@@ -184,7 +184,19 @@ fn the_first_fault_is_answered(rt: HostRuntime) {
     for (at, (fault, bytes)) in protocol_faults().iter().enumerate() {
         assert_eq!(rt; read_protocol(bytes), Err(*fault), "protocol {at}");
     }
-    assert_eq!(rt; FrameFault::Short as u8, 1);
-    assert_eq!(rt; FrameFault::NoRoom as u8, 8);
-    assert_eq!(rt; FrameFault::Control as u8, 9);
+    let numbered = [
+        (FrameFault::Short, 1),
+        (FrameFault::Version, 2),
+        (FrameFault::Reserved, 3),
+        (FrameFault::Group, 4),
+        (FrameFault::Private, 5),
+        (FrameFault::Extended, 6),
+        (FrameFault::Unsecured, 7),
+        (FrameFault::NoRoom, 8),
+        (FrameFault::Control, 9),
+    ];
+    for (fault, number) in numbered {
+        assert_eq!(rt; fault.number(), number);
+    }
+    first_fault_is_answered();
 }

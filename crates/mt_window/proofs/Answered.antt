@@ -4,8 +4,7 @@ use Rattle.std.proofs.lemmas.Bool.{ltb-true, ltb-false, le-ltb, both_ways, false
 use Rattle.std.proofs.lemmas.List.Sums.{sum_by-cons, sum_by_push}
 use Rattle.mt_window.specs.declared.window.Seen.{Seen}
 use Rattle.mt_window.specs.declared.window.Seen.TheVariants.{Fresh, Duplicate, Old}
-use Rattle.mt_window.specs.declared.window.TheConstants.{WINDOW_SIZE}
-use Rattle.mt_window.specs.Counters.{greatest_of, was_accepted, seen, accepted_by, accepted_after, accepted_over}
+use Rattle.mt_window.specs.Counters.{greatest_of, reach, was_accepted, seen, accepted_by, accepted_after, accepted_over}
 use Rattle.mt_window.proofs.Accepted.{not_accepted_above}
 
 -- the answer by its three tests: whether the counter is above the greatest, too far below it, accepted
@@ -18,11 +17,11 @@ not_fresh false true was low is e = cc
 not_fresh false false true low is e = cc
 not_fresh false false false low is e = absurd (both_ways false refl is)
 
-fresh_near : (greatest counter : ℕ) (above far was : Bool) → nat_lt greatest counter ≡ above → nat_lt (counter + WINDOW_SIZE) greatest ≡ far
-    → answer_by above far was ≡ Fresh → greatest ≤ counter + WINDOW_SIZE
+fresh_near : (greatest counter : ℕ) (above far was : Bool) → nat_lt greatest counter ≡ above → nat_lt (counter + reach) greatest ≡ far
+    → answer_by above far was ≡ Fresh → greatest ≤ counter + reach
 fresh_near greatest counter true far was a f e = omega (arith, ltb-true greatest counter a)
 fresh_near greatest counter false true was a f e = cc
-fresh_near greatest counter false false was a f e = ltb-false (counter + WINDOW_SIZE) greatest f
+fresh_near greatest counter false false was a f e = ltb-false (counter + reach) greatest f
 
 new_is_fresh : (above far was : Bool) → far ≡ false → was ≡ false → answer_by above far was ≡ Fresh
 new_is_fresh true far was near new = refl
@@ -32,12 +31,12 @@ new_is_fresh false false false near new = refl
 
 module _ (start : ℕ) (accepted : List ℕ) (counter : ℕ) where
   pub accepted-not_fresh : IsTrue (was_accepted accepted counter) → seen start accepted counter ≡ Fresh → ⊥
-  accepted-not_fresh is = not_fresh (nat_lt (greatest_of start accepted) counter) (nat_lt (counter + WINDOW_SIZE) (greatest_of start accepted)) (was_accepted accepted counter) low is
+  accepted-not_fresh is = not_fresh (nat_lt (greatest_of start accepted) counter) (nat_lt (counter + reach) (greatest_of start accepted)) (was_accepted accepted counter) low is
     where
       low : nat_lt (greatest_of start accepted) counter ≡ false
       low = false_from_ne_true _ (λ over. both_ways (was_accepted accepted counter) (not_accepted_above start accepted counter (ltb-true (greatest_of start accepted) counter over)) is)
 
-  pub fresh_is_new : (seen start accepted counter ≡ Fresh) ↔ ((greatest_of start accepted ≤ counter + WINDOW_SIZE) × (was_accepted accepted counter ≡ false))
+  pub fresh_is_new : (seen start accepted counter ≡ Fresh) ↔ ((greatest_of start accepted ≤ counter + reach) × (was_accepted accepted counter ≡ false))
   fresh_is_new = (
     λ e. (fresh_near (greatest_of start accepted) counter _ _ (was_accepted accepted counter) refl refl e, false_from_ne_true _ (λ was. accepted-not_fresh was e)),
     λ new. new_is_fresh (nat_lt (greatest_of start accepted) counter) _ _ (le-ltb _ _ new.0) new.1,

@@ -4,7 +4,10 @@ use Rattle.std.specs.Prelude.{ℕ, ◌+◌, max, Bool, List, [], ◌∷◌, ◌+
 use Rattle.std.specs.List.{list_any}
 use Rattle.mt_window.specs.declared.window.Seen.{Seen}
 use Rattle.mt_window.specs.declared.window.Seen.TheVariants.{Fresh, Duplicate, Old}
-use Rattle.mt_window.specs.declared.window.TheConstants.{WINDOW_SIZE}
+
+-- how far below the greatest a counter is still looked up: MSG_COUNTER_WINDOW_SIZE
+abbrev pub reach : ℕ
+reach = 32
 
 -- the greatest of the start and of all accepted counters
 abbrev pub greatest_of : ℕ → List ℕ → ℕ
@@ -19,7 +22,7 @@ was_accepted accepted counter = list_any (nat_eq counter) accepted
 abbrev pub seen : ℕ → List ℕ → ℕ → Seen
 seen start accepted counter =
     if nat_lt (greatest_of start accepted) counter then Fresh
-    else if nat_lt (counter + WINDOW_SIZE) (greatest_of start accepted) then Old
+    else if nat_lt (counter + reach) (greatest_of start accepted) then Old
     else if was_accepted accepted counter then Duplicate
     else Fresh
 

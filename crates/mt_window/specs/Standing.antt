@@ -2,8 +2,7 @@
 use Rattle.std.specs.Prelude.{◌≡◌, ◌≤◌, ◌+◌, ◌-◌, ℕ, Bool, List, nat_eq}
 use Rattle.std.specs.Int.{bit_at}
 use Rattle.mt_window.specs.declared.window.Window.{Window}
-use Rattle.mt_window.specs.declared.window.TheConstants.{WINDOW_SIZE}
-use Rattle.mt_window.specs.Counters.{greatest_of, was_accepted}
+use Rattle.mt_window.specs.Counters.{greatest_of, reach, was_accepted}
 
 -- whether the window has a mark for a counter that is not above its greatest
 abbrev pub has_mark : Window → ℕ → Bool
@@ -13,5 +12,5 @@ has_mark window counter = nat_eq (bit_at window.marks (window.greatest - counter
 -- too far below it, whether it was accepted.
 pub record StandsFor (window : Window) (start : ℕ) (accepted : List ℕ) : Type 0 where
   pub greatest : window.greatest ≡ greatest_of start accepted
-  pub marks : (counter : ℕ) → counter ≤ window.greatest → window.greatest ≤ counter + WINDOW_SIZE
+  pub marks : (counter : ℕ) → counter ≤ window.greatest → window.greatest ≤ counter + reach
       → has_mark window counter ≡ was_accepted accepted counter

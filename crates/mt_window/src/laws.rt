@@ -5,12 +5,10 @@ ghost use Rattle.std.specs.Prelude.{◌≡◌, ◌≢◌, ◌≤◌, ◌+◌, �
 ghost use Rattle.mt_window.specs.Counters.{greatest_of, seen, was_accepted, accepted_over};
 ghost use Rattle.mt_window.specs.declared.window.Seen.TheVariants.{Fresh};
 
-use crate::window::WINDOW_SIZE;
-
-/// A counter is Fresh exactly where it is at most `WINDOW_SIZE` below the greatest and was not accepted.
+/// A counter is Fresh exactly where it is at most 32 below the greatest and was not accepted.
 pub fn fresh_is_new_within_reach()
     ensures { (start : ℕ) (accepted : List ℕ) (counter : ℕ) → (seen start accepted counter ≡ Fresh)
-        ↔ ((greatest_of start accepted ≤ counter + WINDOW_SIZE)
+        ↔ ((greatest_of start accepted ≤ counter + 32)
         × IsFalse (was_accepted accepted counter)) }
 {}
 

@@ -2,7 +2,7 @@
 
 ghost use Rattle.std.specs.Prelude.{◌≡◌, ◌≢◌, ◌+◌, ◌-◌, ◌<◌, ◌≤◌, ℕ, List, [], ◌∷◌, ◌++◌};
 ghost use Rattle.std.specs.Int.{bit_at};
-ghost use Rattle.mt_window.specs.Counters.{seen, accepted_after};
+ghost use Rattle.mt_window.specs.Counters.{reach, seen, accepted_after};
 ghost use Rattle.mt_window.specs.Standing.{StandsFor};
 
 /// How far below the greatest counter a counter may still be accepted: the standard's
@@ -61,7 +61,7 @@ impl Window {
     fn judge(&self, counter: u32) -> Seen
         ensures answer { (start : ℕ) (accepted : List ℕ) → StandsFor self.now start accepted
             → result ≡ seen start accepted counter }
-        ensures fresh { result ≡ Seen.Fresh → self.now.greatest ≤ counter + WINDOW_SIZE }
+        ensures fresh { result ≡ Seen.Fresh → self.now.greatest ≤ counter + reach }
     {
         if self.greatest < counter {
             return Seen::Fresh;
@@ -78,7 +78,7 @@ impl Window {
 
     // Marks a counter as accepted. One above the greatest moves the marks away from it.
     fn note(&mut self, counter: u32)
-        requires { self.old.greatest ≤ counter + WINDOW_SIZE }
+        requires { self.old.greatest ≤ counter + reach }
         ensures { (start : ℕ) (accepted : List ℕ) → StandsFor self.old start accepted
             → StandsFor self.new start (accepted ++ counter ∷ []) }
     {
