@@ -1,6 +1,6 @@
-//! How many datagrams of 1,200 bytes `mt_ccm` seals and opens in a second. The number of turns is the
-//! first argument; without one there are few, so that the run is short. What is found goes to standard
-//! error.
+//! How long `mt_ccm` takes to seal and open messages of 1,200 and of 64 bytes, their tags among them,
+//! and how many datagrams of 1,200 bytes that is in a second. The number of turns is the first argument;
+//! without one there are few, so that the run is short. What is found goes to standard error.
 #![tactic(auto)]
 
 use mt_ccm::{seal, unseal};
@@ -15,13 +15,20 @@ const HEADER: [u8; 8] = [0, 1, 0, 0, 0xe8, 3, 0, 0];
 
 const DATAGRAM: usize = 1200;
 
+const SMALL: usize = 64;
+
 // How many turns there are where the command line does not say.
 const FEW: u32 = 20;
 
-// Datagrams in a second.
-fn rate(turns: u32, took: Duration) -> u64 {
-    let micros = u64::try_from(took.as_micros()).unwrap_or(u64::MAX).max(1);
-    u64::from(turns) * 1_000_000 / micros
+// How long a turn takes, in nanoseconds.
+fn each(turns: u32, took: Duration) -> u64 {
+    let nanos = u64::try_from(took.as_nanos()).unwrap_or(u64::MAX);
+    nanos / u64::from(turns).max(1)
+}
+
+// How many turns of so many nanoseconds there are in a second.
+fn rate(each: u64) -> u64 {
+    1_000_000_000 / each.max(1)
 }
 
 fn main(rt: HostRuntime) -> io::Result<()> {
@@ -30,12 +37,13 @@ fn main(rt: HostRuntime) -> io::Result<()> {
         None => FEW,
     };
     let mut sealed = [0x5a; DATAGRAM];
+    let mut opened = 0u32;
+
     let start = Instant::now(&rt)?;
     for _ in 0..turns {
         seal(&KEY, &NONCE, &HEADER, &mut sealed);
     }
-    let sealing = start.elapsed(&rt)?;
-    let mut opened = 0u32;
+    let sealing = each(turns, start.elapsed(&rt)?);
     let start = Instant::now(&rt)?;
     for _ in 0..turns {
         let mut buf = sealed;
@@ -43,10 +51,27 @@ fn main(rt: HostRuntime) -> io::Result<()> {
             opened += 1;
         }
     }
-    let opening = start.elapsed(&rt)?;
-    let sealing = rate(turns, sealing);
-    let opening = rate(turns, opening);
-    eprintln!(rt; "{turns} datagrams: sealed {sealing} a second, opened {opening} a second")?;
+    let opening = each(turns, start.elapsed(&rt)?);
+    let (sealed_rate, opened_rate) = (rate(sealing), rate(opening));
+    eprintln!(rt;
+        "{turns} datagrams: sealed {sealed_rate} a second, opened {opened_rate} a second"
+    )?;
     eprintln!(rt; "{opened} were opened")?;
+
+    // Sealed and opened in turn, as bench/ccm_scalar.c does.
+    let start = Instant::now(&rt)?;
+    for _ in 0..turns {
+        seal(&KEY, &NONCE, &HEADER, &mut sealed);
+        unseal(&KEY, &NONCE, &HEADER, &mut sealed);
+    }
+    let whole = each(turns, start.elapsed(&rt)?);
+    let mut small = [0x5a; SMALL];
+    let start = Instant::now(&rt)?;
+    for _ in 0..turns {
+        seal(&KEY, &NONCE, &HEADER, &mut small);
+        unseal(&KEY, &NONCE, &HEADER, &mut small);
+    }
+    let short = each(turns, start.elapsed(&rt)?);
+    eprintln!(rt; "1200 bytes: {whole} ns, 64 bytes: {short} ns")?;
     Ok(())
 }

@@ -1,5 +1,6 @@
 pub mod ChainFacts
 pub mod MaskFacts
+pub mod PassFacts
 pub mod RoundFacts
 pub mod SealFacts
 pub mod StreamFacts

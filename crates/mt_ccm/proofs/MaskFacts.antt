@@ -58,7 +58,7 @@ length-masked key nonce plain =
       length-key_stream key nonce 1 (block_count (length plain)),
     )
 
-masked_at : (key nonce plain : List ℕ) (k : ℕ) → k < length plain
+pub masked_at : (key nonce plain : List ℕ) (k : ℕ) → k < length plain
     → slice_index (masked key nonce plain) k ≡ bit_xor (slice_index plain k) (stream_byte key nonce k)
 unfolding masked
 masked_at key nonce plain k low =

@@ -132,3 +132,12 @@ length-masked_tag key nonce aad plain =
       length-tag key nonce aad plain,
       length-cipher key (counter_block nonce 0),
     )
+
+-- the tag under its mask, of the chaining value after the plaintext
+pub masked_tag_is : (key nonce aad plain begin last result : List ℕ) → length nonce ≡ 13
+    → begin ≡ chained_aad key (cipher key (first_block nonce aad plain)) aad → last ≡ chained_all key begin plain
+    → result ≡ xored last (cipher key (counter_block nonce 0)) → result ≡ masked_tag key nonce aad plain
+unfolding masked_tag
+masked_tag_is key nonce aad plain begin last result len eb el er =
+    let whole : last ≡ tag key nonce aad plain = el ∙ ap (λ (y : List ℕ). chained_all key y plain) eb ∙ tag_is key nonce aad plain len in
+    er ∙ ap (λ (t : List ℕ). xored t (cipher key (counter_block nonce 0))) whole

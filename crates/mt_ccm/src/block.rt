@@ -1,38 +1,86 @@
 // The block cipher AES-128 (FIPS 197): the key schedule, and one block. A word of 32 bits is a column,
 // its highest byte in row 0, and one look-up in a table does the S-box and the column's product.
 
-ghost use Rattle.std.specs.Prelude.{◌≡◌, ℕ, ◌+◌, ◌*◌, ◌/◌, ◌%◌, ◌^◌, ◌<◌, ◌≤◌, List, [], ◌∷◌, ◌++◌, length, bit_xor, slice_index};
+ghost use Rattle.std.specs.Prelude.{◌≡◌, ℕ, ◌+◌, ◌*◌, ◌/◌, ◌%◌, ◌^◌, ◌<◌, ◌≤◌, List, [], ◌∷◌, ◌++◌, length, take, drop, bit_xor, slice_index};
 ghost use Rattle.mt_ccm.specs.Aes.{s_box, mix_column, mix_columns, shift_rows, sub_bytes, add_round_key, cipher, round_key, xored, round_constant, next_key_byte, state_of};
-ghost use Rattle.mt_ccm.specs.Words.{IsScheduleOf, block_at, word_bytes};
+ghost use Rattle.mt_ccm.specs.Words.{IsScheduleOf, block_at, four_at, word_bytes};
 
 use crate::tables::{mixed_first, mixed_fourth, mixed_second, mixed_third, substituted};
 
-// The word of four bytes of a block, from place `at` on.
+// The word of four bytes, from place `at` on.
 #[inline(always)]
-fn load_word(block: &[u8; 16], at: usize) -> u32
-    requires { at + 4 ≤ 16 }
-    ensures { word_bytes result ≡ slice_index block.now at ∷ slice_index block.now (at + 1)
-        ∷ slice_index block.now (at + 2) ∷ slice_index block.now (at + 3) ∷ [] }
+fn load_word(bytes: &[u8], at: usize) -> u32
+    requires { at + 4 ≤ length bytes.now }
+    ensures { word_bytes result ≡ four_at bytes.now at }
 {
-    u32::from_be_bytes([block[at], block[at + 1], block[at + 2], block[at + 3]])
+    u32::from_be_bytes([bytes[at], bytes[at + 1], bytes[at + 2], bytes[at + 3]])
 }
 
-// The four words of a block.
+/// The words of the 16 bytes from place `at` on.
 #[inline(always)]
-fn load(block: &[u8; 16]) -> [u32; 4]
-    ensures { block_at result 0 ≡ block.now }
+pub fn load_from(bytes: &[u8], at: usize) -> [u32; 4]
+    requires { at + 16 ≤ length bytes.now }
+    ensures { block_at result 0 ≡ take 16 (drop at bytes.now) }
 {
     [
-        load_word(block, 0),
-        load_word(block, 4),
-        load_word(block, 8),
-        load_word(block, 12),
+        load_word(bytes, at),
+        load_word(bytes, at + 4),
+        load_word(bytes, at + 8),
+        load_word(bytes, at + 12),
     ]
 }
 
-// The block of four words.
+/// The four words of a block.
 #[inline(always)]
-fn store(state: [u32; 4]) -> [u8; 16]
+pub fn load(block: &[u8; 16]) -> [u32; 4]
+    ensures { block_at result 0 ≡ block.now }
+{
+    load_from(block, 0)
+}
+
+// Writes the four bytes of a word, from place `at` on.
+#[inline(always)]
+fn store_word(bytes: &mut [u8], at: usize, word: u32)
+    requires { at + 4 ≤ length bytes.old }
+    ensures written { four_at bytes.new at ≡ word_bytes word }
+    ensures before { (k : ℕ) → k < at → slice_index bytes.new k ≡ slice_index bytes.old k }
+    ensures after { (k : ℕ) → at + 4 ≤ k → slice_index bytes.new k ≡ slice_index bytes.old k }
+{
+    let [a, b, c, d] = word.to_be_bytes();
+    bytes[at] = a;
+    bytes[at + 1] = b;
+    bytes[at + 2] = c;
+    bytes[at + 3] = d;
+}
+
+/// Writes the 16 bytes of four words, from place `at` on.
+#[inline(always)]
+pub fn store_to(bytes: &mut [u8], at: usize, state: [u32; 4])
+    requires { at + 16 ≤ length bytes.old }
+    ensures written { take 16 (drop at bytes.new) ≡ block_at state 0 }
+    ensures before { (k : ℕ) → k < at → slice_index bytes.new k ≡ slice_index bytes.old k }
+    ensures after { (k : ℕ) → at + 16 ≤ k → slice_index bytes.new k ≡ slice_index bytes.old k }
+{
+    let [a, b, c, d] = state;
+    store_word(bytes, at, a);
+    store_word(bytes, at + 4, b);
+    store_word(bytes, at + 8, c);
+    store_word(bytes, at + 12, d);
+}
+
+/// The words of one block xor those of another.
+#[inline(always)]
+pub fn sum(block: [u32; 4], other: [u32; 4]) -> [u32; 4]
+    ensures { block_at result 0 ≡ xored (block_at block 0) (block_at other 0) }
+{
+    let [a, b, c, d] = block;
+    let [e, f, g, h] = other;
+    [a ^ e, b ^ f, c ^ g, d ^ h]
+}
+
+/// The block of four words.
+#[inline(always)]
+pub fn store(state: [u32; 4]) -> [u8; 16]
     ensures { result ≡ block_at state 0 }
 {
     let [a, b, c, d] = state;
@@ -179,16 +227,41 @@ fn first_state(words: &[u32; 44], state: [u32; 4]) -> [u32; 4]
     [a ^ words[0], b ^ words[1], c ^ words[2], d ^ words[3]]
 }
 
-/// The block that the cipher makes of `block` under the key of this schedule (FIPS 197, 5.1).
+// The rounds on the four words of a block, written out (FIPS 197, 5.1). The words are parameters of
+// their own, so that they begin and stay in registers.
+fn rounds(words: &[u32; 44], a: u32, b: u32, c: u32, d: u32) -> [u32; 4]
+    ensures { (key : List ℕ) → IsScheduleOf key words.now
+        → block_at result 0 ≡ cipher key (block_at (a ∷ b ∷ c ∷ d ∷ []) 0) }
+{
+    let begun = first_state(words, [a, b, c, d]);
+    let first = round(words, begun, 4);
+    let second = round(words, first, 8);
+    let third = round(words, second, 12);
+    let fourth = round(words, third, 16);
+    let fifth = round(words, fourth, 20);
+    let sixth = round(words, fifth, 24);
+    let seventh = round(words, sixth, 28);
+    let eighth = round(words, seventh, 32);
+    let ninth = round(words, eighth, 36);
+    last_round(words, ninth)
+}
+
+/// The words of the block that the cipher makes of a block in words, under the key of this schedule.
+#[inline(always)]
+pub fn enciphered_words(words: &[u32; 44], block: [u32; 4]) -> [u32; 4]
+    ensures { (key : List ℕ) → IsScheduleOf key words.now
+        → block_at result 0 ≡ cipher key (block_at block 0) }
+{
+    let [a, b, c, d] = block;
+    rounds(words, a, b, c, d)
+}
+
+/// The block that the cipher makes of `block` under the key of this schedule.
+#[inline(always)]
 pub fn enciphered(words: &[u32; 44], block: &[u8; 16]) -> [u8; 16]
     ensures { (key : List ℕ) → IsScheduleOf key words.now → result ≡ cipher key block.now }
 {
-    let mut state = first_state(words, load(block));
-    'rounds: for n in 0..9 {
-        let next = round(words, state, 4 * n + 4);
-        state = next;
-    }
-    store(last_round(words, state))
+    store(enciphered_words(words, load(block)))
 }
 
 /// The block cipher AES-128 (FIPS 197, 5.1): what it makes of `block` under `key`.

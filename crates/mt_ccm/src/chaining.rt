@@ -1,9 +1,9 @@
-// The tag of a message: the CBC-MAC over its formatted blocks (NIST SP 800-38C, 6.1 and A.2).
+// The CBC-MAC up to the plaintext, and what makes it the tag (NIST SP 800-38C, 6.1 and A.2).
 
 ghost use Rattle.std.specs.Prelude.{◌≡◌, ℕ, ◌+◌, ◌*◌, ◌^◌, ◌<◌, ◌≤◌, List, ◌∷◌, ◌++◌, ◌==◌, if◌then◌else◌, length, slice_index, take};
 ghost use Rattle.std.specs.Int.{w16, to_be_bytes};
-ghost use Rattle.mt_ccm.specs.Aes.{xored};
-ghost use Rattle.mt_ccm.specs.Ccm.{counter_block, masked_tag, tag};
+ghost use Rattle.mt_ccm.specs.Aes.{cipher, xored};
+ghost use Rattle.mt_ccm.specs.Ccm.{counter_block, first_block};
 ghost use Rattle.mt_ccm.specs.Steps.{chained_aad, chained_all, filled};
 ghost use Rattle.mt_ccm.specs.Words.{IsScheduleOf};
 
@@ -27,9 +27,9 @@ pub fn counter(nonce: &[u8; 13], index: u16) -> [u8; 16]
     block_of(0x01, nonce, index)
 }
 
-// At most 16 bytes, filled up by zeros, xor a block.
+/// At most 16 bytes, filled up by zeros, xor a block.
 #[inline(always)]
-fn added(block: &[u8; 16], bytes: &[u8]) -> [u8; 16]
+pub fn added(block: &[u8; 16], bytes: &[u8]) -> [u8; 16]
     requires { length bytes.now ≤ 16 }
     ensures { result ≡ xored block.now (filled bytes.now) }
 {
@@ -115,27 +115,23 @@ fn flags_of(aad: &[u8]) -> u8
     if aad.len() == 0 { 0x39 } else { 0x79 }
 }
 
-/// The tag of a plaintext and its associated data (6.1, steps 1 to 4).
-pub fn tag_of(words: &[u32; 44], nonce: &[u8; 13], aad: &[u8], plain: &[u8]) -> [u8; 16]
+/// The chaining value before a plaintext of `count` bytes: after the first block and the associated
+/// data (6.1, steps 1 to 3).
+pub fn begun(words: &[u32; 44], nonce: &[u8; 13], aad: &[u8], count: usize) -> [u8; 16]
     requires short_aad { length aad.now < 2 ^ 16 }
-    requires short_plain { length plain.now < 2 ^ 16 }
-    ensures { (key : List ℕ) → IsScheduleOf key words.now
-        → result ≡ tag key nonce.now aad.now plain.now }
+    requires short_plain { count < 2 ^ 16 }
+    ensures { (key : List ℕ) → IsScheduleOf key words.now → (plain : List ℕ) → length plain ≡ count
+        → result ≡ chained_aad key (cipher key (first_block nonce.now aad.now plain)) aad.now }
 {
-    let first = block_of(flags_of(aad), nonce, plain.len() as u16);
-    let begin = enciphered(words, &first);
-    let state = with_aad(words, begin, aad);
-    chained(words, state, plain)
+    let first = block_of(flags_of(aad), nonce, count as u16);
+    with_aad(words, enciphered(words, &first), aad)
 }
 
-/// The tag under its mask (6.1, step 8).
-pub fn masked_tag_of(words: &[u32; 44], nonce: &[u8; 13], aad: &[u8], plain: &[u8]) -> [u8; 16]
-    requires short_aad { length aad.now < 2 ^ 16 }
-    requires short_plain { length plain.now < 2 ^ 16 }
+/// The tag under its mask, of the chaining value after the plaintext (6.1, step 8).
+pub fn masked_tag_of(words: &[u32; 44], nonce: &[u8; 13], tag: &[u8; 16]) -> [u8; 16]
     ensures { (key : List ℕ) → IsScheduleOf key words.now
-        → result ≡ masked_tag key nonce.now aad.now plain.now }
+        → result ≡ xored tag.now (cipher key (counter_block nonce.now 0)) }
 {
-    let tag = tag_of(words, nonce, aad, plain);
     let mask = enciphered(words, &counter(nonce, 0));
-    added(&tag, &mask)
+    added(tag, &mask)
 }

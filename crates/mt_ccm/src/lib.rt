@@ -6,6 +6,7 @@ mod block;
 mod chaining;
 mod laws;
 mod masking;
+mod passing;
 mod sealing;
 mod tables;
 

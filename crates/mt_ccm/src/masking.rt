@@ -7,9 +7,9 @@ ghost use Rattle.mt_ccm.specs.Words.{IsScheduleOf};
 use crate::block::enciphered;
 use crate::chaining::counter;
 
-// Xors the first `count` bytes of `stream` into `bytes`, from place `from` on.
+/// Xors the first `count` bytes of `stream` into `bytes`, from place `from` on.
 #[inline(always)]
-fn add_stream(bytes: &mut [u8], from: usize, count: usize, stream: &[u8; 16])
+pub fn add_stream(bytes: &mut [u8], from: usize, count: usize, stream: &[u8; 16])
     requires room { from + count ≤ length bytes.old }
     requires short { count ≤ 16 }
     ensures within { (k : ℕ) → k < count → slice_index bytes.new (from + k)
@@ -22,7 +22,8 @@ fn add_stream(bytes: &mut [u8], from: usize, count: usize, stream: &[u8; 16])
     }
 }
 
-/// Masks the first `count` bytes, or takes their mask away: they are xor-ed with the key stream.
+/// Masks the first `count` bytes, or takes their mask away: they are xor-ed with the key stream. What
+/// is refused is put back so; sealing and opening mask in the pass that makes the tag.
 pub fn mask(words: &[u32; 44], nonce: &[u8; 13], bytes: &mut [u8], count: usize)
     requires room { count ≤ length bytes.old }
     requires short { count < 2 ^ 16 }
@@ -33,6 +34,9 @@ pub fn mask(words: &[u32; 44], nonce: &[u8; 13], bytes: &mut [u8], count: usize)
     'turns: for i in 0..whole {
         let stream = enciphered(words, &counter(nonce, (i + 1) as u16));
         add_stream(bytes, 16 * i, 16, &stream);
+    }
+    if count % 16 == 0 {
+        return;
     }
     let stream = enciphered(words, &counter(nonce, (whole + 1) as u16));
     add_stream(bytes, 16 * whole, count % 16, &stream);

@@ -4,8 +4,8 @@ ghost use Rattle.std.specs.Prelude.{◌≡◌, ◌↔◌, ℕ, ◌+◌, ◌-◌,
 ghost use Rattle.mt_ccm.specs.Ccm.{Sealed};
 
 use crate::block::expanded;
-use crate::chaining::masked_tag_of;
 use crate::masking::mask;
+use crate::passing::{open_text, seal_text};
 
 // Writes the tag over the last 16 bytes.
 fn put_tag(bytes: &mut [u8], at: usize, tag: &[u8; 16])
@@ -39,8 +39,7 @@ pub fn seal(key: &[u8; 16], nonce: &[u8; 13], aad: &[u8], buf: &mut [u8])
 {
     let count = buf.len() - 16;
     let words = expanded(key);
-    let tag = masked_tag_of(&words, nonce, aad, &buf[..count]);
-    mask(&words, nonce, buf, count);
+    let tag = seal_text(&words, nonce, aad, buf, count);
     put_tag(buf, count, &tag);
 }
 
@@ -62,8 +61,7 @@ pub fn unseal(key: &[u8; 16], nonce: &[u8; 13], aad: &[u8], buf: &mut [u8]) -> O
     }
     let count = buf.len() - 16;
     let words = expanded(key);
-    mask(&words, nonce, buf, count);
-    let tag = masked_tag_of(&words, nonce, aad, &buf[..count]);
+    let tag = open_text(&words, nonce, aad, buf, count);
     let whole = ends_with_tag(buf, count, &tag);
     if whole {
         return Some(count);

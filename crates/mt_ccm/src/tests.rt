@@ -42,9 +42,9 @@ struct Row {
     sealed: &'static [u8],
 }
 
-// Vectors for CCM of NIST's Cryptographic Algorithm Validation Program. Of the second, the last 8
-// bytes of the tag were computed by an independent implementation.
-fn rows() -> [Row; 4] {
+// Vectors for CCM of NIST's Cryptographic Algorithm Validation Program, and a last one. Of the second,
+// the last 8 bytes of the tag were computed by an independent implementation.
+fn rows() -> [Row; 5] {
     [
         // VADT128, no associated data
         Row {
@@ -77,6 +77,14 @@ fn rows() -> [Row; 4] {
             aad: b"\xe1\xde\x6c\x61\x19\xd7\xdb\x47\x11\x36\x28\x5d\x10\xb4\x7a\x45\x02\x21\xb1\x69\x78\x56\x91\x90\xef\x6a\x22\xb0\x55\x29\x56\x03",
             plain: b"",
             sealed: b"\x0e\xad\x29\xef\x20\x5f\xbb\x86\xd1\x1a\xbe\x5e\xd7\x04\xb8\x80",
+        },
+        // Whole blocks alone, computed by an independent implementation
+        Row {
+            key: b"\x5e\xde\xd2\x44\xe5\x53\x2b\x3c\xdc\x23\x40\x9d\xba\xd0\x52\xd2",
+            nonce: b"\x00\xe8\x03\x00\x00\x01\x02\x03\x04\x05\x06\x07\x08",
+            aad: b"\x00\x01\x00\x00\xe8\x03\x00\x00",
+            plain: b"a text of three whole blocks, and nothing behind",
+            sealed: b"\xb9\x7e\x39\x0c\x36\xec\x6b\xa0\xe7\x81\xd3\x8b\xf1\x44\x6c\xe7\xfd\xbe\x3a\x3a\xd1\xb8\x5a\xfc\x28\x2e\x7c\x62\x57\x60\xc3\xe2\x70\xf7\xb0\xf9\xab\xea\x94\x16\xf3\xfe\x35\x32\x33\x90\xa9\x5e\xb8\xbd\x30\x99\xbe\x33\xc8\x6f\x52\x17\xaf\x04\xdc\x51\x02\x05",
         },
     ]
 }

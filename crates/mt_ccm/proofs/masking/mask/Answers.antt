@@ -21,3 +21,8 @@ returns c = λ key held.
     c.add_stream-2.ensures.within c.add_stream-2.ensures.before (λ m lt. c.turns.invariant.within key held m (omega arith))
     (λ m ge. c.turns.invariant.after m (omega arith)) k (omega arith))
     (λ k ge. c.add_stream-2.ensures.after k (omega arith) ∙ c.turns.invariant.after k (omega arith))
+
+pub returns-then-count-eq0 : goal.returns-then-count-eq0
+returns-then-count-eq0 c = λ key held.
+    mask_is key c.args.nonce.now c.args.bytes.now c.turns.bytes c.args.count c.requires.room (omega arith)
+    (λ k low. c.turns.invariant.within key held k (omega arith)) (λ k ge. c.turns.invariant.after k (omega arith))

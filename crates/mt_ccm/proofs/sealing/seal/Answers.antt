@@ -7,6 +7,6 @@ returns c =
     let key : List ℕ = c.args.key.now in
     let old : List ℕ = c.args.buf.now in
     let n : ℕ = length old - 16 in
-    sealed_is key c.args.nonce.now c.args.aad.now old c.mask.new.bytes (take n old) c.masked_tag_of-tag.result c.put_tag.new.bytes n
-    (omega arith) refl (c.mask.ensures key c.expanded-words.ensures)
-    (c.masked_tag_of-tag.ensures key c.expanded-words.ensures) c.put_tag.ensures
+    sealed_is key c.args.nonce.now c.args.aad.now old c.seal_text-tag.new.bytes (take n old) c.seal_text-tag.result c.put_tag.new.bytes n
+    (omega arith) refl (c.seal_text-tag.ensures.text key c.expanded-words.ensures)
+    (c.seal_text-tag.ensures.tag key c.expanded-words.ensures) c.put_tag.ensures

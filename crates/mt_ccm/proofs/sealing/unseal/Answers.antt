@@ -11,32 +11,32 @@ pub returns-then-whole-clause-opened : goal.returns-then-whole-clause-opened
 returns-then-whole-clause-opened c =
     let key : List ℕ = c.args.key.now in
     let old : List ℕ = c.args.buf.now in
-    let middle : List ℕ = c.mask.new.bytes in
+    let middle : List ℕ = c.open_text-tag.new.bytes in
     let n : ℕ = length old - 16 in
-    opened_is key c.args.nonce.now c.args.aad.now old middle (take n middle) c.masked_tag_of-tag.result n
-    (omega arith) refl (c.mask.ensures key c.expanded-words.ensures)
-    (c.masked_tag_of-tag.ensures key c.expanded-words.ensures) (c.ends_with_tag-whole.ensures.0 c.if-whole.true)
+    opened_is key c.args.nonce.now c.args.aad.now old middle (take n middle) c.open_text-tag.result n
+    (omega arith) refl (c.open_text-tag.ensures.text key c.expanded-words.ensures)
+    (c.open_text-tag.ensures.tag key c.expanded-words.ensures) (c.ends_with_tag-whole.ensures.0 c.if-whole.true)
 
 pub returns-then-whole-clause-rest : goal.returns-then-whole-clause-rest
 returns-then-whole-clause-rest c =
     let old : List ℕ = c.args.buf.now in
-    back_is c.args.key.now c.args.nonce.now c.args.aad.now old c.mask.new.bytes (length old - 16) (omega arith)
-    (c.mask.ensures c.args.key.now c.expanded-words.ensures)
+    back_is c.args.key.now c.args.nonce.now c.args.aad.now old c.open_text-tag.new.bytes (length old - 16) (omega arith)
+    (c.open_text-tag.ensures.text c.args.key.now c.expanded-words.ensures)
 
 pub returns-clause-refused : goal.returns-clause-refused
 returns-clause-refused c = λ plain is.
     let key : List ℕ = c.args.key.now in
     let old : List ℕ = c.args.buf.now in
-    let middle : List ℕ = c.mask.new.bytes in
+    let middle : List ℕ = c.open_text-tag.new.bytes in
     let n : ℕ = length old - 16 in
     both_ways _ c.if-whole.false (c.ends_with_tag-whole.ensures.1
-    (same_tag key c.args.nonce.now c.args.aad.now plain old middle (take n middle) c.masked_tag_of-tag.result n
-    (omega arith) refl (c.mask.ensures key c.expanded-words.ensures)
-    (c.masked_tag_of-tag.ensures key c.expanded-words.ensures) is))
+    (same_tag key c.args.nonce.now c.args.aad.now plain old middle (take n middle) c.open_text-tag.result n
+    (omega arith) refl (c.open_text-tag.ensures.text key c.expanded-words.ensures)
+    (c.open_text-tag.ensures.tag key c.expanded-words.ensures) is))
 
 pub returns-clause-kept : goal.returns-clause-kept
 returns-clause-kept c =
     let key : List ℕ = c.args.key.now in
     let old : List ℕ = c.args.buf.now in
-    put_back key c.args.nonce.now c.args.aad.now old c.mask.new.bytes c.mask-2.new.bytes (length old - 16) (omega arith)
-    (c.mask.ensures key c.expanded-words.ensures) (c.mask-2.ensures key c.expanded-words.ensures)
+    put_back key c.args.nonce.now c.args.aad.now old c.open_text-tag.new.bytes c.mask.new.bytes (length old - 16) (omega arith)
+    (c.open_text-tag.ensures.text key c.expanded-words.ensures) (c.mask.ensures key c.expanded-words.ensures)
