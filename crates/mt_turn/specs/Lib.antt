@@ -1,0 +1,5 @@
+pub mod Counts
+pub mod Known
+pub mod Rule
+pub mod Resting
+pub mod History
