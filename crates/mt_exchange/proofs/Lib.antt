@@ -1,0 +1,7 @@
+pub mod Answered
+pub mod Fields
+pub mod Keys
+pub mod Places
+pub mod Received
+pub mod Reported
+pub mod Sealings

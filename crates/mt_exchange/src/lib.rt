@@ -1,0 +1,30 @@
+//! The exchanges of a session (Matter Core Specification, section 4.10, Message Exchanges, and section 4.11,
+//! Message Reliability Protocol): what a message that was let in is, what is sent for it, what is kept to be
+//! sent later, and what is sent again until it is acknowledged.
+//!
+//! - `exchange`: an open exchange, and its key;
+//! - `lists`: what is handed out in lists;
+//! - `turn`: what a message is;
+//! - `payloads`: what a message of the interaction model says of its exchange;
+//! - `table`: the open exchanges, by rising key;
+//! - `exchanges`: the exchanges of a session;
+//! - `receiving`, `sending`, `resending`: its calls.
+#![tactic(auto)]
+
+mod exchange;
+mod exchanges;
+mod lists;
+mod payloads;
+mod receiving;
+mod resending;
+mod sending;
+mod table;
+mod turn;
+
+pub use exchange::{Exchange, Key, Owed};
+pub use exchanges::Exchanges;
+pub use lists::{Datagrams, EndTime, EndTimes, Ends};
+pub use turn::Turn;
+
+#[cfg(test)]
+mod tests;
