@@ -1,0 +1,4 @@
+pub mod Gaps
+pub mod Places
+pub mod Tables
+pub mod Walks
