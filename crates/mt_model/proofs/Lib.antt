@@ -1,4 +1,5 @@
 pub mod Bare
+pub mod Entries
 pub mod Fabrics
 pub mod Order
 pub mod Places

@@ -117,11 +117,11 @@ are_entries fabrics entries = list_all is_entry entries
 
 -- Sessions.
 
--- a session of CASE has a fabric, one of PASE has none
-abbrev pub is_established : Auth → List ℕ → ℕ → Bool
-is_established Pase root_key fabric_id = (length root_key == 0) && (fabric_id == 0)
-is_established Case root_key fabric_id = length root_key == ROOT_KEY_BYTES
-is_established Group root_key fabric_id = false
+-- a session of CASE has a fabric, one of PASE has none and names no nodes
+abbrev pub is_established : SessionRow → Auth → Bool
+is_established row Pase = (length row.root_key == 0) && (row.fabric_id == 0) && (row.own_node == 0) && (row.peer_node == 0)
+is_established row Case = length row.root_key == ROOT_KEY_BYTES
+is_established row Group = false
 
 -- 0, which stands for none, or a CAT whose version is not 0
 abbrev pub is_cat_or_none : ℕ → Bool
@@ -131,7 +131,7 @@ abbrev pub is_session : SessionRow → Bool
 is_session row = nat_le 1 row.session
     && nat_le 1 row.peer_session
     && nat_le 1 row.boot
-    && is_established row.auth row.root_key row.fabric_id
+    && is_established row row.auth
     && list_all is_cat_or_none row.cats
 
 abbrev pub have_one_session : SessionRow → SessionRow → Bool

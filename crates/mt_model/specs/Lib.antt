@@ -1,9 +1,13 @@
 pub mod Access
 pub mod Blocks
 pub mod Config
+pub mod Contents
 pub mod Devices
+pub mod Entries
 pub mod Events
 pub mod Order
+pub mod Seen
 pub mod Sight
 pub mod Status
+pub mod Trees
 pub mod Verdicts

@@ -1,9 +1,10 @@
-//! Laws of the order of rows, over its definitions alone. Each is the contract of a function that does
-//! nothing.
+//! Laws of the order of rows and of the form of access control entries, over the definitions alone. Each
+//! is the contract of a function that does nothing.
 
-ghost use Rattle.std.specs.Prelude.{◌≡◌, ℕ, IsTrue, List, filter, map};
+ghost use Rattle.std.specs.Prelude.{◌≡◌, ℕ, IsTrue, List, Some, filter, map};
 ghost use Rattle.mt_tlv.specs.declared.value.Value.{Value};
 ghost use Rattle.mt_model.specs.Config.{are_numbered_from, ascend_from};
+ghost use Rattle.mt_model.specs.Entries.{entry_in, entry_value};
 ghost use Rattle.mt_model.specs.Order.{are_ascending, entry_rows, fabric_rows, fabrics_ascend, in_order};
 ghost use Rattle.mt_model.specs.Sight.{seen_by, stands_at};
 ghost use Rattle.mt_model.specs.declared.access.AclEntry.{AclEntry};
@@ -43,4 +44,9 @@ pub fn numbered_fabrics_ascend()
 /// What a fabric sees of rows in order is in order.
 pub fn in_order_sees()
     ensures { (fabric other : ℕ) (rows : List Row) → map (seen_by fabric) (in_order other rows) ≡ in_order other (map (seen_by fabric) rows) }
+{}
+
+/// The value that an access control entry is written as is read as that entry.
+pub fn entries_are_read_again()
+    ensures { (entry : AclEntry) → entry_in (entry_value entry) ≡ Some entry }
 {}

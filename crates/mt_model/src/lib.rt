@@ -3,6 +3,7 @@
 #![tactic(auto)]
 
 mod access;
+mod action;
 mod config;
 mod fabric;
 mod laws;
@@ -19,13 +20,14 @@ mod status;
 mod verdicts;
 
 pub use access::{AclEntries, AclEntry, Actor, Auth, Privilege, Subjects, Target, Targets};
+pub use action::{Action, NodeStep, PlainDeadline, PlainDeadlines, SessionIds, Steps, Values};
 pub use config::{
     Config, CsrRow, CsrRows, JoinRow, JoinRows, RootRow, RootRows, SessionRow, SessionRows, Ssids,
 };
 pub use fabric::{Credentials, Fabric, Fabrics};
 pub use laws::{
-    entries_are_in_order, fabrics_are_in_order, in_order_sees, numbered_fabrics_ascend,
-    rows_of_a_place_are_in_order,
+    entries_are_in_order, entries_are_read_again, fabrics_are_in_order, in_order_sees,
+    numbered_fabrics_ascend, rows_of_a_place_are_in_order,
 };
 pub use listed::{ExactCopy, Listed};
 pub use message::{

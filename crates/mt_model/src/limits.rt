@@ -27,6 +27,9 @@ pub const PASE_SESSIONS: usize = 4;
 /// The most exchanges that a peer may have open on one session.
 pub const EXCHANGES: usize = 4;
 
+/// The most plain actors of one fabric that may have a deadline at once.
+pub const PLAIN_DEADLINES: usize = 4;
+
 /// The most attribute and event paths of one request.
 pub const PATHS: usize = 16;
 

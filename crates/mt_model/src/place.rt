@@ -120,7 +120,8 @@ impl Rows {
 
     /// The rows of a place, lent: by ascending fabric, and in the order of the list.
     pub fn at(&self, place: &Place) -> &[Row]
-        ensures { result.now ≡ filter (stands_at place.now) self.now }
+        ensures value { result.now ≡ filter (stands_at place.now) self.now }
+        ensures ascending { IsTrue (are_ascending result.now) }
     {
         let rows = self.rows.as_slice();
         let begin = rows.partition_point(

@@ -209,51 +209,6 @@ fn others_see_whose_an_entry_is_and_no_more(rt: HostRuntime) -> Result<(), Fail>
     Ok(())
 }
 
-fn rows_in_three_kinds(alloc: Global) -> Result<TableVerdicts, AllocError> {
-    let root = RootRow {
-        cert: Bytes::from_slice(alloc, b"\xa3")?,
-        key: Bytes::from_slice(alloc, b"\x04")?,
-    };
-    let csr = CsrRow {
-        nonce: Bytes::from_slice(alloc, b"\x0e")?,
-        elements: Bytes::from_slice(alloc, b"\xd1")?,
-        signature: Bytes::from_slice(alloc, b"\xd2")?,
-    };
-    let join = JoinRow {
-        root: Bytes::from_slice(alloc, b"\xa3")?,
-        noc: Bytes::from_slice(alloc, b"\xb3")?,
-        icac: Bytes::new(alloc),
-        nonce: Bytes::from_slice(alloc, b"\x0e")?,
-        fabric_id: 3,
-        node_id: 30,
-    };
-    Ok(TableVerdicts {
-        roots: Listed::from_vec(vec![in alloc; root]?),
-        csrs: Listed::from_vec(vec![in alloc; csr]?),
-        joins: Listed::from_vec(vec![in alloc; join]?),
-    })
-}
-
-#[test]
-fn verdicts_are_found_by_what_they_judge(rt: HostRuntime) -> Result<(), Fail> {
-    let verdicts = rows_in_three_kinds(rt.alloc())?;
-    assert_eq!(rt;
-        verdicts.root(b"\xa3").map(|row| row.key.as_slice().len()),
-        Some(1)
-    );
-    assert!(rt; verdicts.root(b"\xa4").is_none());
-    assert!(rt; verdicts.csr(b"\x0e").is_some());
-    assert!(rt; verdicts.csr(b"\x0f").is_none());
-    assert_eq!(rt;
-        verdicts
-            .join(b"\xa3", b"\xb3", b"")
-            .map(|row| row.fabric_id),
-        Some(3)
-    );
-    assert!(rt; verdicts.join(b"\xa3", b"\xb3", b"\xc3").is_none());
-    Ok(())
-}
-
 // A structure with values and tags of all kinds, in many widths.
 fn all_kinds(alloc: Global) -> Result<Value, AllocError> {
     let strings = vec![in alloc;

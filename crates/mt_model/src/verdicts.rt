@@ -1,7 +1,8 @@
 //! Verdicts on certificates, which are handed in: the node parses none itself.
 
-ghost use Rattle.std.specs.Prelude.{◌≡◌, List, IfOk, option_copied};
-ghost use Rattle.std.specs.List.{find};
+ghost use Rattle.std.specs.Prelude.{◌≡◌, List, IfOk, IsTrue, option_copied};
+ghost use Rattle.std.specs.List.{find, list_all};
+ghost use Rattle.mt_model.specs.Config.{is_csr, is_join, is_root};
 ghost use Rattle.mt_model.specs.Verdicts.{is_chain_of, is_cert_of, is_nonce_of};
 ghost use Rattle.mt_model.specs.declared.config.CsrRow.{CsrRow};
 ghost use Rattle.mt_model.specs.declared.config.JoinRow.{JoinRow};
@@ -12,7 +13,8 @@ use crate::listed::ExactCopy;
 use std::alloc::AllocError;
 
 /// What was judged of certificates. A call answers the first row that fits, and None exactly where
-/// none fits: what no row speaks of is no good.
+/// none fits: what no row speaks of is no good. Every row keeps the rules of its kind (lengths of
+/// certificates, keys, nonces and signatures).
 pub trait Verdicts {
     /// The rows on root certificates.
     ghost roots: { Self → List RootRow };
@@ -25,15 +27,18 @@ pub trait Verdicts {
 
     /// The verdict on a root certificate.
     fn root(&self, cert: &[u8]) -> Option<&RootRow>
-        ensures { option_copied result ≡ find (is_cert_of cert.now) (roots self.now) };
+        ensures first { option_copied result ≡ find (is_cert_of cert.now) (roots self.now) }
+        ensures rules { IsTrue (list_all is_root (roots self.now)) };
 
     /// The answer to a request for a certificate signing request with this nonce.
     fn csr(&self, nonce: &[u8]) -> Option<&CsrRow>
-        ensures { option_copied result ≡ find (is_nonce_of nonce.now) (csrs self.now) };
+        ensures first { option_copied result ≡ find (is_nonce_of nonce.now) (csrs self.now) }
+        ensures rules { IsTrue (list_all is_csr (csrs self.now)) };
 
     /// The verdict on a node's certificate under a root, with or without one between them.
     fn join(&self, root: &[u8], noc: &[u8], icac: &[u8]) -> Option<&JoinRow>
-        ensures { option_copied result ≡ find (is_chain_of root.now noc.now icac.now) (joins self.now) };
+        ensures first { option_copied result ≡ find (is_chain_of root.now noc.now icac.now) (joins self.now) }
+        ensures rules { IsTrue (list_all is_join (joins self.now)) };
 }
 
 /// The verdicts of a configuration.
@@ -42,12 +47,18 @@ pub struct TableVerdicts {
     pub roots: RootRows,
     pub csrs: CsrRows,
     pub joins: JoinRows,
+    pub ghost roots_keep_rules: { IsTrue (list_all is_root roots) },
+    pub ghost csrs_keep_rules: { IsTrue (list_all is_csr csrs) },
+    pub ghost joins_keep_rules: { IsTrue (list_all is_join joins) },
 }
 
 impl TableVerdicts {
     /// A copy of the verdicts of a configuration.
+    #[tactic(auto, unfolding(crate::specs::Config::are_roots, crate::specs::Config::are_csrs, crate::specs::Config::are_joins))]
     pub fn new(config: &Config) -> Result<TableVerdicts, AllocError>
-        ensures { IfOk result (λ verdicts. verdicts ≡ record { roots = config.now.roots; csrs = config.now.csrs; joins = config.now.joins }) }
+        ensures roots { IfOk result (λ verdicts. verdicts.roots ≡ config.now.roots) }
+        ensures csrs { IfOk result (λ verdicts. verdicts.csrs ≡ config.now.csrs) }
+        ensures joins { IfOk result (λ verdicts. verdicts.joins ≡ config.now.joins) }
     {
         Ok(TableVerdicts {
             roots: config.roots.copy()?,

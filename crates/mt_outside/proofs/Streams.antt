@@ -1,4 +1,4 @@
--- What was read and written, call after call. Crates above use these lemmas too.
+-- What was read and written, call after call.
 use Rattle.std.proofs.Common.{◌≡◌, ℕ, ◌+◌, ◌-◌, ◌<◌, ◌≤◌, List, [], ◌++◌, length, take, drop, Option, Some, None, refl, sym, ap, subst, ◌∙◌, append_assoc, arith, take-add}
 use Rattle.std.specs.Prelude.{IfSome}
 use Rattle.std.proofs.lemmas.List.{append-nil, take-append-drop, length-append, length-drop, take_all, nil_from_length}

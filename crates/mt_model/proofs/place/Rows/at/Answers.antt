@@ -4,12 +4,12 @@ use Rattle.std.proofs.lemmas.List.Sorted.{IsPartitionPoint-from_clause}
 use Rattle.mt_model.specs.Order.{are_ascending}
 use Rattle.mt_model.specs.Sight.{stands_at}
 use Rattle.mt_model.specs.declared.place.Row.{Row}
-use Rattle.mt_model.proofs.Order.{ascending-drop}
+use Rattle.mt_model.proofs.Order.{ascending-drop, ascending-take}
 use Rattle.mt_model.proofs.Places.{is_before, is_no_later, before_parts, later_parts, place_rest}
 use Rattle.mt_model.proofs.place.Rows.at.Goals as goal
 
-pub returns : goal.returns
-returns c =
+pub returns-clause-value : goal.returns-clause-value
+returns-clause-value c =
     let place = c.args.place.now in
     let rows = c.as_slice-rows.result.now in
     let begin = c.partition_point-begin.result in
@@ -23,3 +23,11 @@ returns c =
     let second = IsPartitionPoint-from_clause (is_no_later place) rest end c.partition_point-end.ensures.partitioned (later_parts place rest up_on) (λ a r q k. search rules) in
     place_rest place rows rest begin end same c.partition_point-begin.ensures.bound c.partition_point-end.ensures.bound first second
     ∙ ap (filter (stands_at place)) (value ∙ c.self.view_is)
+
+pub returns-clause-ascending : goal.returns-clause-ascending
+returns-clause-ascending c =
+    let rows = c.as_slice-rows.result.now in
+    let begin = c.partition_point-begin.result in
+    let value : rows ≡ c.self.inside.rows.items = c.as_slice-rows.ensures.value in
+    let up : are_ascending rows ≡ true = subst (λ (l : List Row). are_ascending l ≡ true) (sym value) c.self.invariant in
+    ascending-take c.partition_point-end.result _ (ascending-take (length rows - begin) (drop begin rows) (ascending-drop begin rows up))
