@@ -3,7 +3,7 @@ use Rattle.std.proofs.Common.{◌≡◌, List, [], ◌∷◌, refl}
 use Rattle.mt_tlv.specs.Tree.{Tree, int, uint, bool, text, octets, null, bits32, bits64, structure, array, list, more}
 use Rattle.mt_tlv.specs.View.{elements, tree}
 use Rattle.mt_tlv.specs.declared.value.Tag.TheVariants.{Anonymous}
-use Rattle.mt_machine.specs.Computed.{untagged}
+use Rattle.mt_model.specs.Trees.{untagged}
 use Rattle.mt_apps.specs.Members.{members, value_of}
 
 tree_of_value : (t : Tree) → tree (value_of t) ≡ t

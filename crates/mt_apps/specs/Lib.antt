@@ -1,2 +1,12 @@
+pub mod AccessControl
+pub mod BasicInformation
+pub mod Computed
+pub mod Descriptor
+pub mod GeneralCommissioning
+pub mod Globals
 pub mod Members
+pub mod NetworkCommissioning
+pub mod OperationalCredentials
+pub mod Parts
+pub mod Places
 pub mod Seen

@@ -1,5 +1,5 @@
 -- What of a view the computed rows are computed from.
-use Rattle.mt_machine.specs.Computed.{Parts}
+use Rattle.mt_apps.specs.Parts.{Parts}
 use Rattle.mt_model.specs.declared.sight.View.{View}
 
 abbrev pub parts_in : View → Parts

@@ -1,14 +1,20 @@
-//! Untagged of values, and what stands in them.
+//! Arrays of values, and what stands in them.
 
 ghost use Rattle.std.specs.Prelude.{◌≡◌, List, IfOk};
 ghost use Rattle.mt_tlv.specs.Tree.{Tree, octets, uint};
 ghost use Rattle.mt_tlv.specs.View.{elements, tree};
-ghost use Rattle.mt_machine.specs.Computed.{array_of, device_tree, network_tree, nullable, target_tree};
+ghost use Rattle.mt_model.specs.Trees.{array_of, nullable};
+ghost use Rattle.mt_apps.specs.Descriptor.{device_tree};
+ghost use Rattle.mt_apps.specs.NetworkCommissioning.{network_tree};
+ghost use Rattle.mt_model.specs.Entries.{target_tree};
 ghost use Rattle.mt_apps.specs.Members.{member, members, value_of};
 
 use mt_model::{Network, Target};
 use mt_tlv::{Bytes, Members, Tag, Value};
 use std::alloc::{AllocError, Global};
+
+/// The field of an item that names its fabric.
+pub(crate) const FABRIC_INDEX: u8 = 254;
 
 /// What can stand in an array.
 pub(crate) trait Member {

@@ -1,17 +1,27 @@
 //! The rows of attributes that are not stored but follow from the other parts of the node's state, and
-//! from what never changes (Matter Core Specification, chapters 7, 9 and 11).
+//! from what never changes (Matter Core Specification, chapters 7, 9 and 11). What is computed of a
+//! cluster stands in the file of its name.
 //!
+//! - `rows`: the rows of a place;
+//! - `globals`: the attributes that every cluster has;
+//! - `descriptor`, `access_control`, `basic_information`, `general_commissioning`,
+//!   `network_commissioning`, `operational_credentials`: those of each cluster's own;
 //! - `arrays`: arrays of values;
-//! - `lists`: access control entries, operational certificates and fabrics as rows;
-//! - `values`: the value of an attribute that has one row;
-//! - `rows`: the rows of a place.
+//! - `laws`: that every place has its rows.
 #![tactic(auto)]
 
+mod access_control;
 mod arrays;
-mod lists;
+mod basic_information;
+mod descriptor;
+mod general_commissioning;
+mod globals;
+mod laws;
+mod network_commissioning;
+mod operational_credentials;
 mod rows;
-mod values;
 
+pub use laws::places_have_their_rows;
 pub use rows::rows_at;
 
 #[cfg(test)]

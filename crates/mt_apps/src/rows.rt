@@ -1,14 +1,23 @@
 //! The computed rows of a place.
 
-ghost use Rattle.std.specs.Prelude.{◌≡◌, map, IfOk};
-ghost use Rattle.mt_model.specs.Sight.{is_acl, is_nocs};
-ghost use Rattle.mt_machine.specs.Computed.{computed_rows, entry_row, fabric_row, is_fabrics, noc_row, value_rows};
+ghost use Rattle.std.specs.Prelude.{◌≡◌, IfOk};
+ghost use Rattle.mt_apps.specs.Computed.{computed_rows, computed_value, particular_value, value_rows};
 ghost use Rattle.mt_apps.specs.Seen.{parts_in};
 
-use crate::lists::{entry_rows, fabric_rows, noc_rows};
-use crate::values::computed_value;
-use mt_meta::clusters::{ACCESS_CONTROL, OPERATIONAL_CREDENTIALS};
-use mt_model::{Place, Row, Rows, View, entries_are_in_order, fabrics_are_in_order};
+use crate::access_control::{access_control_value, acl_rows, is_acl};
+use crate::basic_information::basic_information_value;
+use crate::descriptor::descriptor_value;
+use crate::general_commissioning::general_commissioning_value;
+use crate::globals::global_value;
+use crate::network_commissioning::network_commissioning_value;
+use crate::operational_credentials::{
+    fabrics_rows, is_fabrics, is_nocs, nocs_rows, operational_credentials_value,
+};
+use mt_meta::clusters::{
+    ACCESS_CONTROL, BASIC_INFORMATION, DESCRIPTOR, GENERAL_COMMISSIONING, NETWORK_COMMISSIONING,
+    OPERATIONAL_CREDENTIALS,
+};
+use mt_model::{Place, Row, Rows, View};
 use mt_tlv::Value;
 use std::alloc::{AllocError, Global};
 
@@ -16,7 +25,7 @@ use std::alloc::{AllocError, Global};
 /// and of the fabrics one for each item, and one for each other attribute that is not stored. There are
 /// none where the rows are stored, and none of the reader's own fabric. It takes memory for the rows
 /// alone.
-#[tactic(auto, unfolding(mt_machine::specs::Computed::computed_rows))]
+#[tactic(auto, unfolding(crate::specs::Computed::computed_rows))]
 pub fn rows_at(alloc: Global, view: &View, place: &Place) -> Result<Rows, AllocError>
     ensures { IfOk result (λ rows. rows ≡ computed_rows (parts_in view.now) place.now) }
 {
@@ -32,48 +41,6 @@ pub fn rows_at(alloc: Global, view: &View, place: &Place) -> Result<Rows, AllocE
     value_rows(alloc, place, computed_value(alloc, view, place)?)
 }
 
-fn is_acl(place: &Place) -> bool
-    ensures { result ≡ is_acl place.now }
-{
-    place.cluster == ACCESS_CONTROL && place.leaf == 0
-}
-
-fn is_nocs(place: &Place) -> bool
-    ensures { result ≡ is_nocs place.now }
-{
-    place.cluster == OPERATIONAL_CREDENTIALS && place.leaf == 0
-}
-
-fn is_fabrics(place: &Place) -> bool
-    ensures { result ≡ is_fabrics place.now }
-{
-    place.cluster == OPERATIONAL_CREDENTIALS && place.leaf == 1
-}
-
-fn acl_rows(alloc: Global, view: &View, place: &Place) -> Result<Rows, AllocError>
-    ensures { IfOk result (λ rows. rows ≡ map (entry_row place.now) view.now.entries.now) }
-{
-    let rows = entry_rows(alloc, place, view.entries.as_slice())?;
-    entries_are_in_order();
-    Ok(Rows::from_vec(rows))
-}
-
-fn nocs_rows(alloc: Global, view: &View, place: &Place) -> Result<Rows, AllocError>
-    ensures { IfOk result (λ rows. rows ≡ map (noc_row place.now) view.now.fabrics.now) }
-{
-    let rows = noc_rows(alloc, place, view.fabrics.as_slice())?;
-    fabrics_are_in_order();
-    Ok(Rows::from_vec(rows))
-}
-
-fn fabrics_rows(alloc: Global, view: &View, place: &Place) -> Result<Rows, AllocError>
-    ensures { IfOk result (λ rows. rows ≡ map (fabric_row place.now) view.now.fabrics.now) }
-{
-    let rows = fabric_rows(alloc, place, view.fabrics.as_slice())?;
-    fabrics_are_in_order();
-    Ok(Rows::from_vec(rows))
-}
-
 // A row of no fabric, where there is a value.
 fn value_rows(alloc: Global, place: &Place, value: Option<Value>) -> Result<Rows, AllocError>
     ensures { IfOk result (λ rows. rows ≡ value_rows place.now value) }
@@ -87,4 +54,29 @@ fn value_rows(alloc: Global, place: &Place, value: Option<Value>) -> Result<Rows
         value,
     };
     Ok(Rows::from_vec(vec![in alloc; row]?))
+}
+
+// The value that is computed at the place; None where there is none.
+fn computed_value(alloc: Global, view: &View, place: &Place) -> Result<Option<Value>, AllocError>
+    ensures { IfOk result (λ value. value ≡ computed_value (parts_in view.now) place.now) }
+{
+    match global_value(alloc, place.cluster, place.leaf)? {
+        Some(value) => Ok(Some(value)),
+        None => particular_value(alloc, view, place),
+    }
+}
+
+// An attribute of the cluster's own.
+fn particular_value(alloc: Global, view: &View, place: &Place) -> Result<Option<Value>, AllocError>
+    ensures { IfOk result (λ value. value ≡ particular_value (parts_in view.now) place.now) }
+{
+    match place.cluster {
+        DESCRIPTOR => descriptor_value(alloc, place.endpoint, place.leaf),
+        ACCESS_CONTROL => Ok(access_control_value(place.leaf)),
+        BASIC_INFORMATION => basic_information_value(alloc, place.leaf),
+        GENERAL_COMMISSIONING => general_commissioning_value(alloc, place.leaf),
+        NETWORK_COMMISSIONING => network_commissioning_value(alloc, view.networks, place.leaf),
+        OPERATIONAL_CREDENTIALS => operational_credentials_value(alloc, view, place.leaf),
+        _ => Ok(None),
+    }
 }

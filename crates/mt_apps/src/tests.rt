@@ -287,6 +287,7 @@ fn rows_are_computed(rt: HostRuntime) -> Result<(), Fail> {
         networks: &networks,
         armed: None,
     };
+    places_have_their_rows();
     for case in &CASES {
         check(&rt, alloc, &view, case)?;
     }

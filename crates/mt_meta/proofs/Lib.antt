@@ -1,1 +1,3 @@
 pub mod TableFacts
+pub mod FirstFacts
+pub mod SensitiveFacts

@@ -1,5 +1,5 @@
 -- What holds of the table as a whole.
-use Rattle.std.proofs.Common.{ℕ, ◌≡◌, ◌==◌, ◌&&◌, ◌||◌, ◌++◌, Bool, true, false, List, [], ◌∷◌, Option, Some, None, not, inl, inr, if◌then◌else◌, is_some, is_ok, map, refl, sym, ◌∙◌, ap}
+use Rattle.std.proofs.Common.{ℕ, ◌≡◌, ◌==◌, ◌&&◌, ◌||◌, Bool, true, false, List, [], ◌∷◌, Option, Some, None, not, inl, inr, if◌then◌else◌, is_some, is_ok, map, refl, sym, ◌∙◌, ap}
 use Rattle.std.specs.Prelude.{All, IsTrue, ok_or}
 use Rattle.std.specs.List.{find, list_any, flat_map}
 use Rattle.std.specs.Option.{option_map}
@@ -13,13 +13,13 @@ use Rattle.mt_model.specs.Devices.{device_of}
 use Rattle.mt_model.specs.declared.place.Place.{Place}
 use Rattle.mt_model.specs.declared.status.Status.{Status}
 use Rattle.mt_model.specs.declared.status.Status.TheVariants.{UnsupportedEndpoint, UnsupportedCluster, UnsupportedAttribute}
-use Rattle.mt_meta.specs.declared.table.AttributeRow.{AttributeRow}
-use Rattle.mt_meta.specs.Table.{attributes_of, clusters_of, endpoints, globals}
+use Rattle.mt_meta.specs.declared.rows.AttributeRow.{AttributeRow}
+use Rattle.mt_meta.specs.Table.{all_attributes_of, attributes_of, clusters_of, endpoints, extensions_of, globals}
 use Rattle.mt_meta.specs.Places.{all_places, ascend, is_named, place_of, places, places_of_cluster, places_of_endpoint, is_at}
 use Rattle.mt_meta.specs.Finding.{attribute_of, find_of, found, is_endpoint, has_cluster}
 
 pub all-ascend : IsTrue (ascend all_places)
-unfolding endpoints clusters_of attributes_of globals
+unfolding endpoints clusters_of attributes_of globals extensions_of
 all-ascend = refl
 
 -- Numbers.
@@ -72,14 +72,14 @@ any-at a p (x ∷ xs) = ap (λ rest. ((x == a) && p x) || rest) (any-at a p xs) 
 
 -- whether the cluster has the place's attribute
 has_attribute : Place → ℕ → Bool
-has_attribute place cluster = list_any (λ (row : AttributeRow). row.number == place.leaf) (attributes_of cluster ++ globals)
+has_attribute place cluster = list_any (λ (row : AttributeRow). row.number == place.leaf) (all_attributes_of cluster)
 
 in-cluster : (place : Place) (endpoint cluster : ℕ) → list_any (is_at place) (places_of_cluster endpoint cluster) ≡ (endpoint == place.endpoint && (cluster == place.cluster && has_attribute place cluster))
 unfolding has_attribute
 in-cluster place endpoint cluster =
-    any-map (is_at place) (place_of endpoint cluster) (attributes_of cluster ++ globals)
-    ∙ any-and (endpoint == place.endpoint) (λ (row : AttributeRow). cluster == place.cluster && row.number == place.leaf) (attributes_of cluster ++ globals)
-    ∙ ap (λ rest. endpoint == place.endpoint && rest) (any-and (cluster == place.cluster) (λ (row : AttributeRow). row.number == place.leaf) (attributes_of cluster ++ globals))
+    any-map (is_at place) (place_of endpoint cluster) (all_attributes_of cluster)
+    ∙ any-and (endpoint == place.endpoint) (λ (row : AttributeRow). cluster == place.cluster && row.number == place.leaf) (all_attributes_of cluster)
+    ∙ ap (λ rest. endpoint == place.endpoint && rest) (any-and (cluster == place.cluster) (λ (row : AttributeRow). row.number == place.leaf) (all_attributes_of cluster))
 
 in-endpoint : (place : Place) (endpoint : ℕ) → list_any (is_at place) (places_of_endpoint endpoint) ≡ (endpoint == place.endpoint && (has_cluster endpoint place.cluster && has_attribute place place.cluster))
 in-endpoint place endpoint =
@@ -113,7 +113,7 @@ found-step true true row no_endpoint no_cluster no_row = is_ok-ok_or row no_row
 
 has_attribute-row : (place : Place) → is_some (attribute_of place) ≡ has_attribute place place.cluster
 unfolding has_attribute
-has_attribute-row place = let rows = attributes_of place.cluster ++ globals in is_some-map (λ (row : AttributeRow). row.meta) (find (λ row. row.number == place.leaf) rows) ∙ is_some-find (λ (row : AttributeRow). row.number == place.leaf) rows
+has_attribute-row place = let rows = all_attributes_of place.cluster in is_some-map (λ (row : AttributeRow). row.meta) (find (λ row. row.number == place.leaf) rows) ∙ is_some-find (λ (row : AttributeRow). row.number == place.leaf) rows
 
 pub found-listed : (place : Place) → is_ok (find_of place) ≡ list_any (is_at place) all_places
 found-listed place =

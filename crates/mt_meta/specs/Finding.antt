@@ -1,6 +1,6 @@
 -- What the table says of a place, or the status with which what is not there is refused, and the privilege that is
 -- asked of whoever wants something of a place.
-use Rattle.std.specs.Prelude.{ℕ, ◌==◌, not, Bool, if◌then◌else◌, ◌++◌, Option, Some, None, Result, Ok, Err, ok_or}
+use Rattle.std.specs.Prelude.{ℕ, ◌==◌, not, Bool, if◌then◌else◌, Option, Some, None, Result, Ok, Err, ok_or}
 use Rattle.std.specs.List.{find, list_any}
 use Rattle.std.specs.Option.{option_map}
 use Rattle.std.specs.Result.{result_unwrap_or}
@@ -14,10 +14,10 @@ use Rattle.mt_meta.specs.declared.finding.Asked.TheVariants.{Read, Write, Comman
 use Rattle.mt_meta.specs.declared.meta.CommandMeta.{CommandMeta}
 use Rattle.mt_meta.specs.declared.meta.EventMeta.{EventMeta}
 use Rattle.mt_meta.specs.declared.meta.Meta.{Meta}
-use Rattle.mt_meta.specs.declared.table.AttributeRow.{AttributeRow}
-use Rattle.mt_meta.specs.declared.table.CommandRow.{CommandRow}
-use Rattle.mt_meta.specs.declared.table.EventRow.{EventRow}
-use Rattle.mt_meta.specs.Table.{attributes_of, clusters_of, commands_of, endpoints, events_of, globals}
+use Rattle.mt_meta.specs.declared.rows.AttributeRow.{AttributeRow}
+use Rattle.mt_meta.specs.declared.rows.CommandRow.{CommandRow}
+use Rattle.mt_meta.specs.declared.rows.EventRow.{EventRow}
+use Rattle.mt_meta.specs.Table.{all_attributes_of, clusters_of, commands_of, endpoints, events_of}
 
 abbrev pub is_endpoint : ℕ → Bool
 is_endpoint endpoint = list_any (λ e. e == endpoint) endpoints
@@ -28,7 +28,7 @@ has_cluster endpoint cluster = list_any (λ c. c == cluster) (clusters_of endpoi
 -- the row of the place's attribute, command or event, whichever is asked for, in its cluster
 
 abbrev pub attribute_of : Place → Option Meta
-attribute_of place = option_map (λ (row : AttributeRow). row.meta) (find (λ row. row.number == place.leaf) (attributes_of place.cluster ++ globals))
+attribute_of place = option_map (λ (row : AttributeRow). row.meta) (find (λ row. row.number == place.leaf) (all_attributes_of place.cluster))
 
 abbrev pub command_of : Place → Option CommandMeta
 command_of place = option_map (λ (row : CommandRow). row.meta) (find (λ row. row.number == place.leaf) (commands_of place.cluster))

@@ -1,17 +1,17 @@
 -- The places of attributes, and those that a path names (Matter Core Specification, section 8.2.1, Path).
-use Rattle.std.specs.Prelude.{ℕ, ◌==◌, nat_lt, ◌&&◌, ◌||◌, not, Bool, true, false, is_none, List, [], ◌∷◌, ◌++◌, Option, Some, None, map, filter}
+use Rattle.std.specs.Prelude.{ℕ, ◌==◌, nat_lt, ◌&&◌, ◌||◌, not, Bool, true, false, is_none, List, [], ◌∷◌, Option, Some, None, map, filter}
 use Rattle.std.specs.List.{flat_map, list_any}
 use Rattle.mt_model.specs.declared.message.Path.{Path}
 use Rattle.mt_model.specs.declared.place.Place.{Place}
-use Rattle.mt_meta.specs.declared.table.AttributeRow.{AttributeRow}
-use Rattle.mt_meta.specs.Table.{attributes_of, clusters_of, endpoints, globals}
+use Rattle.mt_meta.specs.declared.rows.AttributeRow.{AttributeRow}
+use Rattle.mt_meta.specs.Table.{all_attributes_of, clusters_of, endpoints, globals}
 
 abbrev pub place_of : ℕ → ℕ → AttributeRow → Place
 place_of endpoint cluster row = record { endpoint = endpoint; cluster = cluster; leaf = row.number }
 
--- the places of a cluster on an endpoint: its own attributes, then the global ones
+-- the places of a cluster on an endpoint
 abbrev pub places_of_cluster : ℕ → ℕ → List Place
-places_of_cluster endpoint cluster = map (place_of endpoint cluster) (attributes_of cluster ++ globals)
+places_of_cluster endpoint cluster = map (place_of endpoint cluster) (all_attributes_of cluster)
 
 abbrev pub places_of_endpoint : ℕ → List Place
 places_of_endpoint endpoint = flat_map (places_of_cluster endpoint) (clusters_of endpoint)

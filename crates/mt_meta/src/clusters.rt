@@ -1,31 +1,43 @@
-//! The numbers of the node's clusters.
+//! The node's clusters, a module each: the cluster's number, those of its attributes, commands and
+//! events, and its rows of the table.
+
+pub mod access_control;
+pub mod basic_information;
+pub mod bench;
+pub mod binding;
+pub mod descriptor;
+pub mod general_commissioning;
+pub mod network_commissioning;
+pub mod on_off;
+pub mod operational_credentials;
+pub mod user_label;
 
 /// On/Off.
-pub const ON_OFF: u32 = 0x06;
+pub const ON_OFF: u32 = on_off::CLUSTER;
 
 /// Descriptor.
-pub const DESCRIPTOR: u32 = 0x1d;
+pub const DESCRIPTOR: u32 = descriptor::CLUSTER;
 
 /// Binding.
-pub const BINDING: u32 = 0x1e;
+pub const BINDING: u32 = binding::CLUSTER;
 
 /// Access Control.
-pub const ACCESS_CONTROL: u32 = 0x1f;
+pub const ACCESS_CONTROL: u32 = access_control::CLUSTER;
 
 /// Basic Information.
-pub const BASIC_INFORMATION: u32 = 0x28;
+pub const BASIC_INFORMATION: u32 = basic_information::CLUSTER;
 
 /// General Commissioning.
-pub const GENERAL_COMMISSIONING: u32 = 0x30;
+pub const GENERAL_COMMISSIONING: u32 = general_commissioning::CLUSTER;
 
 /// Network Commissioning.
-pub const NETWORK_COMMISSIONING: u32 = 0x31;
+pub const NETWORK_COMMISSIONING: u32 = network_commissioning::CLUSTER;
 
 /// Operational Credentials.
-pub const OPERATIONAL_CREDENTIALS: u32 = 0x3e;
+pub const OPERATIONAL_CREDENTIALS: u32 = operational_credentials::CLUSTER;
 
 /// User Label.
-pub const USER_LABEL: u32 = 0x41;
+pub const USER_LABEL: u32 = user_label::CLUSTER;
 
 /// Bench, a cluster of this project.
-pub const BENCH: u32 = 0xfff1_fc00;
+pub const BENCH: u32 = bench::CLUSTER;

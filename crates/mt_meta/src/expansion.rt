@@ -5,7 +5,8 @@ ghost use Rattle.std.specs.List.{flat_map, list_any};
 ghost use Rattle.mt_meta.specs.Finding.{find_of};
 ghost use Rattle.mt_meta.specs.Places.{fits, is_global, is_named, is_not_global, place_of, places, places_of_cluster, places_of_endpoint};
 
-use crate::table::{AttributeRow, attributes_of, clusters_of, endpoints, globals};
+use crate::rows::AttributeRow;
+use crate::table::{attributes_of, clusters_of, endpoints, extensions_of, globals};
 use mt_model::{Path, Place, Places};
 use std::alloc::{AllocError, Global};
 
@@ -81,6 +82,7 @@ fn push_cluster(
 {
     push_attributes(named, path, endpoint, cluster, attributes_of(cluster))?;
     push_attributes(named, path, endpoint, cluster, globals())?;
+    push_attributes(named, path, endpoint, cluster, extensions_of(cluster))?;
     Ok(())
 }
 

@@ -4,10 +4,14 @@ ghost use Rattle.std.specs.Prelude.{◌≡◌, ◌↔◌, ◌==◌, ◌++◌, if
 ghost use Rattle.std.specs.List.{find, list_any};
 ghost use Rattle.std.specs.Option.{option_map};
 ghost use Rattle.mt_model.specs.declared.status.Status.TheVariants.{UnsupportedEndpoint, UnsupportedCluster};
+ghost use Rattle.mt_meta.specs.Stored.{is_stored, is_stored_origin, origin_of};
 ghost use Rattle.mt_meta.specs.Finding.{attribute_of, command_of, event_of, find_command_of, find_event_of, find_of, has_cluster, is_endpoint, missing_of, privilege_found, privilege_of};
 
 use crate::meta::{CommandMeta, EventMeta, Meta};
-use crate::table::{attributes_of, clusters_of, commands_of, endpoints, events_of, globals};
+use crate::rows::Origin;
+use crate::table::{
+    attributes_of, clusters_of, commands_of, endpoints, events_of, extensions_of, globals,
+};
 use mt_model::{Place, Privilege, Status};
 
 /// What the table says of an attribute. What is not there is refused with UNSUPPORTED_ENDPOINT,
@@ -41,6 +45,17 @@ pub fn find_event(place: &Place) -> Result<EventMeta, Status>
         return Err(status);
     }
     event_of(place).ok_or(Status::UnsupportedEvent)
+}
+
+/// Whether the rows of a place are stored, as the table says. Those of all others are computed.
+#[tactic(auto, unfolding(crate::specs::Stored::is_stored))]
+pub fn is_stored(place: &Place) -> bool
+    ensures { result ≡ is_stored place.now }
+{
+    match origin_of(place) {
+        Some(Origin::Stored(_)) | Some(Origin::StoredItems) => true,
+        Some(Origin::Computed) | None => false,
+    }
 }
 
 /// What an actor wants of a place.
@@ -93,9 +108,21 @@ fn missing(place: &Place) -> Option<Status>
 fn attribute_of(place: &Place) -> Option<Meta>
     ensures { result ≡ attribute_of place.now }
 {
-    let mut rows = attributes_of(place.cluster).iter().chain(globals().iter());
+    let mut rows = attributes_of(place.cluster).iter().chain(
+        globals().iter().chain(extensions_of(place.cluster).iter()),
+    );
     let row = rows.find(|row| row.number == place.leaf)?;
     Some(row.meta)
+}
+
+fn origin_of(place: &Place) -> Option<Origin>
+    ensures { result ≡ origin_of place.now }
+{
+    let mut rows = attributes_of(place.cluster).iter().chain(
+        globals().iter().chain(extensions_of(place.cluster).iter()),
+    );
+    let row = rows.find(|row| row.number == place.leaf)?;
+    Some(row.origin)
 }
 
 fn command_of(place: &Place) -> Option<CommandMeta>

@@ -1,11 +1,13 @@
 //! Laws of the table. Each is the contract of a function that does nothing.
 
 ghost use Rattle.std.specs.Prelude.{◌≡◌, ℕ, IsTrue, is_ok, is_some};
-ghost use Rattle.std.specs.List.{list_any};
+ghost use Rattle.std.specs.List.{list_all, list_any};
 ghost use Rattle.mt_model.specs.Devices.{device_of};
 ghost use Rattle.mt_model.specs.declared.place.Place.{Place};
 ghost use Rattle.mt_meta.specs.Finding.{find_of, is_endpoint};
 ghost use Rattle.mt_meta.specs.Places.{all_places, ascend, is_at};
+ghost use Rattle.mt_meta.specs.Stored.{begins_rightly, is_sensitive_by_table};
+ghost use Rattle.mt_model.specs.Sight.{is_sensitive_field};
 
 /// The places of all attributes ascend, so that none stands twice.
 pub fn places_ascend()
@@ -20,4 +22,15 @@ pub fn places_are_found()
 /// The endpoints of the table are those that have a device type.
 pub fn endpoints_have_devices()
     ensures { (endpoint : ℕ) → is_endpoint endpoint ≡ is_some (device_of endpoint) }
+{}
+
+/// The sensitive fields of the table are those that a fabric is not shown of the items of others.
+pub fn sensitive_fields_are_those_of_sight()
+    ensures { (place : Place) (field : ℕ) → is_sensitive_by_table place field ≡ is_sensitive_field place field }
+{}
+
+/// Each stored place that is not fabric-scoped has exactly one row on a new node, and no other place has
+/// any.
+pub fn stored_places_begin()
+    ensures { IsTrue (list_all begins_rightly all_places) }
 {}

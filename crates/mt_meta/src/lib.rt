@@ -1,10 +1,12 @@
 //! The node's endpoints, clusters, attributes, commands and events: what stands where, with which
-//! privileges and limits. Nothing but `expand` takes memory.
+//! privileges and limits. Nothing but `expand` and `first_rows` takes memory.
 //!
 //! - `meta`: what is known of an attribute, a command or an event;
-//! - `clusters`: the numbers of the clusters;
-//! - `table`: the table;
+//! - `rows`: the rows of the table;
+//! - `clusters`: the clusters, a module each, with their numbers and rows;
+//! - `table`: the table, which looks up the rows by cluster;
 //! - `finding`: what the table says of a place;
+//! - `first`: the rows of a new node;
 //! - `expansion`: the places that a path names;
 //! - `laws`: what holds of the table as a whole.
 #![tactic(auto)]
@@ -12,17 +14,26 @@
 pub mod clusters;
 mod expansion;
 mod finding;
+mod first;
 mod laws;
 mod meta;
+mod rows;
 mod table;
 
+pub use clusters::basic_information::{LOCATION_BYTES, NODE_LABEL_BYTES};
 pub use expansion::{ExpandFault, expand, is_global};
-pub use finding::{Asked, find, find_command, find_event, privilege_asked};
-pub use laws::{endpoints_have_devices, places_are_found, places_ascend};
+pub use finding::{Asked, find, find_command, find_event, is_stored, privilege_asked};
+pub use first::first_rows;
+pub use laws::{
+    endpoints_have_devices, places_are_found, places_ascend, sensitive_fields_are_those_of_sight,
+    stored_places_begin,
+};
 pub use meta::{CommandMeta, EventMeta, Kind, Meta};
+pub use rows::{AttributeRow, CommandRow, EventRow, FirstValue, Origin, Sensitive};
 pub use table::{
-    AttributeRow, CommandRow, EventRow, LOCATION_BYTES, NODE_LABEL_BYTES, attributes_of,
-    clusters_of, commands_of, endpoints, events_of, globals, responses_of,
+    ACCEPTED_COMMAND_LIST, ATTRIBUTE_LIST, CLUSTER_REVISION, FEATURE_MAP, GENERATED_COMMAND_LIST,
+    attributes_of, clusters_of, commands_of, endpoints, events_of, extensions_of, globals,
+    responses_of,
 };
 
 #[cfg(test)]

@@ -1,6 +1,7 @@
 use super::*;
 use crate::clusters::BENCH;
 use mt_model::{Index, Path, Place, Places, Privilege, Status};
+use mt_tlv::{Tag, write};
 use std::process::Abort;
 use std::test::*;
 
@@ -216,6 +217,43 @@ fn attributes(rt: HostRuntime) -> Result<(), Fail> {
     places_ascend();
     places_are_found();
     endpoints_have_devices();
+    sensitive_fields_are_those_of_sight();
+    stored_places_begin();
+    Ok(())
+}
+
+// Endpoint, cluster, attribute, and the bytes of the value with which it begins.
+const FIRST: [((u16, u32, u32), &[u8]); 10] = [
+    ((0, 0x28, 5), b"\x0c\x00"),
+    ((0, 0x28, 6), b"\x0c\x02XX"),
+    ((0, 0x30, 0), b"\x04\x00"),
+    ((0, 0x30, 2), b"\x04\x02"),
+    ((0, 0x31, 4), b"\x09"),
+    ((0, 0x31, 5), b"\x14"),
+    ((0, 0x31, 6), b"\x14"),
+    ((1, 0x06, 0), b"\x08"),
+    ((1, 0x41, 0), b"\x16\x18"),
+    ((1, BENCH, 1), b"\x04\x00"),
+];
+
+#[test]
+fn rows_of_a_new_node(rt: HostRuntime) -> Result<(), Fail> {
+    let rows = first_rows(rt.alloc()).ok().ok_or("rows")?;
+    let rows = rows.into_vec();
+    assert_eq!(rt; rows.len(), FIRST.len());
+    for (row, first) in rows.iter().zip(FIRST.iter()) {
+        let place = Place {
+            endpoint: first.0.0,
+            cluster: first.0.1,
+            leaf: first.0.2,
+        };
+        assert_eq!(rt; row.place, place);
+        assert_eq!(rt; row.fabric, 0);
+        let mut written = Vec::new(rt.alloc());
+        write(&Tag::Anonymous, &row.value, &mut written)?;
+        assert_eq!(rt; written.as_slice(), first.1, "{place:?}");
+        assert!(rt; is_stored(&place), "{place:?}");
+    }
     Ok(())
 }
 

@@ -1,0 +1,24 @@
+-- The parts of the state from which rows are computed, and what rows are made with.
+use Rattle.std.specs.Prelude.{ℕ, List}
+use Rattle.mt_tlv.specs.Tree.{uint}
+use Rattle.mt_tlv.specs.declared.value.Value.{Value}
+use Rattle.mt_model.specs.Trees.{array_of}
+use Rattle.mt_model.specs.declared.access.AclEntry.{AclEntry}
+use Rattle.mt_model.specs.declared.fabric.Fabric.{Fabric}
+use Rattle.mt_model.specs.declared.network.Network.{Network}
+use Rattle.mt_model.specs.declared.place.Place.{Place}
+use Rattle.mt_model.specs.declared.place.Row.{Row}
+
+-- the parts of the state from which rows are computed
+pub record Parts : Type 0 where
+  pub entries : List AclEntry
+  pub fabrics : List Fabric
+  pub roots : List (List ℕ)
+  pub networks : List Network
+
+abbrev pub row_at : Place → ℕ → Value → Row
+row_at place fabric value = record { place = place; fabric = fabric; value = value }
+
+-- an array of numbers
+abbrev pub numbers : List ℕ → Value
+numbers ns = array_of uint ns

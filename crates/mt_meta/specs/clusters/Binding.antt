@@ -1,0 +1,15 @@
+-- Binding.
+use Rattle.std.specs.Prelude.{ℕ, List, [], ◌∷◌}
+use Rattle.mt_model.specs.declared.access.Privilege.TheVariants.{Manage}
+use Rattle.mt_model.specs.declared.limits.TheConstants.{LIST_ITEMS}
+use Rattle.mt_meta.specs.declared.meta.Kind.TheVariants as kinds
+use Rattle.mt_meta.specs.declared.rows.AttributeRow.{AttributeRow}
+use Rattle.mt_meta.specs.Rows.{plain, written_by, scoped, kept, stored_items}
+
+abbrev pub cluster : ℕ
+cluster = 0x1e
+
+abbrev pub attributes : List AttributeRow
+attributes =
+    stored_items (scoped (kept (written_by Manage LIST_ITEMS (plain 0 kinds.Binding))))  -- Binding
+    ∷ []

@@ -1,0 +1,34 @@
+-- General Commissioning.
+use Rattle.std.specs.Prelude.{ℕ, List, [], ◌∷◌}
+use Rattle.mt_model.specs.declared.access.Privilege.TheVariants.{Administer}
+use Rattle.mt_meta.specs.declared.meta.Kind.TheVariants as kinds
+use Rattle.mt_meta.specs.declared.rows.AttributeRow.{AttributeRow}
+use Rattle.mt_meta.specs.declared.rows.CommandRow.{CommandRow}
+use Rattle.mt_meta.specs.declared.rows.FirstValue.TheVariants as first
+use Rattle.mt_meta.specs.Rows.{plain, written_by, kept, stored, invoked_by, scoped_command}
+
+abbrev pub cluster : ℕ
+cluster = 0x30
+
+abbrev pub attributes : List AttributeRow
+attributes =
+    stored (first.Uint 0) (written_by Administer 0 (plain 0 kinds.Uint))  -- Breadcrumb
+    ∷ plain 1 kinds.Structure  -- BasicCommissioningInfo
+    ∷ stored (first.Uint 2) (kept (plain 2 kinds.Uint))  -- RegulatoryConfig
+    ∷ plain 3 kinds.Uint  -- LocationCapability
+    ∷ plain 4 kinds.Bool  -- SupportsConcurrentConnection
+    ∷ []
+
+abbrev pub commands : List CommandRow
+commands =
+    invoked_by Administer 0  -- ArmFailSafe
+    ∷ invoked_by Administer 2  -- SetRegulatoryConfig
+    ∷ scoped_command (invoked_by Administer 4)  -- CommissioningComplete
+    ∷ []
+
+abbrev pub responses : List ℕ
+responses =
+    1  -- ArmFailSafeResponse
+    ∷ 3  -- SetRegulatoryConfigResponse
+    ∷ 5  -- CommissioningCompleteResponse
+    ∷ []

@@ -1,0 +1,16 @@
+-- User Label.
+use Rattle.std.specs.Prelude.{ℕ, List, [], ◌∷◌}
+use Rattle.mt_model.specs.declared.access.Privilege.TheVariants.{Manage}
+use Rattle.mt_model.specs.declared.limits.TheConstants.{LIST_ITEMS}
+use Rattle.mt_meta.specs.declared.meta.Kind.TheVariants as kinds
+use Rattle.mt_meta.specs.declared.rows.AttributeRow.{AttributeRow}
+use Rattle.mt_meta.specs.declared.rows.FirstValue.TheVariants as first
+use Rattle.mt_meta.specs.Rows.{plain, written_by, kept, stored}
+
+abbrev pub cluster : ℕ
+cluster = 0x41
+
+abbrev pub attributes : List AttributeRow
+attributes =
+    stored first.EmptyArray (kept (written_by Manage LIST_ITEMS (plain 0 kinds.Labels)))  -- LabelList
+    ∷ []
