@@ -5,7 +5,7 @@ use Rattle.mt_tlv.specs.View.{elements, tree}
 use Rattle.mt_tlv.specs.declared.value.Tag.{Tag}
 use Rattle.mt_tlv.specs.declared.value.Tag.TheVariants.{Anonymous}
 use Rattle.mt_tlv.specs.declared.value.Value.{Value}
-use Rattle.mt_machine.specs.Reading.{items_of, wanted_rows}
+use Rattle.mt_read.specs.Reading.{items_of, wanted_rows}
 use Rattle.mt_model.specs.Sight.{bare_value, seen_by}
 use Rattle.mt_model.specs.declared.access.Actor.{Actor}
 use Rattle.mt_model.specs.declared.place.Row.{Row}

@@ -3,14 +3,17 @@
 //!
 //! - `answering`: the answer to a request, path by path;
 //! - `items`: the answer for one place;
-//! - `values`: the value of an attribute, as the reader's fabric sees it.
+//! - `values`: the value of an attribute, as the reader's fabric sees it;
+//! - `laws`: when a read is denied.
 #![tactic(auto)]
 
 mod answering;
 mod items;
+mod laws;
 mod values;
 
 pub use answering::{ReadFault, read};
+pub use laws::denials_are_exact;
 
 #[cfg(test)]
 mod tests;

@@ -1,7 +1,8 @@
 //! The value of an attribute, as the reader's fabric sees it.
 
 ghost use Rattle.std.specs.Prelude.{◌≡◌, ◌==◌, IfOk, filter, map};
-ghost use Rattle.mt_machine.specs.Reading.{first_value, is_current_fabric, items_of, seen_as, value_of, wanted_rows};
+ghost use Rattle.mt_read.specs.Reading.{first_value, is_current_fabric, items_of, value_of, wanted_rows};
+ghost use Rattle.mt_model.specs.Seen.{seen_as};
 ghost use Rattle.mt_model.specs.Sight.{seen_by};
 ghost use Rattle.mt_model.specs.declared.place.Row.{Row};
 

@@ -1,6 +1,7 @@
 use Rattle.std.proofs.Common.{◌≡◌, ◌++◌, drop}
 use Rattle.std.specs.List.{flat_map}
-use Rattle.mt_machine.specs.Reading.{seen_as, wildcard_items}
+use Rattle.mt_model.specs.Seen.{seen_as}
+use Rattle.mt_read.specs.Reading.{wildcard_items}
 use Rattle.mt_read.proofs.answering.push_places.Given as goal
 
 -- the items so far and those of the places to come are the items of all places, behind what was there

@@ -1,5 +1,5 @@
 use Rattle.std.proofs.Common.{◌≡◌, ◌∙◌, IfOk, List, ap, map, subst}
-use Rattle.mt_machine.specs.Reading.{items_of, wanted_rows}
+use Rattle.mt_read.specs.Reading.{items_of, wanted_rows}
 use Rattle.mt_model.specs.Sight.{seen_by}
 use Rattle.mt_model.specs.declared.place.Row.{Row}
 use Rattle.mt_read.proofs.SeenRows.{wanted-seen}
