@@ -8,9 +8,9 @@ use Rattle.mt_model.specs.Sight.{seen_by}
 use Rattle.mt_model.specs.declared.access.AclEntry.{AclEntry}
 use Rattle.mt_model.specs.declared.place.Place.{Place}
 use Rattle.mt_model.specs.declared.place.Row.{Row}
-use Rattle.mt_machine.specs.Computed.{entry_row}
-use Rattle.mt_machine.specs.Reading.{own_entries}
-use Rattle.mt_machine.specs.View.{bare_entry}
+use Rattle.mt_apps.specs.AccessControl.{entry_row}
+use Rattle.mt_model.specs.Seen.{own_entries}
+use Rattle.mt_machine.specs.Isolation.{bare_entry}
 use Rattle.mt_machine.proofs.Rows.{passed, passed-append}
 
 abbrev pub acl_place : ℕ → Place

@@ -6,13 +6,14 @@ use Rattle.mt_model.specs.Order.{rise_above}
 use Rattle.mt_model.specs.Sight.{seen_by}
 use Rattle.mt_model.specs.declared.fabric.Fabric.{Fabric}
 use Rattle.mt_model.specs.declared.place.Place.{Place}
-use Rattle.mt_machine.specs.Computed.{fabric_row, noc_row}
-use Rattle.mt_machine.specs.View.{bare_fabric, descriptor_of, own_or_bare}
+use Rattle.mt_apps.specs.OperationalCredentials.{fabric_row, noc_row}
+use Rattle.mt_machine.specs.Isolation.{bare_fabric, descriptor_of, own_or_bare}
+use Rattle.mt_machine.specs.State.{is_indexed}
 use Rattle.mt_machine.proofs.Entries.{both_true, is_other}
 use Rattle.mt_machine.proofs.Rows.{passed}
 
 abbrev pub own_fabrics : ℕ → List Fabric → List Fabric
-own_fabrics fabric fs = filter (λ (f : Fabric). f.index == fabric) fs
+own_fabrics fabric fs = filter (is_indexed fabric) fs
 
 -- a fabric as this fabric knows it
 abbrev pub known_to : ℕ → Fabric → Fabric
@@ -37,7 +38,7 @@ found-own f own is = rw (is, same f.index) refl
     same n = grind arith
 
 -- none of other indexes is among them
-found-none : (fabric index : ℕ) (fs : List Fabric) → (index == fabric) ≡ false → find (λ (f : Fabric). f.index == index) (own_fabrics fabric fs) ≡ None
+found-none : (fabric index : ℕ) (fs : List Fabric) → (index == fabric) ≡ false → find (is_indexed index) (own_fabrics fabric fs) ≡ None
 found-none fabric index [] h = refl
 found-none fabric index (f ∷ fs) h = grind (arith, found-none fabric index fs h)
 
@@ -119,7 +120,7 @@ known-nocs endpoint fabric test least (f ∷ fs) up =
     let above : least < f.index = ltb-true least f.index both.0 in
     grind (arith, known-nocs endpoint fabric test f.index fs both.1, known-noc endpoint fabric f (omega arith), known-index fabric f)
 
-pub known-members : (fabric : ℕ) (fs : List Fabric) → list_any (λ (f : Fabric). f.index == fabric) (map (known_to fabric) fs) ≡ list_any (λ (f : Fabric). f.index == fabric) fs
+pub known-members : (fabric : ℕ) (fs : List Fabric) → list_any (is_indexed fabric) (map (known_to fabric) fs) ≡ list_any (is_indexed fabric) fs
 known-members fabric [] = refl
 known-members fabric (f ∷ fs) = grind (arith, known-members fabric fs, known-index fabric f)
 

@@ -1,6 +1,9 @@
-pub mod Answered
-pub mod Rows
+pub mod Deadlines
 pub mod Entries
 pub mod Fabrics
-pub mod Seeing
+pub mod Opening
 pub mod Order
+pub mod Rows
+pub mod Seeing
+pub mod Times
+pub mod Veiled

@@ -10,8 +10,17 @@ use Rattle.mt_model.specs.declared.fabric.Fabric.{Fabric}
 use Rattle.mt_model.specs.declared.network.Network.{Network}
 use Rattle.mt_model.specs.declared.place.Place.{Place}
 use Rattle.mt_model.specs.declared.place.Row.{Row}
-use Rattle.mt_machine.specs.Computed.{Parts, computed_rows, computed_value, entry_row, fabric_row, is_fabrics, is_stored, network_tree, noc_row, untagged, value_rows}
-use Rattle.mt_machine.specs.View.{State, bare_network, has_fabric, is_orderly, observation, parts, rows_of, veil}
+use Rattle.mt_apps.specs.AccessControl.{entry_row}
+use Rattle.mt_apps.specs.Computed.{computed_rows, computed_value, value_rows}
+use Rattle.mt_apps.specs.NetworkCommissioning.{network_tree}
+use Rattle.mt_apps.specs.OperationalCredentials.{fabric_row, is_fabrics, noc_row}
+use Rattle.mt_apps.specs.Parts.{Parts}
+use Rattle.mt_meta.specs.Stored.{is_stored}
+use Rattle.mt_model.specs.Trees.{untagged}
+use Rattle.mt_model.specs.declared.state.NodeState.{NodeState}
+use Rattle.mt_machine.specs.Isolation.{bare_network, has_fabric, veil}
+use Rattle.mt_machine.specs.Observation.{observation}
+use Rattle.mt_machine.specs.State.{IsValid, is_indexed, parts, rows_of}
 use Rattle.mt_machine.proofs.Rows.{apart-others, apart-own, passed}
 use Rattle.mt_machine.proofs.Entries as entries
 use Rattle.mt_machine.proofs.Entries.{acl_place, both_true, entries-others, entries-own, own_entries-apart}
@@ -23,13 +32,13 @@ networks-bare : (networks : List Network) → untagged network_tree (map bare_ne
 networks-bare [] = refl
 networks-bare (network ∷ networks) = ap (λ (es : Elements). Rattle.mt_tlv.specs.Tree.more Rattle.mt_tlv.specs.declared.value.Tag.TheVariants.Anonymous (network_tree network) es) (networks-bare networks)
 
-abbrev known_parts : ℕ → State → Parts
+abbrev known_parts : ℕ → NodeState → Parts
 known_parts fabric s = record { entries = entries.apart fabric s.entries; fabrics = map (known_to fabric) s.fabrics; roots = s.roots; networks = map bare_network s.networks }
 
-parts-veil : (fabric : ℕ) (s : State) → fabrics_ascend s.fabrics ≡ true → parts (veil fabric s) ≡ known_parts fabric s
+parts-veil : (fabric : ℕ) (s : NodeState) → fabrics_ascend s.fabrics ≡ true → parts (veil fabric s) ≡ known_parts fabric s
 parts-veil fabric s up = λ i. record { entries = entries.apart fabric s.entries; fabrics = rebuilt-known fabric s.fabrics up i; roots = s.roots; networks = map bare_network s.networks }
 
-value-same : (fabric : ℕ) (s : State) (place : Place) → computed_value (known_parts fabric s) place ≡ computed_value (parts s) place
+value-same : (fabric : ℕ) (s : NodeState) (place : Place) → computed_value (known_parts fabric s) place ≡ computed_value (parts s) place
 value-same fabric s place = rw (networks-bare s.networks, known-length fabric s.fabrics) refl
 
 acl-is : (place : Place) → is_acl place ≡ true → acl_place place.endpoint ≡ place
@@ -51,7 +60,7 @@ choose : (F : List Row → List Row) (b : Bool) (x y x' y' : List Row) → (b �
 choose F true x y x' y' h k = h refl
 choose F false x y x' y' h k = k refl
 
-module _ (fabric : ℕ) (s : State) (up : fabrics_ascend s.fabrics ≡ true) (test : ℕ → Bool)
+module _ (fabric : ℕ) (s : NodeState) (up : fabrics_ascend s.fabrics ≡ true) (test : ℕ → Bool)
     (same_entries : (endpoint : ℕ) → passed fabric test (map (entry_row (acl_place endpoint)) (entries.apart fabric s.entries)) ≡ passed fabric test (map (entry_row (acl_place endpoint)) s.entries))
     (same_stored : (place : Place) → passed fabric test (filter (stands_at place) (veil fabric s).rows) ≡ passed fabric test (filter (stands_at place) s.rows)) where
   computed-known : (place : Place) → passed fabric test (computed_rows (known_parts fabric s) place) ≡ passed fabric test (computed_rows (parts s) place)
@@ -84,21 +93,14 @@ seen-ordered fabric rows =
     let higher = filter (λ (row : Row). nat_lt fabric row.fabric) rows in
     map-append (seen_by fabric) lower (own ++ higher) ∙ ap (λ (rs : List Row). map (seen_by fabric) lower ++ rs) (map-append (seen_by fabric) own higher)
 
--- fabrics and entries ascend
-ordered_parts : (s : State) → is_orderly s ≡ true → (fabrics_ascend s.fabrics ≡ true) × (ascend_from 1 s.entries ≡ true)
-ordered_parts s orderly =
-    let both = both_true (fabrics_ascend s.fabrics) (ascend_from 1 s.entries && are_ascending s.rows) orderly in
-    (both.0, (both_true (ascend_from 1 s.entries) (are_ascending s.rows) both.1).0)
-
 not_below : (n : ℕ) → nat_lt n n ≡ false
 not_below n = grind arith
 
-rows-veil : (fabric : ℕ) (s : State) → is_orderly s ≡ true → (place : Place) → map (seen_by fabric) (in_order fabric (rows_of (veil fabric s) place)) ≡ map (seen_by fabric) (in_order fabric (rows_of s place))
-rows-veil fabric s orderly place =
-    let both = ordered_parts s orderly in
-    let lower = passed-veil fabric s both.0 (λ n. nat_lt n fabric) (λ e. entries-others e fabric (λ n. nat_lt n fabric) s.entries (not_below fabric) both.1) (λ p. apart-others fabric p (λ n. nat_lt n fabric) s.rows (not_below fabric)) place in
-    let own = passed-veil fabric s both.0 (λ n. n == fabric) (λ e. entries-own e fabric s.entries) (λ p. apart-own fabric p s.rows) place in
-    let higher = passed-veil fabric s both.0 (λ n. nat_lt fabric n) (λ e. entries-others e fabric (λ n. nat_lt fabric n) s.entries (not_below fabric) both.1) (λ p. apart-others fabric p (λ n. nat_lt fabric n) s.rows (not_below fabric)) place in
+rows-veil : (fabric : ℕ) (s : NodeState) → IsValid s → (place : Place) → map (seen_by fabric) (in_order fabric (rows_of (veil fabric s) place)) ≡ map (seen_by fabric) (in_order fabric (rows_of s place))
+rows-veil fabric s valid place =
+    let lower = passed-veil fabric s valid.fabrics_rise (λ n. nat_lt n fabric) (λ e. entries-others e fabric (λ n. nat_lt n fabric) s.entries (not_below fabric) valid.entries_rise) (λ p. apart-others fabric p (λ n. nat_lt n fabric) s.rows (not_below fabric)) place in
+    let own = passed-veil fabric s valid.fabrics_rise (λ n. n == fabric) (λ e. entries-own e fabric s.entries) (λ p. apart-own fabric p s.rows) place in
+    let higher = passed-veil fabric s valid.fabrics_rise (λ n. nat_lt fabric n) (λ e. entries-others e fabric (λ n. nat_lt fabric n) s.entries (not_below fabric) valid.entries_rise) (λ p. apart-others fabric p (λ n. nat_lt fabric n) s.rows (not_below fabric)) place in
     seen-ordered fabric (rows_of (veil fabric s) place)
     ∙ (λ i. lower i ++ (own i ++ higher i))
     ∙ sym (seen-ordered fabric (rows_of s place))
@@ -111,18 +113,17 @@ plain-veil fabric (Some other) = by_test (other == fabric)
     by_test true = grind arith
     by_test false = refl
 
-members-veil : (fabric : ℕ) (s : State) → fabrics_ascend s.fabrics ≡ true → list_any (λ (f : Fabric). f.index == fabric) (veil fabric s).fabrics ≡ list_any (λ (f : Fabric). f.index == fabric) s.fabrics
-members-veil fabric s up = ap (list_any (λ (f : Fabric). f.index == fabric)) (rebuilt-known fabric s.fabrics up) ∙ known-members fabric s.fabrics
+pub members-veil : (fabric : ℕ) (s : NodeState) → fabrics_ascend s.fabrics ≡ true → list_any (is_indexed fabric) (veil fabric s).fabrics ≡ list_any (is_indexed fabric) s.fabrics
+members-veil fabric s up = ap (list_any (is_indexed fabric)) (rebuilt-known fabric s.fabrics up) ∙ known-members fabric s.fabrics
 
-pub sees-veil : (fabric : ℕ) (s : State) → is_orderly s ≡ true → observation fabric (veil fabric s) ≡ observation fabric s
-sees-veil fabric s orderly =
-    let both = ordered_parts s orderly in
+pub sees-veil : (fabric : ℕ) (s : NodeState) → IsValid s → observation fabric (veil fabric s) ≡ observation fabric s
+sees-veil fabric s valid =
     λ i. record {
       fabric = fabric;
-      is_member = members-veil fabric s both.0 i;
+      is_member = members-veil fabric s valid.fabrics_rise i;
       is_plain = plain-veil fabric s.plain i;
       seen = record {
-        rows_at = λ place. rows-veil fabric s orderly place i;
+        rows_at = λ place. rows-veil fabric s valid place i;
         version_of = version_in s.versions;
         entries = own_entries-apart fabric s.entries i;
       };

@@ -1,48 +1,65 @@
 -- Laws of the written machine.
-use Rattle.std.specs.Prelude.{◌≡◌, ℕ, List, true}
+use Rattle.std.specs.Prelude.{◌≡◌, ◌≢◌, ℕ, List, [], None, true}
 use Rattle.mt_model.specs.Config.{are_entries, are_fabrics}
+use Rattle.mt_model.specs.Seen.{Observation, seen_as}
+use Rattle.mt_model.specs.declared.access.Actor.{Actor}
+use Rattle.mt_model.specs.declared.message.Request.{Request}
 use Rattle.mt_model.specs.declared.access.AclEntry.{AclEntry}
 use Rattle.mt_model.specs.declared.config.SessionRow.{SessionRow}
 use Rattle.mt_model.specs.declared.fabric.Fabric.{Fabric}
-use Rattle.mt_im.specs.Reading.{request_in}
 use Rattle.mt_model.specs.declared.recording.Event.{Event}
-use Rattle.mt_model.specs.declared.recording.Event.TheVariants.{Ask}
-use Rattle.mt_machine.specs.Machine.{asker, fabric_of, line_actor, line_reply, next, sent, sent_to}
+use Rattle.mt_model.specs.declared.state.NodeState.{NodeState}
+use Rattle.mt_model.specs.declared.action.Action.{Action}
+use Rattle.mt_machine.specs.Isolation.{own_of_whole, public_view, veil, veil_of_whole}
+use Rattle.mt_machine.specs.Lines.{fabric_of, is_built, next, sent}
+use Rattle.mt_machine.specs.Observation.{observation}
 use Rattle.mt_machine.specs.Opened.{opened_with}
-use Rattle.mt_machine.specs.Reading.{seen_as}
-use Rattle.mt_machine.specs.View.{State, is_orderly, observation, own, public_view, rows_of, veil}
+use Rattle.mt_machine.specs.State.{IsValid, State, rows_of}
+use Rattle.mt_machine.specs.Step.{after_action, aside_of, session_asking, steps_to}
 
--- What a fabric sees of a state is what it sees of the veil, which is made of its own part and of what is
+-- What a fabric observes of a state is what it observes of the veil, which is made of its own part and of what is
 -- public to it.
 abbrev pub SeesTheVeil : Type 0
-SeesTheVeil = (fabric : ℕ) (s : State) → is_orderly s ≡ true → observation fabric (veil fabric s) ≡ observation fabric s
+SeesTheVeil = (fabric : ℕ) (s : NodeState) → IsValid s → observation fabric (veil fabric s) ≡ observation fabric s
+
+-- What an event sends on the veil of its fabric is what it sends on the state.
+abbrev pub SendsOnTheVeil : Type 0
+SendsOnTheVeil = (s : State) (e : Event) → IsValid s.node → sent (veil_of_whole (fabric_of s.node e) s) e ≡ sent s e
 
 -- What an event sends is determined by the own part of its fabric and by what is public to it.
 abbrev pub SeesItsViewAlone : Type 0
-SeesItsViewAlone = (s t : State) (e : Event) → is_orderly s ≡ true → is_orderly t ≡ true
-    → fabric_of s e ≡ fabric_of t e
-    → own (fabric_of s e) s ≡ own (fabric_of t e) t
-    → public_view (fabric_of s e) s ≡ public_view (fabric_of t e) t
+SeesItsViewAlone = (s t : State) (e : Event) → IsValid s.node → IsValid t.node
+    → fabric_of s.node e ≡ fabric_of t.node e
+    → own_of_whole (fabric_of s.node e) s ≡ own_of_whole (fabric_of t.node e) t
+    → public_view (fabric_of s.node e) s.node ≡ public_view (fabric_of t.node e) t.node
     → sent s e ≡ sent t e
 
--- An event that is built changes nothing that is a fabric's own.
+-- An event that is built changes nothing that is another fabric's own.
 abbrev pub KeepsTheOwn : Type 0
-KeepsTheOwn = (fabric : ℕ) (s : State) (e : Event) → own fabric (next s e) ≡ own fabric s
+KeepsTheOwn = (fabric : ℕ) (s : State) (e : Event) → is_built e ≡ true → fabric ≢ fabric_of s.node e
+    → own_of_whole fabric (next s e) ≡ own_of_whole fabric s
 
--- A new node's state is orderly.
-abbrev pub OpensOrderly : Type 0
-OpensOrderly = (fabrics : List Fabric) (entries : List AclEntry) (sessions : List SessionRow) → are_fabrics fabrics ≡ true → are_entries fabrics entries ≡ true
-    → is_orderly (opened_with fabrics entries sessions) ≡ true
+-- A new node's state is valid.
+abbrev pub OpensValid : Type 0
+OpensValid = (fabrics : List Fabric) (entries : List AclEntry) (sessions : List SessionRow) → are_fabrics fabrics ≡ true → are_entries fabrics entries ≡ true
+    → IsValid (opened_with fabrics entries sessions)
 
--- An event leaves it so.
-abbrev pub StaysOrderly : Type 0
-StaysOrderly = (s : State) (e : Event) → is_orderly s ≡ true → is_orderly (next s e) ≡ true
+-- An action leaves it so.
+abbrev pub StaysValid : Type 0
+StaysValid = (s : NodeState) (action : Action) (now : ℕ) → IsValid s → IsValid (after_action s action now)
+
+-- No request that is built makes a step.
+abbrev pub MakesNoStep : Type 0
+MakesNoStep = (o : Observation) (asking : Actor) (request : Request) → steps_to o asking request ≡ []
+
+-- So an action sets the time, and nothing else of the state.
+abbrev pub SetsTheTime : Type 0
+SetsTheTime = (s : NodeState) (action : Action) (now : ℕ) → after_action s action now ≡ record s { clock = now }
+
+-- And it ends no session, and takes no fabric away.
+abbrev pub EndsNothing : Type 0
+EndsNothing = (s : NodeState) (action : Action) (now : ℕ) → aside_of s action now ≡ record { session = session_asking s action; closed = []; gone = None }
 
 -- The rows of each place stand in the order in which a fabric sees them.
 abbrev pub StandsInOrder : Type 0
-StandsInOrder = (fabric : ℕ) (s : State) → is_orderly s ≡ true → seen_as fabric (rows_of s) s.versions s.entries ≡ (observation fabric s).seen
-
--- What a plain line sends is the node's reply to whoever is taken as asking.
-abbrev pub AnswersLines : Type 0
-AnswersLines = (s : State) (ms fabric node : ℕ) (cats : List ℕ) (opcode : ℕ) (payload : List ℕ)
-    → sent s (Ask ms fabric node cats opcode payload) ≡ sent_to (asker s (line_actor fabric node cats)) ms (line_reply s (line_actor fabric node cats) ms (request_in opcode payload))
+StandsInOrder = (fabric : ℕ) (s : NodeState) → IsValid s → seen_as fabric (rows_of s) s.versions s.entries ≡ (observation fabric s).seen

@@ -1,8 +1,10 @@
 pub mod Bench
-pub mod Computed
+pub mod Effects
+pub mod Isolation
 pub mod Laws
-pub mod Machine
+pub mod Lines
+pub mod Observation
 pub mod Opened
-pub mod Reading
 pub mod Samples
-pub mod View
+pub mod State
+pub mod Step

@@ -1,10 +1,8 @@
 -- The state in which a new node begins.
-use Rattle.std.specs.Prelude.{ℕ, ◌+◌, ◌-◌, ◌*◌, ◌%◌, ◌^◌, ◌==◌, ◌&&◌, ◌++◌, Bool, true, false, List, [], ◌∷◌, Option, None, Some, bytes_eq, codes, filter, if◌then◌else◌, map}
+use Rattle.std.specs.Prelude.{ℕ, ◌+◌, ◌-◌, ◌*◌, ◌%◌, ◌^◌, ◌==◌, ◌++◌, List, [], ◌∷◌, Option, None, Some, bytes_eq, filter, if◌then◌else◌, map}
 use Rattle.std.specs.List.{find, flat_map, list_any}
+use Rattle.mt_meta.specs.Stored.{first_rows}
 use Rattle.mt_meta.specs.Table.{clusters_of, endpoints}
-use Rattle.mt_tlv.specs.Tree.{none}
-use Rattle.mt_tlv.specs.declared.value.Value.{Value}
-use Rattle.mt_tlv.specs.declared.value.Value.TheVariants as values
 use Rattle.mt_model.specs.declared.limits.TheConstants.{VERSIONS_OF_BOOT}
 use Rattle.mt_model.specs.declared.access.AclEntry.{AclEntry}
 use Rattle.mt_model.specs.declared.access.Auth.{Auth}
@@ -12,30 +10,12 @@ use Rattle.mt_model.specs.declared.access.Auth.TheVariants.{Pase}
 use Rattle.mt_model.specs.declared.config.Config.{Config}
 use Rattle.mt_model.specs.declared.config.SessionRow.{SessionRow}
 use Rattle.mt_model.specs.declared.fabric.Fabric.{Fabric}
-use Rattle.mt_model.specs.declared.place.Row.{Row}
 use Rattle.mt_model.specs.declared.state.NodeSession.{NodeSession}
 use Rattle.mt_model.specs.declared.state.Standing.{Standing}
 use Rattle.mt_model.specs.declared.state.Standing.TheVariants.{Waits, Live}
 use Rattle.mt_model.specs.declared.state.Version.{Version}
-use Rattle.mt_machine.specs.View.{State}
-
-abbrev pub unscoped_row : ℕ → ℕ → ℕ → Value → Row
-unscoped_row endpoint cluster leaf value = record { place = record { endpoint = endpoint; cluster = cluster; leaf = leaf }; fabric = 0; value = value }
-
--- The stored attributes that are not fabric-scoped, as they first stand.
-abbrev pub first_rows : List Row
-first_rows =
-    unscoped_row 0 0x28 5 (values.Text [])  -- NodeLabel
-    ∷ unscoped_row 0 0x28 6 (values.Text (codes "XX"))  -- Location
-    ∷ unscoped_row 0 0x30 0 (values.Uint 0)  -- Breadcrumb
-    ∷ unscoped_row 0 0x30 2 (values.Uint 2)  -- RegulatoryConfig
-    ∷ unscoped_row 0 0x31 4 (values.Bool true)  -- InterfaceEnabled
-    ∷ unscoped_row 0 0x31 5 values.Null  -- LastNetworkingStatus
-    ∷ unscoped_row 0 0x31 6 values.Null  -- LastNetworkID
-    ∷ unscoped_row 1 0x06 0 (values.Bool false)  -- OnOff
-    ∷ unscoped_row 1 0x41 0 (values.Array none)  -- the label list
-    ∷ unscoped_row 1 0xfff1fc00 1 (values.Uint 0)  -- the bench number
-    ∷ []
+use Rattle.mt_model.specs.declared.state.NodeState.{NodeState}
+use Rattle.mt_machine.specs.State.{State, has_identity}
 
 -- The version with which every cluster begins in a boot.
 abbrev pub first_version : ℕ → ℕ
@@ -62,9 +42,6 @@ with_roots_of roots (fabric ∷ fabrics) = with_roots_of (with_root roots fabric
 
 -- Sessions.
 
-abbrev pub has_identity : List ℕ → ℕ → Fabric → Bool
-has_identity root_key fabric_id fabric = bytes_eq fabric.credentials.root_key root_key && fabric.credentials.fabric_id == fabric_id
-
 abbrev pub live_or_waits : Option Fabric → Standing
 live_or_waits None = Waits
 live_or_waits (Some fabric) = Live fabric.index
@@ -90,7 +67,7 @@ abbrev pub sessions_of : ℕ → List Fabric → List SessionRow → List NodeSe
 sessions_of boot fabrics rows = map (session_of fabrics) (filter (λ (row : SessionRow). row.boot == boot) rows)
 
 -- The first boot of a node with these fabrics, access control entries and sessions.
-abbrev pub opened_with : List Fabric → List AclEntry → List SessionRow → State
+abbrev pub opened_with : List Fabric → List AclEntry → List SessionRow → NodeState
 opened_with fabrics entries sessions = record {
   rows = first_rows;
   entries = entries;
@@ -108,5 +85,12 @@ opened_with fabrics entries sessions = record {
 }
 
 -- the first boot of a node with this configuration
-abbrev pub opened : Config → State
+abbrev pub opened : Config → NodeState
 opened config = opened_with config.fabrics config.entries config.sessions
+
+-- the whole around it, in which nobody has a deadline
+abbrev pub whole_with : List Fabric → List AclEntry → List SessionRow → State
+whole_with fabrics entries sessions = record { node = opened_with fabrics entries sessions; deadlines = [] }
+
+abbrev pub opened_whole : Config → State
+opened_whole config = whole_with config.fabrics config.entries config.sessions

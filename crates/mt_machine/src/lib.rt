@@ -1,14 +1,35 @@
-//! The written machine: what the node is, event by event, and what it sends. The definitions stand in
-//! `specs/`; the functions here do nothing, and their contracts are the laws of the machine.
+//! The written machine: what the node is, event by event, and what it sends. What a request is answered
+//! stands with the crates that answer; here is what joins them. The definitions stand in `specs/`, a
+//! chapter a file; the functions here do nothing, and their contracts are the laws of the machine.
+//!
+//! - `State`: the state of the node and of the whole, and what holds of every state;
+//! - `Isolation`: what is a fabric's own, what is public to it, and the veil that is built of both;
+//! - `Observation`: what a fabric observes of a state, of which all its answers are made;
+//! - `Effects`: what each step makes of the state;
+//! - `Step`: one step of the node: who asks, what is replied, the state behind it;
+//! - `Lines`: one line of a recording: its action, what is sent, the state behind it;
+//! - `Opened`: the state in which a new node begins;
+//! - `Laws`: the laws.
 #![tactic(auto)]
 
 ghost use Rattle.std.specs.Prelude.{◌≡◌, ◌∷◌, []};
-ghost use Rattle.mt_machine.specs.Laws.{AnswersLines, KeepsTheOwn, OpensOrderly, SeesItsViewAlone, SeesTheVeil, StandsInOrder, StaysOrderly};
+ghost use Rattle.mt_machine.specs.Laws.{EndsNothing, KeepsTheOwn, MakesNoStep, OpensValid, SeesItsViewAlone, SeesTheVeil, SendsOnTheVeil, SetsTheTime, StandsInOrder, StaysValid};
 ghost use Rattle.mt_machine.specs.Samples.{acl_report, data_report, denial_report, empty_report, hidden_report, invalid_action, no_cluster_report, no_endpoint_report, read_acl, read_acl_anywhere, read_cluster_99, read_endpoint_7, read_on_off, sent_to_reader, too_deep};
 
-/// What a fabric sees of a state is made of its own part and of what is public to it.
+use mt_model::{
+    entries_are_in_order, fabrics_are_in_order, numbered_fabrics_ascend,
+    rows_of_a_place_are_in_order,
+};
+
+/// What a fabric observes of a state is what it observes of the veil, which is made of its own part and
+/// of what is public to it.
 pub fn sees_the_veil()
     ensures { SeesTheVeil }
+{}
+
+/// What an event sends on the veil of its fabric is what it sends on the state.
+pub fn sends_on_the_veil()
+    ensures { SendsOnTheVeil }
 {}
 
 /// What an event sends is determined by the own part of its fabric and by what is public to it.
@@ -16,27 +37,35 @@ pub fn sees_its_view_alone()
     ensures { SeesItsViewAlone }
 {}
 
-/// An event that is built changes nothing that is a fabric's own.
+/// An event that is built changes nothing that is another fabric's own.
 pub fn keeps_the_own()
     ensures { KeepsTheOwn }
 {}
 
-/// A new node's state is orderly, and events leave it so: fabrics, access control entries and rows stand
-/// in their order.
-pub fn states_are_orderly()
-    ensures opens { OpensOrderly }
-    ensures stays { StaysOrderly }
+/// The state of a new node is valid, and actions leave it so.
+pub fn states_are_valid()
+    ensures opens { OpensValid }
+    ensures stays { StaysValid }
+{
+    numbered_fabrics_ascend();
+}
+
+/// An action sets the time, and nothing else of the state, since no request that is built makes a step:
+/// it ends no session, and takes no fabric away.
+pub fn actions_set_the_time()
+    ensures no_step { MakesNoStep }
+    ensures time { SetsTheTime }
+    ensures nothing_ends { EndsNothing }
 {}
 
 /// The rows of each place stand in the order in which every fabric sees them.
 pub fn rows_stand_in_order()
     ensures { StandsInOrder }
-{}
-
-/// What a plain line sends is the node's reply to whoever is taken as asking.
-pub fn lines_are_answered()
-    ensures { AnswersLines }
-{}
+{
+    rows_of_a_place_are_in_order();
+    entries_are_in_order();
+    fabrics_are_in_order();
+}
 
 /// What a new bench node sends to readers, byte by byte: the data where an entry names the node or a
 /// CAT of its version or an earlier one, a denial where none does, and nothing to a fabric that is not

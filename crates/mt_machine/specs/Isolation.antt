@@ -1,17 +1,17 @@
--- The state of the node, and what a fabric may see of it.
-use Rattle.std.specs.Prelude.{ℕ, ◌==◌, ◌&&◌, not, Bool, false, List, [], ◌++◌, Option, Some, None, filter, map, unwrap_or, if◌then◌else◌}
-use Rattle.std.specs.List.{find, list_any}
+-- What is a fabric's own, what is public to it, and the state that is built of these two and of nothing else.
+use Rattle.std.specs.Prelude.{ℕ, ◌==◌, not, Bool, false, List, [], ◌++◌, Option, Some, None, filter, map, unwrap_or, if◌then◌else◌}
+use Rattle.std.specs.List.{find}
 use Rattle.std.specs.Option.{option_map}
-use Rattle.mt_model.specs.Config.{ascend_from}
-use Rattle.mt_model.specs.Order.{are_ascending, fabrics_ascend, in_order}
-use Rattle.mt_model.specs.Sight.{seen_by, stands_at}
+use Rattle.mt_model.specs.Seen.{own_entries}
+use Rattle.mt_model.specs.Sight.{seen_by}
 use Rattle.mt_model.specs.declared.access.AclEntry.{AclEntry}
 use Rattle.mt_model.specs.declared.access.Auth.TheVariants.{Case}
 use Rattle.mt_model.specs.declared.access.Privilege.TheVariants as privileges
+use Rattle.mt_model.specs.declared.action.PlainDeadline.{PlainDeadline}
+use Rattle.mt_model.specs.declared.fabric.Credentials.{Credentials}
 use Rattle.mt_model.specs.declared.fabric.Fabric.{Fabric}
 use Rattle.mt_model.specs.declared.network.Armed.{Armed}
 use Rattle.mt_model.specs.declared.network.Network.{Network}
-use Rattle.mt_model.specs.declared.place.Place.{Place}
 use Rattle.mt_model.specs.declared.place.Row.{Row}
 use Rattle.mt_model.specs.declared.state.ChangeNumber.{ChangeNumber}
 use Rattle.mt_model.specs.declared.state.NodeSession.{NodeSession}
@@ -19,25 +19,7 @@ use Rattle.mt_model.specs.declared.state.NodeState.{NodeState}
 use Rattle.mt_model.specs.declared.state.Standing.{Standing}
 use Rattle.mt_model.specs.declared.state.Standing.TheVariants.{Waits, Live, Ended}
 use Rattle.mt_model.specs.declared.state.Version.{Version}
-use Rattle.mt_machine.specs.Computed.{Parts, computed_rows, is_stored}
-use Rattle.mt_machine.specs.Reading.{Seen, own_entries, seen_as}
-
--- what a run goes from and to
-abbrev pub State : Type 0
-State = NodeState
-
--- whether the fabrics rise from 1 on, and the entries ascend by fabric from 1 on, and so do the rows by
--- place and fabric
-abbrev pub is_orderly : State → Bool
-is_orderly s = fabrics_ascend s.fabrics && (ascend_from 1 s.entries && are_ascending s.rows)
-
--- The rows of a place.
-
-abbrev pub parts : State → Parts
-parts s = record { entries = s.entries; fabrics = s.fabrics; roots = s.roots; networks = s.networks }
-
-abbrev pub rows_of : State → Place → List Row
-rows_of s place = if is_stored place then filter (stands_at place) s.rows else computed_rows (parts s) place
+use Rattle.mt_machine.specs.State.{State, is_indexed}
 
 -- A fabric's own part.
 
@@ -50,20 +32,27 @@ is_live_for fabric Waits = false
 is_live_for fabric (Live other) = other == fabric
 is_live_for fabric Ended = false
 
--- Its items of fabric-scoped lists, its access control entries, its credentials, its live sessions, and
--- whether the plain PASE session is its own.
+-- the credentials that the fabric had before it was updated under the fail-safe
+abbrev pub saved_for : ℕ → Option Armed → Option Credentials
+saved_for fabric None = None
+saved_for fabric (Some armed) = if has_fabric fabric armed.updated then armed.saved_credentials else None
+
+-- Its items of fabric-scoped lists, its access control entries, its credentials, those that an expiry gives back to it,
+-- its live sessions, and whether the plain PASE session is its own.
 pub record Own : Type 0 where
   pub rows : List Row
   pub entries : List AclEntry
   pub fabrics : List Fabric
+  pub saved : Option Credentials
   pub sessions : List NodeSession
   pub is_plain : Bool
 
-abbrev pub own : ℕ → State → Own
+abbrev pub own : ℕ → NodeState → Own
 own fabric s = record {
   rows = filter (λ (row : Row). row.fabric == fabric) s.rows;
   entries = own_entries fabric s.entries;
-  fabrics = filter (λ (f : Fabric). f.index == fabric) s.fabrics;
+  fabrics = filter (is_indexed fabric) s.fabrics;
+  saved = saved_for fabric s.armed;
   sessions = filter (λ (session : NodeSession). is_live_for fabric session.standing) s.sessions;
   is_plain = has_fabric fabric s.plain;
 }
@@ -113,7 +102,7 @@ pub record PublicView : Type 0 where
   pub boot : ℕ
   pub clock : ℕ
 
-abbrev pub public_view : ℕ → State → PublicView
+abbrev pub public_view : ℕ → NodeState → PublicView
 public_view fabric s = record {
   rows = map (seen_by fabric) (filter (λ (row : Row). not (row.fabric == fabric)) s.rows);
   owners = map (λ (entry : AclEntry). entry.fabric) (filter (λ (entry : AclEntry). not (entry.fabric == fabric)) s.entries);
@@ -145,16 +134,20 @@ bare_fabric d = record {
 
 -- a fabric with all that is its own, where it is among these
 abbrev pub own_or_bare : List Fabric → Descriptor → Fabric
-own_or_bare mine d = unwrap_or (find (λ (f : Fabric). f.index == d.index) mine) (bare_fabric d)
+own_or_bare mine d = unwrap_or (find (is_indexed d.index) mine) (bare_fabric d)
 
-abbrev pub veil_of : ℕ → Own → PublicView → State
+-- the fail-safe with the fabric's own saved credentials; those of others are empty
+abbrev pub with_saved : Option Credentials → Armed → Armed
+with_saved saved armed = record armed { saved_credentials = saved }
+
+abbrev pub veil_of : ℕ → Own → PublicView → NodeState
 veil_of fabric o p = record {
   rows = o.rows ++ p.rows;
   entries = o.entries ++ map bare_entry p.owners;
   fabrics = map (own_or_bare o.fabrics) p.fabrics;
   roots = p.roots;
   networks = p.networks;
-  armed = p.armed;
+  armed = option_map (with_saved o.saved) p.armed;
   versions = p.versions;
   changes = p.changes;
   changed = p.changed;
@@ -164,33 +157,23 @@ veil_of fabric o p = record {
   clock = p.clock;
 }
 
-abbrev pub veil : ℕ → State → State
+abbrev pub veil : ℕ → NodeState → NodeState
 veil fabric s = veil_of fabric (own fabric s) (public_view fabric s)
 
--- Observations.
+-- The same of the whole: the deadlines of a fabric's plain actors are its own, and nothing more is public.
 
--- What an answer to a fabric is made of. No answer takes the state itself.
-pub record Observation : Type 0 where
-  -- the fabric that observes
-  pub fabric : ℕ
-  -- whether it is in the table
-  pub is_member : Bool
-  -- whether the plain PASE session is its own
-  pub is_plain : Bool
-  -- what a read is answered from
-  pub seen : Seen
-  -- the time of the latest event, in ms
-  pub clock : ℕ
+abbrev pub is_deadline_in : ℕ → PlainDeadline → Bool
+is_deadline_in fabric deadline = deadline.fabric == fabric
 
-abbrev pub is_member : ℕ → State → Bool
-is_member fabric s = list_any (λ (f : Fabric). f.index == fabric) s.fabrics
+pub record OwnOfWhole : Type 0 where
+  pub node : Own
+  pub deadlines : List PlainDeadline
 
--- what a fabric sees of a state
-abbrev pub observation : ℕ → State → Observation
-observation fabric s = record {
-  fabric = fabric;
-  is_member = is_member fabric s;
-  is_plain = has_fabric fabric s.plain;
-  seen = seen_as fabric (λ place. in_order fabric (rows_of s place)) s.versions s.entries;
-  clock = s.clock;
-}
+abbrev pub own_of_whole : ℕ → State → OwnOfWhole
+own_of_whole fabric s = record { node = own fabric s.node; deadlines = filter (is_deadline_in fabric) s.deadlines }
+
+abbrev pub whole_of : ℕ → OwnOfWhole → PublicView → State
+whole_of fabric o p = record { node = veil_of fabric o.node p; deadlines = o.deadlines }
+
+abbrev pub veil_of_whole : ℕ → State → State
+veil_of_whole fabric s = whole_of fabric (own_of_whole fabric s) (public_view fabric s.node)

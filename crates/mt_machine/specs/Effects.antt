@@ -1,0 +1,66 @@
+-- What a step makes of the state.
+use Rattle.std.specs.Prelude.{ℕ, ◌==◌, ◌&&◌, ◌||◌, not, nat_lt, Bool, false, List, [], ◌∷◌, ◌++◌, Option, bytes_eq, drop, filter, map, take, if◌then◌else◌}
+use Rattle.std.specs.List.{list_any}
+use Rattle.mt_tlv.specs.declared.value.Value.{Value}
+use Rattle.mt_model.specs.Order.{row_at, stands_before}
+use Rattle.mt_model.specs.Sight.{same_place}
+use Rattle.mt_model.specs.declared.access.AclEntry.{AclEntry}
+use Rattle.mt_model.specs.declared.access.Actor.{Actor}
+use Rattle.mt_model.specs.declared.action.NodeStep.{NodeStep}
+use Rattle.mt_model.specs.declared.action.NodeStep.TheVariants.{SetRow, SetEntries, PutNetwork, RemoveNetwork, ConnectNetwork, MoveNetwork}
+use Rattle.mt_model.specs.declared.network.Network.{Network}
+use Rattle.mt_model.specs.declared.place.Place.{Place}
+use Rattle.mt_model.specs.declared.place.Row.{Row}
+use Rattle.mt_model.specs.declared.state.NodeState.{NodeState}
+
+-- Rows and entries: those of lower places or fabrics, the new ones, those of higher ones.
+
+abbrev pub is_below : Place → ℕ → Row → Bool
+is_below place fabric row = stands_before row.place place || (same_place row.place place && nat_lt row.fabric fabric)
+
+abbrev pub is_above : Place → ℕ → Row → Bool
+is_above place fabric row = stands_before place row.place || (same_place place row.place && nat_lt fabric row.fabric)
+
+abbrev pub with_rows : Place → ℕ → List Value → List Row → List Row
+with_rows place fabric values rows = filter (is_below place fabric) rows ++ (map (row_at place fabric) values ++ filter (is_above place fabric) rows)
+
+abbrev pub with_entries : ℕ → List AclEntry → List AclEntry → List AclEntry
+with_entries fabric new entries = filter (λ (entry : AclEntry). nat_lt entry.fabric fabric) entries ++ (new ++ filter (λ (entry : AclEntry). nat_lt fabric entry.fabric) entries)
+
+-- Networks.
+
+abbrev pub has_id : List ℕ → Network → Bool
+has_id id network = bytes_eq network.id id
+
+abbrev pub with_secret : List ℕ → List ℕ → Network → Network
+with_secret id secret network = if has_id id network then record network { secret = secret } else network
+
+-- a network that is there keeps its place and whether it is connected; a new one stands last
+abbrev pub with_network : List ℕ → List ℕ → List Network → List Network
+with_network id secret networks =
+    if list_any (has_id id) networks then map (with_secret id secret) networks
+    else networks ++ record { id = id; secret = secret; connected = false } ∷ []
+
+abbrev pub others_than : List ℕ → List Network → List Network
+others_than id networks = filter (λ (network : Network). not (has_id id network)) networks
+
+-- it alone is connected
+abbrev pub connected_to : List ℕ → Network → Network
+connected_to id network = record network { connected = has_id id network }
+
+abbrev pub moved_to : List ℕ → ℕ → List Network → List Network
+moved_to id index networks = take index (others_than id networks) ++ (filter (has_id id) networks ++ drop index (others_than id networks))
+
+-- The state behind a step, where this actor is taken as asking.
+abbrev pub after : Option Actor → NodeStep → NodeState → NodeState
+after asker (SetRow place fabric values) s = record s { rows = with_rows place fabric values s.rows }
+after asker (SetEntries fabric entries) s = record s { entries = with_entries fabric entries s.entries }
+after asker (PutNetwork id secret) s = record s { networks = with_network id secret s.networks }
+after asker (RemoveNetwork id) s = record s { networks = others_than id s.networks }
+after asker (ConnectNetwork id) s = record s { networks = map (connected_to id) s.networks }
+after asker (MoveNetwork id index) s = record s { networks = moved_to id index s.networks }
+
+-- one step after the other
+abbrev pub after_all : Option Actor → List NodeStep → NodeState → NodeState
+after_all asker [] s = s
+after_all asker (step ∷ steps) s = after_all asker steps (after asker step s)

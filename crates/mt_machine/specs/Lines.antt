@@ -1,0 +1,176 @@
+-- One line of a recording: the action that it makes, what is sent, and the state behind it.
+use Rattle.std.specs.Prelude.{ℕ, ◌+◌, ◌-◌, ◌^◌, ◌==◌, ◌&&◌, ◌||◌, not, nat_lt, Bool, true, false, List, [], ◌∷◌, ◌++◌, Option, Some, None, Result, Ok, Err, bytes_eq, filter, if◌then◌else◌, length, map, min, take_while, unwrap_or}
+use Rattle.std.specs.List.{find}
+use Rattle.std.specs.Option.{option_map}
+use Rattle.mt_im.specs.Reading.{request_in}
+use Rattle.mt_im.specs.declared.fault.ImFault.{ImFault}
+use Rattle.mt_im.specs.declared.fault.ImFault.TheVariants as faults
+use Rattle.mt_im_out.specs.Chunks.{chunks_of}
+use Rattle.mt_model.specs.Status.{code_of}
+use Rattle.mt_model.specs.declared.access.Actor.{Actor}
+use Rattle.mt_model.specs.declared.action.Action.{Action}
+use Rattle.mt_model.specs.declared.action.Action.TheVariants as actions
+use Rattle.mt_model.specs.declared.action.PlainDeadline.{PlainDeadline}
+use Rattle.mt_model.specs.declared.message.Payload.{Payload}
+use Rattle.mt_model.specs.declared.message.Reply.{Reply}
+use Rattle.mt_model.specs.declared.message.Request.{Request}
+use Rattle.mt_model.specs.declared.message.Request.TheVariants as requests
+use Rattle.mt_model.specs.declared.recording.Event.{Event}
+use Rattle.mt_model.specs.declared.recording.Event.TheVariants as events
+use Rattle.mt_model.specs.declared.recording.Sent.{Sent}
+use Rattle.mt_model.specs.declared.recording.To.TheVariants.{Plain}
+use Rattle.mt_model.specs.declared.state.NodeState.{NodeState}
+use Rattle.mt_model.specs.declared.status.Status.TheVariants.{Busy, InvalidAction, PathsExhausted}
+use Rattle.mt_machine.specs.Isolation.{is_deadline_in}
+use Rattle.mt_machine.specs.State.{State}
+use Rattle.mt_machine.specs.Step.{after_action, asker, case_actor, is_built_request, is_late, pase_actor, refusal, reply_of}
+
+-- Whom a plain line names: the plain PASE session where its fabric is 0, otherwise a node of its fabric.
+abbrev pub line_actor : ℕ → ℕ → List ℕ → Actor
+line_actor fabric node cats = if fabric == 0 then pase_actor 0 else case_actor fabric node cats
+
+-- The fabric for which an event acts: a line of fabric 0 acts for the fabric that the plain PASE session has.
+abbrev pub fabric_of : NodeState → Event → ℕ
+fabric_of s (events.Ask ms fabric node cats opcode payload) = if fabric == 0 then unwrap_or s.plain 0 else fabric
+fabric_of s (events.Datagram ms peer bytes) = 0
+fabric_of s (events.Tick ms) = 0
+fabric_of s (events.Report ms fabric subscription) = 0
+fabric_of s (events.Resend ms session) = 0
+fabric_of s (events.Stop calls fate) = 0
+
+-- Deadlines. An actor is its fabric, its node and its CATs together.
+
+abbrev pub is_deadline_of : Actor → PlainDeadline → Bool
+is_deadline_of actor deadline = deadline.fabric == actor.fabric && (deadline.node == actor.node && bytes_eq deadline.cats actor.cats)
+
+-- until when the next request of an actor must come, where that is set
+abbrev pub deadline_of : Actor → List PlainDeadline → Option ℕ
+deadline_of actor deadlines = option_map (λ (deadline : PlainDeadline). deadline.until) (find (is_deadline_of actor) deadlines)
+
+-- the deadlines of others
+abbrev pub without : Actor → List PlainDeadline → List PlainDeadline
+without actor deadlines = filter (λ (deadline : PlainDeadline). not (is_deadline_of actor deadline)) deadlines
+
+-- at most four actors of a fabric have a deadline at once
+abbrev pub has_room : Actor → List PlainDeadline → Bool
+has_room actor deadlines = nat_lt (length (filter (is_deadline_in actor.fabric) (without actor deadlines))) 4
+
+-- a time that is later by some ms, at most the last of 64 bits
+abbrev pub later_by : ℕ → ℕ → ℕ
+later_by ms now = min (now + ms) (2 ^ 64 - 1)
+
+abbrev pub deadline_at : Actor → ℕ → PlainDeadline
+deadline_at actor until = record { fabric = actor.fabric; node = actor.node; cats = actor.cats; until = until }
+
+-- What a payload asks.
+
+-- the reply to a payload that is no request
+abbrev pub fault_reply : ImFault → Reply
+fault_reply faults.TooManyPaths = refusal (code_of PathsExhausted)
+fault_reply fault = refusal (code_of InvalidAction)
+
+-- the action that a payload makes
+abbrev pub action_of : Actor → Option ℕ → Result Request ImFault → Action
+action_of actor deadline (Ok request) = actions.Ask actor request deadline
+action_of actor deadline (Err fault) = actions.Nothing
+
+-- whether a request sets a time
+abbrev pub is_timed : Request → Bool
+is_timed (requests.Timed ms) = true
+is_timed request = false
+
+-- what sets a time is refused where there is no room for it
+abbrev pub is_refused : Actor → List PlainDeadline → ℕ → Request → Bool
+is_refused actor deadlines ms request = is_timed request && (not (has_room actor deadlines) && not (is_late (deadline_of actor deadlines) ms))
+
+-- What a line is replied where this actor is taken as asking. A payload that is no request is refused, whatever
+-- deadline stood.
+abbrev pub line_reply : State → Actor → Actor → ℕ → Result Request ImFault → Reply
+line_reply s actor asker ms (Ok request) =
+    if is_refused asker s.deadlines ms request then refusal (code_of Busy)
+    else reply_of s.node (action_of actor (deadline_of asker s.deadlines) (Ok request)) ms
+line_reply s actor asker ms (Err fault) = fault_reply fault
+
+-- The deadlines behind a line. Whatever the actor sends takes its deadline away; what sets a time, in time and with room,
+-- sets the next one.
+abbrev pub with_deadline : Actor → List PlainDeadline → ℕ → Result Request ImFault → List PlainDeadline
+with_deadline asker deadlines ms (Ok (requests.Timed wait)) =
+    if has_room asker deadlines && not (is_late (deadline_of asker deadlines) ms) then without asker deadlines ++ deadline_at asker (later_by wait ms) ∷ []
+    else without asker deadlines
+with_deadline asker deadlines ms asked = without asker deadlines
+
+-- nobody's deadline goes where nobody is taken as asking
+abbrev pub deadlines_after : Option Actor → List PlainDeadline → ℕ → Result Request ImFault → List PlainDeadline
+deadlines_after None deadlines ms asked = deadlines
+deadlines_after (Some asker) deadlines ms asked = with_deadline asker deadlines ms asked
+
+-- What is sent.
+
+-- a payload to a plain actor
+abbrev pub sent_plain : ℕ → ℕ → Payload → Sent
+sent_plain ms fabric payload = record { ms = ms; to = Plain fabric payload.opcode; bytes = payload.bytes }
+
+-- the payloads of a reply; a plain actor confirms each at once
+abbrev pub sent_as : ℕ → ℕ → Reply → List Sent
+sent_as ms fabric reply = map (sent_plain ms fabric) (chunks_of reply)
+
+-- to whoever is taken as asking; nothing where nobody is
+abbrev pub sent_to : State → Actor → ℕ → Result Request ImFault → Option Actor → List Sent
+sent_to s actor ms asked None = []
+sent_to s actor ms asked (Some asker) = sent_as ms asker.fabric (line_reply s actor asker ms asked)
+
+-- what a line of a plain actor sends, whose payload comes to this
+abbrev pub sent_for : State → Actor → ℕ → Result Request ImFault → List Sent
+sent_for s actor ms asked = sent_to s actor ms asked (asker s.node actor)
+
+-- until when the request of an actor must come, where somebody is taken as asking
+abbrev pub deadline_for : State → Option Actor → Option ℕ
+deadline_for s None = None
+deadline_for s (Some asker) = deadline_of asker s.deadlines
+
+abbrev pub next_for : State → Actor → ℕ → Result Request ImFault → State
+next_for s actor ms asked = record {
+  node = after_action s.node (action_of actor (deadline_for s (asker s.node actor)) asked) ms;
+  deadlines = deadlines_after (asker s.node actor) s.deadlines ms asked;
+}
+
+-- what an event sends; other events than lines of plain actors are not built
+abbrev pub sent : State → Event → List Sent
+sent s (events.Ask ms fabric node cats opcode payload) = sent_for s (line_actor fabric node cats) ms (request_in opcode payload)
+sent s (events.Datagram ms peer bytes) = []
+sent s (events.Tick ms) = []
+sent s (events.Report ms fabric subscription) = []
+sent s (events.Resend ms session) = []
+sent s (events.Stop calls fate) = []
+
+-- the state behind an event
+abbrev pub next : State → Event → State
+next s (events.Ask ms fabric node cats opcode payload) = next_for s (line_actor fabric node cats) ms (request_in opcode payload)
+next s (events.Datagram ms peer bytes) = s
+next s (events.Tick ms) = s
+next s (events.Report ms fabric subscription) = s
+next s (events.Resend ms session) = s
+next s (events.Stop calls fate) = s
+
+-- all that a list of events sends
+abbrev pub run : State → List Event → List Sent
+run s [] = []
+run s (event ∷ events) = sent s event ++ run (next s event) events
+
+-- Which events are built: payloads that are no request, and requests that are built.
+
+abbrev pub is_built_payload : Result Request ImFault → Bool
+is_built_payload (Ok request) = is_built_request request
+is_built_payload (Err fault) = true
+
+abbrev pub is_built : Event → Bool
+is_built (events.Ask ms fabric node cats opcode payload) = is_built_payload (request_in opcode payload)
+is_built (events.Datagram ms peer bytes) = false
+is_built (events.Tick ms) = false
+is_built (events.Report ms fabric subscription) = false
+is_built (events.Resend ms session) = false
+is_built (events.Stop calls fate) = false
+
+-- the events before the first that is not built
+abbrev pub built_events : List Event → List Event
+built_events events = take_while is_built events

@@ -1,0 +1,16 @@
+-- What a fabric observes of a state: all that an answer to it is made of.
+use Rattle.std.specs.Prelude.{ℕ}
+use Rattle.mt_model.specs.Order.{in_order}
+use Rattle.mt_model.specs.Seen.{Observation, seen_as}
+use Rattle.mt_model.specs.declared.state.NodeState.{NodeState}
+use Rattle.mt_machine.specs.Isolation.{has_fabric}
+use Rattle.mt_machine.specs.State.{is_member, rows_of}
+
+abbrev pub observation : ℕ → NodeState → Observation
+observation fabric s = record {
+  fabric = fabric;
+  is_member = is_member fabric s;
+  is_plain = has_fabric fabric s.plain;
+  seen = seen_as fabric (λ place. in_order fabric (rows_of s place)) s.versions s.entries;
+  clock = s.clock;
+}

@@ -1,0 +1,191 @@
+-- The state of the node and of the whole around it, and what holds of every state.
+use Rattle.std.specs.Prelude.{◌≡◌, ℕ, ◌==◌, ◌&&◌, ◌||◌, not, nat_le, Bool, true, false, List, Option, Some, None, Result, Ok, Err, bytes_eq, count_by, filter, length, if◌then◌else◌}
+use Rattle.std.specs.List.{list_all, list_any}
+use Rattle.mt_meta.specs.Finding.{find_of}
+use Rattle.mt_meta.specs.Forms.{has_form}
+use Rattle.mt_meta.specs.Places.{all_places}
+use Rattle.mt_meta.specs.Stored.{is_stored}
+use Rattle.mt_meta.specs.declared.meta.Meta.{Meta}
+use Rattle.mt_model.specs.Config.{ascend_from, has_up_to, have_one_identity, have_one_label, is_entry, is_fabric, is_of, none_alike}
+use Rattle.mt_model.specs.Order.{are_ascending, fabrics_ascend}
+use Rattle.mt_model.specs.Sight.{stands_at}
+use Rattle.mt_model.specs.declared.access.AclEntry.{AclEntry}
+use Rattle.mt_model.specs.declared.access.Auth.{Auth}
+use Rattle.mt_model.specs.declared.access.Auth.TheVariants.{Pase, Case, Group}
+use Rattle.mt_model.specs.declared.action.PlainDeadline.{PlainDeadline}
+use Rattle.mt_model.specs.declared.fabric.Credentials.{Credentials}
+use Rattle.mt_model.specs.declared.fabric.Fabric.{Fabric}
+use Rattle.mt_model.specs.declared.network.Armed.{Armed}
+use Rattle.mt_model.specs.declared.network.Network.{Network}
+use Rattle.mt_model.specs.declared.place.Place.{Place}
+use Rattle.mt_model.specs.declared.place.Row.{Row}
+use Rattle.mt_model.specs.declared.state.ChangeNumber.{ChangeNumber}
+use Rattle.mt_model.specs.declared.state.NodeSession.{NodeSession}
+use Rattle.mt_model.specs.declared.state.NodeState.{NodeState}
+use Rattle.mt_model.specs.declared.state.Standing.{Standing}
+use Rattle.mt_model.specs.declared.state.Standing.TheVariants.{Waits, Live, Ended}
+use Rattle.mt_model.specs.declared.status.Status.{Status}
+use Rattle.mt_apps.specs.Computed.{computed_rows}
+use Rattle.mt_apps.specs.Parts.{Parts}
+
+-- The whole: the node, and until when the next requests of plain actors must come.
+pub record State : Type 0 where
+  pub node : NodeState
+  pub deadlines : List PlainDeadline
+
+-- The rows of a place, which are stored or computed.
+
+abbrev pub parts : NodeState → Parts
+parts s = record { entries = s.entries; fabrics = s.fabrics; roots = s.roots; networks = s.networks }
+
+abbrev pub rows_of : NodeState → Place → List Row
+rows_of s place = if is_stored place then filter (stands_at place) s.rows else computed_rows (parts s) place
+
+-- Fabrics of the table.
+
+abbrev pub is_indexed : ℕ → Fabric → Bool
+is_indexed index fabric = fabric.index == index
+
+abbrev pub is_among : List Fabric → ℕ → Bool
+is_among fabrics index = list_any (is_indexed index) fabrics
+
+abbrev pub is_member : ℕ → NodeState → Bool
+is_member fabric s = is_among s.fabrics fabric
+
+-- the identity of a fabric: the public key of its root, and its id
+abbrev pub has_identity : List ℕ → ℕ → Fabric → Bool
+has_identity root_key fabric_id fabric = bytes_eq fabric.credentials.root_key root_key && fabric.credentials.fabric_id == fabric_id
+
+-- What holds of a state's parts.
+
+abbrev pub has_index_up_to : ℕ → Fabric → Bool
+has_index_up_to most fabric = nat_le fabric.index most
+
+-- an entry is of a fabric of the table
+abbrev pub is_owned : List Fabric → AclEntry → Bool
+is_owned fabrics entry = list_any (λ fabric. is_of fabric entry) fabrics
+
+abbrev pub has_entries_up_to : ℕ → List AclEntry → Fabric → Bool
+has_entries_up_to most entries fabric = nat_le (count_by (is_of fabric) entries) most
+
+-- a row of a scoped list is of a fabric of the table, any other of none
+abbrev pub is_row_of : List Fabric → Bool → ℕ → Bool
+is_row_of fabrics scoped fabric = if scoped then is_among fabrics fabric else fabric == 0
+
+abbrev pub is_row_at : List Fabric → Row → Result Meta Status → Bool
+is_row_at fabrics row (Ok meta) = has_form meta.kind meta.limit row.value && is_row_of fabrics meta.scoped row.fabric
+is_row_at fabrics row (Err status) = false
+
+-- a row stands at a stored place of the table, with a value of its form within its limit
+abbrev pub is_row : List Fabric → Row → Bool
+is_row fabrics row = is_stored row.place && is_row_at fabrics row (find_of row.place)
+
+abbrev pub is_unscoped : Result Meta Status → Bool
+is_unscoped (Ok meta) = not meta.scoped
+is_unscoped (Err status) = false
+
+-- the stored places that have one row
+abbrev pub has_one_row : Place → Bool
+has_one_row place = is_stored place && is_unscoped (find_of place)
+
+abbrev pub stands_once : List Row → Place → Bool
+stands_once rows place = count_by (stands_at place) rows == 1
+
+abbrev pub is_root_of : List ℕ → Fabric → Bool
+is_root_of root fabric = bytes_eq fabric.credentials.root root
+
+-- the root certificate that was given under the fail-safe
+abbrev pub is_given_root : List ℕ → Option (List ℕ) → Bool
+is_given_root root None = false
+is_given_root root (Some given) = bytes_eq given root
+
+abbrev pub is_awaited_root : List ℕ → Option Armed → Bool
+is_awaited_root root None = false
+is_awaited_root root (Some armed) = is_given_root root armed.root
+
+-- a fabric uses a root, or commissioning does
+abbrev pub is_used : List Fabric → Option Armed → List ℕ → Bool
+is_used fabrics armed root = list_any (is_root_of root) fabrics || is_awaited_root root armed
+
+abbrev pub is_network : Network → Bool
+is_network network = has_up_to 32 network.id && nat_le (length network.secret) 64
+
+abbrev pub have_one_id : Network → Network → Bool
+have_one_id a b = bytes_eq a.id b.id
+
+-- A session that is live over CASE has the identity of its fabric, which is in the table, and the identity of one that
+-- waits is in no table. Over PASE a session has no fabric, or one of the table.
+abbrev pub stands_rightly : List Fabric → NodeSession → Auth → Standing → Bool
+stands_rightly fabrics session Pase (Live fabric) = fabric == 0 || is_among fabrics fabric
+stands_rightly fabrics session Pase Waits = false
+stands_rightly fabrics session auth (Live fabric) = list_any (λ (f : Fabric). f.index == fabric && has_identity session.root_key session.fabric_id f) fabrics
+stands_rightly fabrics session auth Waits = not (list_any (has_identity session.root_key session.fabric_id) fabrics)
+stands_rightly fabrics session auth Ended = true
+
+abbrev pub is_session : List Fabric → NodeSession → Bool
+is_session fabrics session = stands_rightly fabrics session session.auth session.standing
+
+-- the plain PASE session has no fabric, or one of the table
+abbrev pub is_plain_of : List Fabric → Option ℕ → Bool
+is_plain_of fabrics None = true
+is_plain_of fabrics (Some fabric) = fabric == 0 || is_among fabrics fabric
+
+abbrev pub is_change_up_to : ℕ → ChangeNumber → Bool
+is_change_up_to changed change = nat_le change.number changed
+
+-- The fail-safe's facts: not both of added and updated; what was added is the context and in the table; what was updated
+-- is owner and context and in the table; where nothing was added the context is the owner; credentials are saved exactly
+-- where there was an update, with the identity of that fabric.
+
+abbrev pub is_added : List Fabric → Armed → Option ℕ → Bool
+is_added fabrics armed None = armed.context == armed.owner
+is_added fabrics armed (Some fabric) = armed.context == fabric && is_among fabrics fabric
+
+abbrev pub saves_identity : List Fabric → ℕ → Option Credentials → Bool
+saves_identity fabrics fabric None = false
+saves_identity fabrics fabric (Some saved) = list_any (λ (f : Fabric). f.index == fabric && has_identity saved.root_key saved.fabric_id f) fabrics
+
+abbrev pub is_saved : Option Credentials → Bool
+is_saved None = false
+is_saved (Some saved) = true
+
+abbrev pub is_updated : List Fabric → Armed → Option ℕ → Option ℕ → Bool
+is_updated fabrics armed added None = not (is_saved armed.saved_credentials)
+is_updated fabrics armed None (Some fabric) = armed.owner == fabric && (armed.context == fabric && saves_identity fabrics fabric armed.saved_credentials)
+is_updated fabrics armed (Some added) (Some fabric) = false
+
+abbrev pub keeps_facts : List Fabric → Option Armed → Bool
+keeps_facts fabrics None = true
+keeps_facts fabrics (Some armed) = is_added fabrics armed armed.added && is_updated fabrics armed armed.added armed.updated
+
+-- What holds of every state of the node. The numbers are the limits of the node.
+pub record IsValid (s : NodeState) : Type 0 where
+  -- at most 16 fabrics, whose indexes rise from 1 or more on to at most 16
+  pub fabric_count : nat_le (length s.fabrics) 16 ≡ true
+  pub fabrics_rise : fabrics_ascend s.fabrics ≡ true
+  pub indexes : list_all (has_index_up_to 16) s.fabrics ≡ true
+  -- lengths of certificates and keys, operational node ids, labels that are text
+  pub fabric_forms : list_all is_fabric s.fabrics ≡ true
+  pub identities_differ : none_alike have_one_identity s.fabrics ≡ true
+  pub labels_differ : none_alike have_one_label s.fabrics ≡ true
+  -- entries stand by ascending fabric from 1 on, are valid, of fabrics of the table, and at most 4 of each
+  pub entries_rise : ascend_from 1 s.entries ≡ true
+  pub entry_forms : list_all is_entry s.entries ≡ true
+  pub entries_owned : list_all (is_owned s.fabrics) s.entries ≡ true
+  pub entry_counts : list_all (has_entries_up_to 4 s.entries) s.fabrics ≡ true
+  -- rows stand by place and fabric, each with a value of its form, and one at each place that is not scoped
+  pub rows_rise : are_ascending s.rows ≡ true
+  pub row_forms : list_all (is_row s.fabrics) s.rows ≡ true
+  pub rows_stand : list_all (stands_once s.rows) (filter has_one_row all_places) ≡ true
+  -- each root once, and used
+  pub roots_differ : none_alike bytes_eq s.roots ≡ true
+  pub roots_used : list_all (is_used s.fabrics s.armed) s.roots ≡ true
+  -- at most 4 networks, whose ids differ
+  pub network_count : nat_le (length s.networks) 4 ≡ true
+  pub network_forms : list_all is_network s.networks ≡ true
+  pub network_ids_differ : none_alike have_one_id s.networks ≡ true
+  pub sessions_stand : list_all (is_session s.fabrics) s.sessions ≡ true
+  pub plain_stands : is_plain_of s.fabrics s.plain ≡ true
+  -- no attribute changed later than the latest change
+  pub changes_counted : list_all (is_change_up_to s.changed) s.changes ≡ true
+  pub failsafe_facts : keeps_facts s.fabrics s.armed ≡ true

@@ -1,0 +1,202 @@
+-- One step of the node: who is taken as asking, what is replied, what the reply makes of the state.
+use Rattle.std.specs.Prelude.{ℕ, ◌==◌, ◌&&◌, not, nat_lt, Bool, true, false, List, [], ◌∷◌, Option, Some, None, if◌then◌else◌, replicate}
+use Rattle.std.specs.List.{find, list_any}
+use Rattle.std.specs.Option.{option_and_then, option_map}
+use Rattle.mt_model.specs.Seen.{Observation}
+use Rattle.mt_model.specs.Status.{code_of}
+use Rattle.mt_model.specs.declared.access.Actor.{Actor}
+use Rattle.mt_model.specs.declared.access.Auth.{Auth}
+use Rattle.mt_model.specs.declared.access.Auth.TheVariants.{Pase, Case, Group}
+use Rattle.mt_model.specs.declared.action.Action.{Action}
+use Rattle.mt_model.specs.declared.action.Action.TheVariants.{Ask, Nothing}
+use Rattle.mt_model.specs.declared.action.NodeStep.{NodeStep}
+use Rattle.mt_model.specs.declared.fabric.Fabric.{Fabric}
+use Rattle.mt_model.specs.declared.message.Index.{Index}
+use Rattle.mt_model.specs.declared.message.Index.TheVariants.{Whole, Append, At}
+use Rattle.mt_model.specs.declared.message.Item.{Item}
+use Rattle.mt_model.specs.declared.message.Path.{Path}
+use Rattle.mt_model.specs.declared.message.Reply.{Reply}
+use Rattle.mt_model.specs.declared.message.Reply.TheVariants as replies
+use Rattle.mt_model.specs.declared.message.Request.{Request}
+use Rattle.mt_model.specs.declared.message.Request.TheVariants as requests
+use Rattle.mt_model.specs.declared.state.NodeSession.{NodeSession}
+use Rattle.mt_model.specs.declared.state.NodeState.{NodeState}
+use Rattle.mt_model.specs.declared.state.Standing.{Standing}
+use Rattle.mt_model.specs.declared.state.Standing.TheVariants.{Waits, Live, Ended}
+use Rattle.mt_model.specs.declared.state.Version.{Version}
+use Rattle.mt_model.specs.declared.status.Status.TheVariants.{InvalidAction, Success, Timeout}
+use Rattle.mt_read.specs.Reading.{read_answer}
+use Rattle.mt_machine.specs.Effects.{after_all}
+use Rattle.mt_machine.specs.Observation.{observation}
+use Rattle.mt_machine.specs.State.{is_among, is_member}
+
+-- Who is taken as asking.
+
+-- a plain actor of a fabric is taken as a CASE peer of no session
+abbrev pub case_actor : ℕ → ℕ → List ℕ → Actor
+case_actor fabric node cats = record { fabric = fabric; auth = Case; node = node; cats = cats; session = None }
+
+-- the plain PASE session, with the fabric that it has
+abbrev pub pase_actor : ℕ → Actor
+pase_actor fabric = record { fabric = fabric; auth = Pase; node = 0; cats = replicate 3 0; session = None }
+
+-- the actor of a session, None where the session is not live
+abbrev pub live_actor : NodeSession → Standing → Option Actor
+live_actor session (Live fabric) = Some (record { fabric = fabric; auth = session.auth; node = session.peer_node; cats = session.cats; session = Some session.session })
+live_actor session Waits = None
+live_actor session Ended = None
+
+abbrev pub session_actor : NodeState → ℕ → Option Actor
+session_actor s id = option_and_then (λ (session : NodeSession). live_actor session session.standing) (find (λ (session : NodeSession). session.session == id) s.sessions)
+
+-- Where this actor asks: on a session its actor; a plain CASE actor as it stands, where its fabric is in the table;
+-- a plain PASE actor of no fabric and no node the plain PASE session; nobody otherwise.
+abbrev pub plain_asker : NodeState → Actor → Auth → Option Actor
+plain_asker s actor Case = if is_member actor.fabric s then Some actor else None
+plain_asker s actor Pase = if actor.fabric == 0 && actor.node == 0 then option_map pase_actor s.plain else None
+plain_asker s actor Group = None
+
+abbrev pub asker_on : NodeState → Actor → Option ℕ → Option Actor
+asker_on s actor (Some id) = session_actor s id
+asker_on s actor None = plain_asker s actor actor.auth
+
+abbrev pub asker : NodeState → Actor → Option Actor
+asker s actor = asker_on s actor actor.session
+
+-- What is replied.
+
+abbrev pub refusal : ℕ → Reply
+refusal code = replies.Status code
+
+-- whether a path names a single item of a list
+abbrev pub is_item : Index → Bool
+is_item Whole = false
+is_item Append = false
+is_item (At n) = true
+
+abbrev pub names_item : Path → Bool
+names_item path = is_item path.index
+
+abbrev pub report_of : Option (List Item) → Reply
+report_of None = refusal (code_of InvalidAction)
+report_of (Some items) = replies.Report None items true
+
+-- A read of single items of a list is refused as a whole, and so is one that asks every cluster for what
+-- not every cluster has.
+abbrev pub read_reply : Observation → Actor → List Path → Bool → List Version → Reply
+read_reply o actor paths filtered versions =
+    if list_any names_item paths then refusal (code_of InvalidAction)
+    else report_of (read_answer o.seen actor paths filtered versions)
+
+-- The reply to a request, made of what the asker's fabric observes. A status is no request; what sets a time
+-- is answered with success. Subscriptions, writes and commands are not built.
+abbrev pub reply_to : Observation → Actor → Request → Reply
+reply_to o actor (requests.Status code) = refusal (code_of InvalidAction)
+reply_to o actor (requests.Read paths wanted minimum filtered versions) = read_reply o actor paths filtered versions
+reply_to o actor (requests.Subscribe keep floor ceiling paths wanted minimum filtered versions) = replies.Nothing
+reply_to o actor (requests.Write suppress timed items) = replies.Nothing
+reply_to o actor (requests.Invoke suppress timed command fields) = replies.Nothing
+reply_to o actor (requests.Timed ms) = refusal (code_of Success)
+
+-- what a reply makes of the state: no request that is built changes a thing
+abbrev pub steps_to : Observation → Actor → Request → List NodeStep
+steps_to o actor (requests.Status code) = []
+steps_to o actor (requests.Read paths wanted minimum filtered versions) = []
+steps_to o actor (requests.Subscribe keep floor ceiling paths wanted minimum filtered versions) = []
+steps_to o actor (requests.Write suppress timed items) = []
+steps_to o actor (requests.Invoke suppress timed command fields) = []
+steps_to o actor (requests.Timed ms) = []
+
+-- whether the deadline has passed
+abbrev pub is_late : Option ℕ → ℕ → Bool
+is_late None now = false
+is_late (Some deadline) now = nat_lt deadline now
+
+-- A request later than its deadline is refused, whatever it asks, and makes nothing of the state.
+
+abbrev pub reply_in_time : NodeState → Actor → Request → Option ℕ → ℕ → Reply
+reply_in_time s asker request deadline now = if is_late deadline now then refusal (code_of Timeout) else reply_to (observation asker.fabric s) asker request
+
+abbrev pub steps_in_time : NodeState → Actor → Request → Option ℕ → ℕ → List NodeStep
+steps_in_time s asker request deadline now = if is_late deadline now then [] else steps_to (observation asker.fabric s) asker request
+
+-- Nothing is replied where nobody is taken as asking.
+
+abbrev pub asked_reply : NodeState → Request → Option ℕ → ℕ → Option Actor → Reply
+asked_reply s request deadline now None = replies.Nothing
+asked_reply s request deadline now (Some asker) = reply_in_time s asker request deadline now
+
+abbrev pub asked_steps : NodeState → Request → Option ℕ → ℕ → Option Actor → List NodeStep
+asked_steps s request deadline now None = []
+asked_steps s request deadline now (Some asker) = steps_in_time s asker request deadline now
+
+-- An action at a time.
+
+-- who is taken as asking
+abbrev pub asker_of : NodeState → Action → Option Actor
+asker_of s (Ask actor request deadline) = asker s actor
+asker_of s Nothing = None
+
+abbrev pub reply_of : NodeState → Action → ℕ → Reply
+reply_of s (Ask actor request deadline) now = asked_reply s request deadline now (asker s actor)
+reply_of s Nothing now = replies.Nothing
+
+abbrev pub steps_of : NodeState → Action → ℕ → List NodeStep
+steps_of s (Ask actor request deadline) now = asked_steps s request deadline now (asker s actor)
+steps_of s Nothing now = []
+
+-- the state behind it: its steps are made, and it is this time
+abbrev pub after_action : NodeState → Action → ℕ → NodeState
+after_action s action now = record (after_all (asker_of s action) (steps_of s action now) s) { clock = now }
+
+-- What else an action does: on whose session it was asked, which sessions end, which fabric leaves the table.
+
+abbrev pub session_asking : NodeState → Action → Option ℕ
+session_asking s action = option_and_then (λ (asker : Actor). asker.session) (asker_of s action)
+
+abbrev pub is_live : Standing → Bool
+is_live Waits = false
+is_live (Live fabric) = true
+is_live Ended = false
+
+-- the sessions that were live and are not any more; no step moves a session from its place
+abbrev pub closed_between : List NodeSession → List NodeSession → List ℕ
+closed_between [] sessions = []
+closed_between (session ∷ sessions) [] = []
+closed_between (before ∷ sessions) (now ∷ others) =
+    if is_live before.standing && not (is_live now.standing) then before.session ∷ closed_between sessions others
+    else closed_between sessions others
+
+-- the first fabric that is not there any more
+abbrev pub gone_between : List Fabric → List Fabric → Option ℕ
+gone_between before now = option_map (λ (fabric : Fabric). fabric.index) (find (λ (fabric : Fabric). not (is_among now fabric.index)) before)
+
+pub record Aside : Type 0 where
+  pub session : Option ℕ
+  pub closed : List ℕ
+  pub gone : Option ℕ
+
+abbrev pub aside_of : NodeState → Action → ℕ → Aside
+aside_of s action now = record {
+  session = session_asking s action;
+  closed = closed_between s.sessions (after_action s action now).sessions;
+  gone = gone_between s.fabrics (after_action s action now).fabrics;
+}
+
+-- Which actions are built: statuses, reads without event paths, and what sets a time.
+
+abbrev pub is_nil : List Path → Bool
+is_nil [] = true
+is_nil (path ∷ paths) = false
+
+abbrev pub is_built_request : Request → Bool
+is_built_request (requests.Status code) = true
+is_built_request (requests.Read paths wanted minimum filtered versions) = is_nil wanted
+is_built_request (requests.Subscribe keep floor ceiling paths wanted minimum filtered versions) = false
+is_built_request (requests.Write suppress timed items) = false
+is_built_request (requests.Invoke suppress timed command fields) = false
+is_built_request (requests.Timed ms) = true
+
+abbrev pub is_built_action : Action → Bool
+is_built_action (Ask actor request deadline) = is_built_request request
+is_built_action Nothing = true
