@@ -1,14 +1,10 @@
 pub mod Cuts
 pub mod EventLines
-pub mod Items
 pub mod Numbers
-pub mod Objects
 pub mod ReadAgain
 pub mod Readings
 pub mod Recordings
 pub mod Shapes
 pub mod Spellings
-pub mod Tables
 pub mod Texts
-pub mod Walks
 pub mod Written

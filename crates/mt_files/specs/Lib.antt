@@ -1,12 +1,7 @@
-pub mod Configuration
 pub mod Event
 pub mod Field
 pub mod Form
-pub mod Gives
-pub mod Json
 pub mod Lines
-pub mod Lists
 pub mod Output
 pub mod Recording
-pub mod Rows
 pub mod Subject

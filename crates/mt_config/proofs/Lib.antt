@@ -1,0 +1,4 @@
+pub mod Items
+pub mod Objects
+pub mod Tables
+pub mod Walks

@@ -1,6 +1,0 @@
-use Rattle.std.proofs.Common.{◌≡◌, ◌+◌, drop}
-use Rattle.mt_model.specs.Config.{are_numbered_from}
-use Rattle.mt_files.proofs.rules.are_numbered.Given as goal
-
-abbrev pub invariant-loop-place : goal.invariant-loop-place
-invariant-loop-place l = are_numbered_from (l.place + 1) (drop l.place l.fabrics) ≡ are_numbered_from 1 l.fabrics
