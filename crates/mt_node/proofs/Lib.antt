@@ -1,5 +1,4 @@
-pub mod Ascending
 pub mod Entries
-pub mod Sessions
 pub mod Orderly
-pub mod Replies
+pub mod Plans
+pub mod Sessions

@@ -1,4 +1,4 @@
-pub mod Action
-pub mod Laws
+pub mod Answered
+pub mod Kept
 pub mod Plan
 pub mod Sessions

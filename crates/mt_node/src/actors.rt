@@ -1,11 +1,10 @@
 //! Who is taken as asking.
 
 ghost use Rattle.std.specs.Prelude.{◌≡◌, ◌==◌, ◌↔◌, None, Some, false, if◌then◌else◌};
-ghost use Rattle.std.specs.List.{find, list_any};
+ghost use Rattle.std.specs.List.{find};
 ghost use Rattle.std.specs.Option.{option_and_then, option_map};
-ghost use Rattle.mt_machine.specs.Machine.{asker, live_actor, pase_actor, plain_asker, session_actor};
-ghost use Rattle.mt_model.specs.declared.fabric.Fabric.{Fabric};
-ghost use Rattle.mt_machine.specs.View.{is_member};
+ghost use Rattle.mt_machine.specs.Step.{asker, live_actor, pase_actor, plain_asker, session_actor};
+ghost use Rattle.mt_machine.specs.State.{is_among, is_member};
 ghost use Rattle.mt_model.specs.declared.state.NodeSession.{NodeSession};
 ghost use Rattle.mt_node.specs.Sessions.{is_live_session};
 
@@ -83,7 +82,7 @@ fn member(state: &NodeState, actor: &Actor) -> Option<Actor>
 }
 
 fn has_fabric(fabrics: &[Fabric], index: u8) -> bool
-    ensures { result ≡ list_any (λ (f : Fabric). f.index == index) fabrics.now }
+    ensures { result ≡ is_among fabrics.now index }
 {
     fabrics.iter().any(|fabric| fabric.index == index)
 }

@@ -1,26 +1,29 @@
 //! The node: what it keeps, what it answers, and what an answer leaves behind. An action is planned,
 //! which changes nothing and takes all the memory, and then applied, which takes none.
 //!
-//! - `action`: what the node is asked, and what comes of it;
 //! - `node`: the node, how it starts, plans and applies;
-//! - `opening`: the state in which a new node begins;
+//! - `outcome`: what comes of an action;
 //! - `actors`: who is taken as asking;
-//! - `planning`: the replies;
+//! - `requests`: the table of requests, and which area answers each;
+//! - `reads`: the area of reads;
+//! - `effects`: what the steps of an answer make of the state;
 //! - `sight`: what of the node answers are made of;
-//! - `laws`: planning and applying is the machine's step.
+//! - `opening`: the state in which a new node begins.
 #![tactic(auto)]
 
-mod action;
 mod actors;
-mod laws;
+mod effects;
 mod node;
 mod opening;
-mod planning;
+mod outcome;
+mod reads;
+mod requests;
 mod sight;
 
-pub use action::{Action, Outcome, SessionIds};
-pub use laws::{plans_reply_as_the_machine, plans_step_as_the_machine};
+pub use mt_model::{Action, SessionIds};
 pub use node::Node;
+pub use outcome::Outcome;
+pub use requests::is_built_request;
 
 #[cfg(test)]
 mod tests;

@@ -1,82 +1,133 @@
 //! The node.
 
 ghost use Rattle.std.specs.Prelude.{◌≡◌, ◌↔◌, None, true, false, IfOk};
-ghost use Rattle.mt_machine.specs.Machine.{asker, session_actor};
-ghost use Rattle.mt_machine.specs.Opened.{opened};
-ghost use Rattle.mt_node.specs.Action.{is_built_action};
-ghost use Rattle.mt_node.specs.Plan.{IsPlan, IsPlanned, applied};
+ghost use Rattle.mt_machine.specs.Step.{asker, is_built_action, is_built_request, is_late, session_actor};
+ghost use Rattle.mt_node.specs.Answered.{IsAnswerInTime};
+ghost use Rattle.mt_node.specs.Kept.{in_state, started};
+ghost use Rattle.mt_node.specs.Plan.{IsPlan, IsPlanFor, IsPlanned, applied};
 ghost use Rattle.mt_node.specs.Sessions.{is_live_session};
 
-use crate::action::{Action, Outcome};
 use crate::actors;
+use crate::effects::outcome;
 use crate::opening::opened;
-use crate::planning::{planned_ask, quiet};
-use mt_machine::states_are_orderly;
-use mt_model::{Actor, Config, NodeState};
+use crate::outcome::{Answered, Outcome};
+use crate::requests::{answered, nothing, refused};
+use mt_machine::{actions_set_the_time, states_are_valid};
+use mt_model::{Action, Actor, Config, ExactCopy, NodeState, Request, Status};
 use std::alloc::{AllocError, Global};
 use std::marker::Model;
 
-/// The node. Contracts see its state.
+/// The node. Contracts see its state and the configuration with which it was started.
 #[derive(Drop)]
 pub struct Node {
     pub(crate) alloc: Global,
     pub(crate) state: NodeState,
+    config: Config,
 }
 
 impl Model for Node {
-    ghost use Rattle.std.specs.Prelude.{◌≡◌, true};
-    ghost use Rattle.mt_model.specs.declared.state.NodeState.{NodeState};
-    ghost use Rattle.mt_machine.specs.View.{is_orderly};
+    ghost use Rattle.mt_model.specs.Contents.{contents_of};
+    ghost use Rattle.mt_machine.specs.State.{IsValid};
+    ghost use Rattle.mt_node.specs.Kept.{Kept};
     ghost use Rattle.mt_tlv.specs.contracts.value.Value as values;
     ghost use Rattle.std.specs.Coded.{codes};
 
-    ghost Value = { NodeState };
+    ghost Value = { Kept };
 
     ghost coded = { Prim.hlevel (codes, values.the_row.coded) };
 
-    ghost view = { λ node. node.state };
+    ghost view = { λ node. record { state = node.state; config = contents_of node.config } };
 
-    ghost invariant = { λ node. is_orderly node.state ≡ true };
+    ghost invariant = { λ node. IsValid node.state };
 }
 
 impl Node {
     /// A new node with this configuration, in its first boot.
     pub fn start(alloc: Global, config: &Config) -> Result<Node, AllocError>
-        ensures { IfOk result (λ node. node ≡ opened config.now) }
+        ensures { IfOk result (λ node. node ≡ started config.now) }
     {
         let state = opened(alloc, config)?;
-        states_are_orderly();
-        Ok(Node { alloc, state })
+        let config = config.copy()?;
+        states_are_valid();
+        Ok(Node {
+            alloc,
+            state,
+            config,
+        })
     }
 
     /// Plans an action, at this time in ms. It changes nothing, and takes all the memory; what it takes
     /// is the reply's, and nothing of the node's state is copied but what is answered.
     pub fn plan(&self, action: &Action, now: u64) -> Result<Outcome, AllocError>
         requires { is_built_action action.now ≡ true }
-        ensures { IfOk result (IsPlan self.now action.now now) }
+        ensures { IfOk result (IsPlan self.now.state action.now now) }
     {
         match action {
             Action::Ask {
                 actor,
                 request,
                 timed,
-            } => planned_ask(self, actor, request, *timed, now),
-            Action::Nothing => Ok(quiet(self.alloc, now)),
+            } => match self.asker(actor) {
+                Some(asking) => self.plan_asked(&asking, request, *timed, now),
+                None => Ok(self.quiet(now)),
+            },
+            Action::Nothing => Ok(self.quiet(now)),
         }
+    }
+
+    /// Plans to answer a request of whoever is taken as asking, as `asker` tells, at this time in ms.
+    pub fn plan_asked(
+        &self,
+        asking: &Actor,
+        request: &Request,
+        timed: Option<u64>,
+        now: u64,
+    ) -> Result<Outcome, AllocError>
+        requires { is_built_request request.now ≡ true }
+        ensures { IfOk result (IsPlanFor self.now.state asking.now request.now now timed) }
+    {
+        let answered = self.answered_in_time(asking, request, timed, now)?;
+        actions_set_the_time();
+        Ok(outcome(self.alloc, answered, asking.session, now))
+    }
+
+    // What a request is answered that must have come until a time.
+    fn answered_in_time(
+        &self,
+        asking: &Actor,
+        request: &Request,
+        timed: Option<u64>,
+        now: u64,
+    ) -> Result<Answered, AllocError>
+        requires { is_built_request request.now ≡ true }
+        ensures { IfOk result (IsAnswerInTime self.now.state asking.now request.now timed now) }
+    {
+        if is_late(timed, now) {
+            return Ok(refused(self.alloc, Status::Timeout));
+        }
+        answered(self, asking, request)
+    }
+
+    // The outcome of what nobody asks.
+    fn quiet(&self, now: u64) -> Outcome
+        ensures { IsPlan self.now.state Action.Nothing now result }
+    {
+        actions_set_the_time();
+        outcome(self.alloc, nothing(self.alloc), None, now)
     }
 
     /// Makes of the node what a planned action makes of it. It takes no memory, and cannot fail.
     pub fn apply(&mut self, outcome: Outcome)
-        requires { IsPlanned self.old outcome }
-        ensures { self.new ≡ applied outcome self.old }
+        requires { IsPlanned self.old.state outcome }
+        ensures { self.new ≡ in_state (applied outcome self.old.state) self.old }
     {
         self.state.clock = outcome.clock;
     }
 
     /// The actor of a session, None exactly where the session may not be used.
     pub fn actor(&self, session: u16) -> Option<Actor>
-        ensures exact { result ≡ session_actor self.now session }
-        ensures none { (result ≡ None) ↔ (is_live_session self.now session ≡ false) }
+        ensures exact { result ≡ session_actor self.now.state session }
+        ensures none { (result ≡ None) ↔ (is_live_session self.now.state session ≡ false) }
     {
         actors::session_actor(&self.state, session)
     }
@@ -85,8 +136,17 @@ impl Node {
     /// plain CASE actor as it stands, where its fabric is in the table; a plain PASE actor of no fabric
     /// and no node the plain PASE session, with the fabric that it has.
     pub fn asker(&self, actor: &Actor) -> Option<Actor>
-        ensures { result ≡ asker self.now actor.now }
+        ensures { result ≡ asker self.now.state actor.now }
     {
         actors::asker(&self.state, actor)
+    }
+}
+
+fn is_late(timed: Option<u64>, now: u64) -> bool
+    ensures { result ≡ is_late timed now }
+{
+    match timed {
+        Some(deadline) => deadline < now,
+        None => false,
     }
 }

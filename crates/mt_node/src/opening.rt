@@ -2,14 +2,15 @@
 
 ghost use Rattle.std.specs.Prelude.{◌≡◌, ◌==◌, ◌++◌, [], bytes_eq, IfOk, OnOk};
 ghost use Rattle.std.specs.List.{find, list_any};
-ghost use Rattle.mt_machine.specs.Opened.{first_rows, first_version, has_identity, live_or_waits, opened, session_of, sessions_of, standing_of, unscoped_row, versions_at, versions_of_endpoint, with_root, with_roots_of};
+ghost use Rattle.mt_machine.specs.Opened.{first_version, live_or_waits, opened, session_of, sessions_of, standing_of, versions_at, versions_of_endpoint, with_root, with_roots_of};
+ghost use Rattle.mt_machine.specs.State.{has_identity};
 
-use mt_meta::{clusters_of, endpoints};
+use mt_meta::{clusters_of, endpoints, first_rows};
 use mt_model::{
-    Auth, Config, ExactCopy, Fabric, Listed, NodeSession, NodeSessions, NodeState, Place, Roots,
-    Row, Rows, SessionRow, Standing, Version, Versions,
+    Auth, Config, ExactCopy, Fabric, Listed, NodeSession, NodeSessions, NodeState, Roots,
+    SessionRow, Standing, Version, Versions,
 };
-use mt_tlv::{Bytes, Members, Value};
+use mt_tlv::Bytes;
 use std::alloc::{AllocError, Global};
 
 // The version of every cluster as the first boot begins.
@@ -35,39 +36,6 @@ pub fn opened(alloc: Global, config: &Config) -> Result<NodeState, AllocError>
         boot: 1,
         clock: 0,
     })
-}
-
-fn first_rows(alloc: Global) -> Result<Rows, AllocError>
-    ensures { IfOk result (λ rows. rows ≡ first_rows) }
-{
-    let no_labels = Members::from_vec(Vec::new(alloc));
-    let rows = vec![in alloc;
-        row(0, 0x28, 5, Value::Text(Bytes::new(alloc))),
-        row(0, 0x28, 6, Value::Text(Bytes::from_slice(alloc, b"XX")?)),
-        row(0, 0x30, 0, Value::Uint(0)),
-        row(0, 0x30, 2, Value::Uint(2)),
-        row(0, 0x31, 4, Value::Bool(true)),
-        row(0, 0x31, 5, Value::Null),
-        row(0, 0x31, 6, Value::Null),
-        row(1, 0x06, 0, Value::Bool(false)),
-        row(1, 0x41, 0, Value::Array(no_labels)),
-        row(1, 0xfff1_fc00, 1, Value::Uint(0)),
-    ]?;
-    Ok(Rows::from_vec(rows))
-}
-
-fn row(endpoint: u16, cluster: u32, leaf: u32, value: Value) -> Row
-    ensures { result ≡ unscoped_row endpoint cluster leaf value }
-{
-    Row {
-        place: Place {
-            endpoint,
-            cluster,
-            leaf,
-        },
-        fabric: 0,
-        value,
-    }
 }
 
 // All clusters of all endpoints, each with this version.

@@ -5,24 +5,21 @@ ghost use Rattle.mt_model.specs.Config.{ascend_from};
 ghost use Rattle.mt_model.specs.Order.{are_ascending};
 ghost use Rattle.mt_model.specs.Sight.{stands_at, version_in};
 ghost use Rattle.mt_model.specs.declared.access.AclEntry.{AclEntry};
-ghost use Rattle.mt_machine.specs.Computed.{computed_rows, is_stored};
-ghost use Rattle.mt_machine.specs.View.{parts, rows_of};
+ghost use Rattle.mt_apps.specs.Computed.{computed_rows};
+ghost use Rattle.mt_machine.specs.State.{parts, rows_of};
 
 use crate::node::Node;
 use mt_apps::rows_at;
-use mt_meta::clusters::{
-    BASIC_INFORMATION, BENCH, BINDING, GENERAL_COMMISSIONING, NETWORK_COMMISSIONING, ON_OFF,
-    USER_LABEL,
-};
+use mt_meta::is_stored;
 use mt_model::{AclEntry, ExactCopy, Place, Row, Rows, Sight, Version, View};
 use std::alloc::{AllocError, Global};
 
 impl Sight for Node {
-    ghost rows_of = { rows_of };
+    ghost rows_of = { λ node. rows_of node.state };
 
-    ghost versions = { λ s. s.versions };
+    ghost versions = { λ node. node.state.versions };
 
-    ghost all_entries = { λ s. s.entries };
+    ghost all_entries = { λ node. node.state.entries };
 
     fn rows_at(&self, place: &Place) -> Result<Rows, AllocError> {
         if is_stored(place) {
@@ -41,22 +38,6 @@ impl Sight for Node {
     }
 }
 
-// Whether the rows of a place are stored; those of all others are computed.
-#[tactic(auto, unfolding(mt_machine::specs::Computed::is_stored))]
-fn is_stored(place: &Place) -> bool
-    ensures { result ≡ is_stored place.now }
-{
-    let leaf = place.leaf;
-    match place.cluster {
-        ON_OFF | BINDING | USER_LABEL => leaf == 0,
-        BASIC_INFORMATION => leaf == 5 || leaf == 6,
-        GENERAL_COMMISSIONING => leaf == 0 || leaf == 2,
-        NETWORK_COMMISSIONING => leaf == 4 || leaf == 5 || leaf == 6,
-        BENCH => leaf == 0 || leaf == 1,
-        _ => false,
-    }
-}
-
 // Copies of rows that ascend.
 fn copied(alloc: Global, rows: &[Row]) -> Result<Rows, AllocError>
     requires { IsTrue (are_ascending rows.now) }
@@ -70,7 +51,7 @@ fn copied(alloc: Global, rows: &[Row]) -> Result<Rows, AllocError>
 }
 
 fn computed(node: &Node, place: &Place) -> Result<Rows, AllocError>
-    ensures { IfOk result (λ rows. rows ≡ computed_rows (parts node.now) place.now) }
+    ensures { IfOk result (λ rows. rows ≡ computed_rows (parts node.now.state) place.now) }
 {
     let state = &node.state;
     let view = View {

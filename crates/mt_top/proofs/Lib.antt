@@ -1,4 +1,3 @@
 pub mod Counts
 pub mod Plays
 pub mod Rows
-pub mod Steps

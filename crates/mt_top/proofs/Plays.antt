@@ -3,13 +3,13 @@ use Rattle.std.proofs.Common.{◌≡◌, ℕ, ◌+◌, ◌<◌, ◌≤◌, true,
 use Rattle.std.proofs.lemmas.List.{append-nil, drop_all, drop_more}
 use Rattle.std.proofs.lemmas.List.Sums.{take_while-cons}
 use Rattle.mt_outside.specs.Stream.{Took, TookPart}
-use Rattle.mt_outside.proofs.Streams.{TookPart-then, TookPart-more}
+use Rattle.mt_outside.specs.Laws.{StreamLaws}
 use Rattle.mt_model.specs.declared.recording.Event.{Event}
 use Rattle.mt_model.specs.declared.recording.Sent.{Sent}
 use Rattle.mt_files.specs.Lines.{ended}
 use Rattle.mt_files.specs.Output.{output_text, sent_line}
-use Rattle.mt_machine.specs.Machine.{built_events, is_built, next, run, sent}
-use Rattle.mt_machine.specs.View.{State}
+use Rattle.mt_machine.specs.Lines.{built_events, is_built, next, run, sent}
+use Rattle.mt_machine.specs.State.{State}
 use Rattle.mt_top.specs.declared.fault.Fault.TheVariants.{Unbuilt}
 use Rattle.mt_top.specs.Run.{unbuilt_from, Steps}
 
@@ -65,20 +65,20 @@ output-end s all i le = ap (output_of s) (drop_all i all le)
 pub unbuilt-end : (line : ℕ) (all : List Event) (i : ℕ) → length all ≤ i → unbuilt_from line (drop i all) ≡ None
 unbuilt-end line all i le = ap (unbuilt_from line) (drop_all i all le)
 
--- one more element at this place of all, each of which comes to a message
-pub map_text-step : {X : Type 0} (f : X → Sent) (all : List X) (i : ℕ) (x : X) (text whole : List ℕ) → i < length all → x ≡ get_or all i x → text ++ output_text (map f (drop i all)) ≡ whole → (text ++ ended (sent_line (f x))) ++ output_text (map f (drop (i + 1) all)) ≡ whole
-map_text-step f all i x text whole lt is h =
-    append_assoc text (ended (sent_line (f x))) (output_text (map f (drop (i + 1) all)))
-    ∙ ap (λ (w : List ℕ). text ++ w) (sym (ap (λ l. output_text (map f l)) (drop_more all i x lt ∙ ap (λ m. m ∷ drop (i + 1) all) (sym is))))
+-- One more message at this place of all.
+pub text-step : (all : List Sent) (i : ℕ) (x : Sent) (text whole : List ℕ) → i < length all → x ≡ get_or all i x → text ++ output_text (drop i all) ≡ whole → (text ++ ended (sent_line x)) ++ output_text (drop (i + 1) all) ≡ whole
+text-step all i x text whole lt is h =
+    append_assoc text (ended (sent_line x)) (output_text (drop (i + 1) all))
+    ∙ ap (λ (w : List ℕ). text ++ w) (sym (ap output_text (drop_more all i x lt ∙ ap (λ m. m ∷ drop (i + 1) all) (sym is))))
     ∙ h
 
-pub map_text-end : {X : Type 0} (f : X → Sent) (all : List X) (i : ℕ) (text whole : List ℕ) → length all ≤ i → text ++ output_text (map f (drop i all)) ≡ whole → text ≡ whole
-map_text-end f all i text whole le h = sym (append-nil text) ∙ ap (λ (w : List ℕ). text ++ w) (sym (ap (λ l. output_text (map f l)) (drop_all i all le))) ∙ h
+pub text-end : (all : List Sent) (i : ℕ) (text whole : List ℕ) → length all ≤ i → text ++ output_text (drop i all) ≡ whole → text ≡ whole
+text-end all i text whole le h = sym (append-nil text) ∙ ap (λ (w : List ℕ). text ++ w) (sym (ap output_text (drop_all i all le))) ∙ h
 
 -- all was told
 pub took-all : (a b : Option (List ℕ)) (told rest all : List ℕ) → Took a b told → all ≡ told ++ rest → rest ≡ [] → Took a b all
 took-all a b told rest all took is none = let same : all ≡ told = is ∙ ap (λ (w : List ℕ). told ++ w) none ∙ append-nil told in rw same took
 
 -- a front of the next text was told
-pub took-front : (a b c : Option (List ℕ)) (told text rest all : List ℕ) → Took a b told → TookPart b c text → all ≡ told ++ (text ++ rest) → TookPart a c all
-took-front a b c told text rest all took part is = TookPart-more a c (told ++ text) all (TookPart-then a b c told text took part) (rest, is ∙ sym (append_assoc told text rest))
+pub took-front : StreamLaws → (a b c : Option (List ℕ)) (told text rest all : List ℕ) → Took a b told → TookPart b c text → all ≡ told ++ (text ++ rest) → TookPart a c all
+took-front laws a b c told text rest all took part is = laws.part_of_more a c (told ++ text) all (laws.then_part a b c told text took part) (rest, is ∙ sym (append_assoc told text rest))

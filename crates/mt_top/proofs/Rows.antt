@@ -3,21 +3,21 @@ use Rattle.std.proofs.Common.{◌≡◌, ◌≢◌, true, false, cond, Bool, ℕ
 use Rattle.std.specs.Prelude.{IfErr, IfSome, OnOk}
 use Rattle.std.proofs.lemmas.Bool.{lt-ltb}
 use Rattle.std.proofs.lemmas.List.{append-nil}
+use Rattle.mt_outside.specs.Laws.{StreamLaws}
 use Rattle.mt_outside.specs.Stream.{IsPrefix, ReadToEnd, Rose, Took, TookPart}
-use Rattle.mt_outside.proofs.Streams.{IsPrefix-nil, Rose-from, Took-nil, Took-then, TookPart-more, TookPart-nil, TookPart-then, TookPart-whole}
 use Rattle.mt_model.specs.declared.config.Config.{Config}
 use Rattle.mt_model.specs.declared.limits.TheConstants.{CONFIGURATION_BYTES, RECORDING_BYTES}
 use Rattle.mt_model.specs.declared.recording.Event.{Event}
-use Rattle.mt_files.specs.Configuration.{IsConfiguration, configuration}
+use Rattle.mt_config.specs.Configuration.{IsConfiguration, configuration}
 use Rattle.mt_files.specs.Recording.{events_behind_head, recording_of}
 use Rattle.mt_files.specs.Lines.{lines_of}
-use Rattle.mt_files.specs.declared.configuration.ConfigField.{ConfigField}
-use Rattle.mt_files.specs.declared.configuration.ConfigField.TheVariants.{Size}
+use Rattle.mt_config.specs.declared.configuration.ConfigField.{ConfigField}
+use Rattle.mt_config.specs.declared.configuration.ConfigField.TheVariants.{Size}
 use Rattle.mt_files.specs.declared.line_fault.LineFault.{LineFault}
 use Rattle.mt_files.specs.declared.line_fault.LineFault.TheVariants as lines
-use Rattle.mt_machine.specs.Machine.{is_built}
-use Rattle.mt_machine.specs.Opened.{opened}
-use Rattle.mt_machine.specs.View.{State}
+use Rattle.mt_machine.specs.Lines.{is_built}
+use Rattle.mt_machine.specs.Opened.{opened_whole}
+use Rattle.mt_machine.specs.State.{State}
 use Rattle.mt_top.specs.declared.fault.Fault.{Fault}
 use Rattle.mt_top.specs.declared.fault.Fault.TheVariants.{BadWords, BadConfig, BadRecord, ReadFault, WriteFault, Memory, TooLong, Unbuilt}
 use Rattle.mt_top.specs.Faults.{fault_line, fault_of, status_of}
@@ -162,304 +162,6 @@ ends_done ending old new config recording reads none took = ends_told 0 ending o
   written = subst (λ o. Took old.written new.written ((ending config recording).output ++ last_line o)) (sym none) (rw append-nil took);
 })
 
--- nothing was written before the line
-nothing_before : (a b c : Option (List ℕ)) (line : List ℕ) → Took a b [] → Took b c line → Took a c line
-nothing_before a b c line p q = Took-then a b c [] line p q
-
-nothing_part : (a b c : Option (List ℕ)) (line : List ℕ) → Took a b [] → TookPart b c line → TookPart a c line
-nothing_part a b c line p q = TookPart-then a b c [] line p q
-
--- the front of the output that was written before a run stopped
-record Front (ending : List ℕ → List ℕ → Ending) (old : Moment) (mid : Option (List ℕ)) : Type 0 where
-  config : List ℕ
-  recording : List ℕ
-  config_left : IsLeft old.config.left config
-  first_left : IsLeft old.first.left recording
-  part : TookPart old.written mid (ending config recording).output
-
-nothing_yet : (ending : List ℕ → List ℕ → Ending) (old : Moment) (mid : Option (List ℕ)) → Took old.written mid [] → Front ending old mid
-nothing_yet ending old mid h = record {
-  config = left_in old.config.left;
-  recording = left_in old.first.left;
-  config_left = IsLeft-left_in old.config.left;
-  first_left = IsLeft-left_in old.first.left;
-  part = ([], IsPrefix-nil (ending (left_in old.config.left) (left_in old.first.left)).output, h);
-}
-
--- a front of the output, and a front of the last line
-both_parts : (ending : List ℕ → List ℕ → Ending) (old new : Moment) (mid : Option (List ℕ)) → Front ending old mid → TookPart mid new.written (fault_line Memory) → NoMemory ending old new
-both_parts ending old new mid f q = record {
-  config = f.config;
-  recording = f.recording;
-  config_left = f.config_left;
-  first_left = f.first_left;
-  output = f.part.0;
-  last = q.0;
-  output_front = f.part.1;
-  last_front = q.1;
-  written = Took-then old.written mid new.written f.part.0 q.0 f.part.2 q.2;
-}
-
--- the files were read, and all is written but the last line
-record Stopped (fault : Fault) (ending : List ℕ → List ℕ → Ending) (old mid : Moment) : Type 0 where
-  config : List ℕ
-  recording : List ℕ
-  reads : Reads ending old mid config recording
-  is : (ending config recording).fault ≡ Some fault
-  took : Took old.written mid.written (ending config recording).output
-
-stopped_badly : (field : ConfigField) (ending : List ℕ → List ℕ → Ending) (old mid : Moment) → Stops (BadConfig field) ending old mid → Stopped (BadConfig field) ending old mid
-stopped_badly field ending old mid h =
-    let ends : ending h.0 [] ≡ refused (BadConfig field) = h.2 [] in record {
-      config = h.0;
-      recording = [];
-      reads = record { config_read = h.1; first_read = subst (λ e. HasReadFirst (e.fault) old.first mid.first []) (sym ends) h.3 };
-      is = ap (λ e. e.fault) ends;
-      took = subst (λ e. Took old.written mid.written (e.output)) (sym ends) h.4;
-    }
-
-front_of : (fault : Fault) (ending : List ℕ → List ℕ → Ending) (old mid : Moment) → is_bad_config (Some fault) ≡ false → Stopped fault ending old mid → Front ending old mid.written
-front_of fault ending old mid not h = record {
-  config = h.config;
-  recording = h.recording;
-  config_left = IsLeft-HasRead CONFIGURATION_BYTES old.config mid.config h.config h.reads.config_read;
-  first_left = IsLeft-HasRead RECORDING_BYTES old.first mid.first h.recording (was_read (ending h.config h.recording).fault (ap is_bad_config h.is ∙ not) h.reads.first_read);
-  part = TookPart-whole old.written mid.written (ending h.config h.recording).output h.took;
-}
-  where
-    was_read : (o : Option Fault) → is_bad_config o ≡ false → HasReadFirst o old.first mid.first h.recording → HasRead RECORDING_BYTES old.first mid.first h.recording
-    was_read None n r = r
-    was_read (Some BadWords) n r = r
-    was_read (Some (BadConfig field)) n r = absurd (cc)
-    was_read (Some (BadRecord line kind)) n r = r
-    was_read (Some ReadFault) n r = r
-    was_read (Some WriteFault) n r = r
-    was_read (Some Memory) n r = r
-    was_read (Some TooLong) n r = r
-    was_read (Some (Unbuilt line)) n r = r
-
-module _ (ending : List ℕ → List ℕ → Ending) (old mid : Moment) (after : Option (List ℕ)) (faults : ℕ) where
-  abbrev new : Moment
-  new = moment mid.config mid.first after faults
-
-  reads_now : (config recording : List ℕ) → Reads ending old mid config recording → Reads ending old new config recording
-  reads_now config recording h = record { config_read = h.config_read; first_read = h.first_read }
-
-  failed_now : SourceFailed ending old mid → SourceFailed ending old new
-  failed_now (config_failed rose kept) = config_failed rose kept
-  failed_now (first_failed config read taken rose) = first_failed config read taken rose
-
-  -- the fault line was written
-  stopped_told : (fault : Fault) → is_told (status_of fault) ≡ true → is_status (status_of fault) ≡ true → Stopped fault ending old mid → Took mid.written after (fault_line fault) → Ends (status_of fault) (Some ending) old new
-  stopped_told fault one known h t = ends_told (status_of fault) ending old new one known (record {
-    config = h.config;
-    recording = h.recording;
-    reads = reads_now h.config h.recording h.reads;
-    is = sym (ap exit_status h.is);
-    written = subst (λ o. Took old.written after ((ending h.config h.recording).output ++ last_line o)) (sym h.is) (Took-then old.written mid.written after (ending h.config h.recording).output (fault_line fault) h.took t);
-  })
-
-  stopped_by : (fault : Fault) → (config : List ℕ) × (recording : List ℕ) × Reads ending old mid config recording × ((ending config recording).fault ≡ Some fault) × Took old.written mid.written (ending config recording).output → Stopped fault ending old mid
-  stopped_by fault h = record { config = h.0; recording = h.1; reads = h.2; is = h.3; took = h.4 }
-
-  -- the sink failed at the fault line
-  stopped_cut : (fault : Fault) → Stopped fault ending old mid → TookPart mid.written after (fault_line fault) → Cut ending old new
-  stopped_cut fault h t = text_cut h.config h.recording (reads_now h.config h.recording h.reads) (subst (λ o. TookPart old.written after ((ending h.config h.recording).output ++ last_line o)) (sym h.is) (TookPart-then old.written mid.written after (ending h.config h.recording).output (fault_line fault) h.took t))
-
-  fronts : (fault : Fault) → fault ≢ WriteFault → Stops fault ending old mid → Front ending old mid.written
-  fronts BadWords not h = absurd h
-  fronts (BadConfig field) not h = nothing_yet ending old mid.written h.4
-  fronts (BadRecord line kind) not h = front_of (BadRecord line kind) ending old mid refl (stopped_by (BadRecord line kind) h)
-  fronts ReadFault not h = nothing_yet ending old mid.written h.1
-  fronts WriteFault not h = absurd (not refl)
-  fronts Memory not h = record { config = h.0; recording = h.1; config_left = h.2; first_left = h.3; part = h.4 }
-  fronts TooLong not h = front_of TooLong ending old mid refl (stopped_by TooLong h)
-  fronts (Unbuilt line) not h = front_of (Unbuilt line) ending old mid refl (stopped_by (Unbuilt line) h)
-
-  row_told : (fault : Fault) → fault ≢ WriteFault → Stops fault ending old mid → Took mid.written after (fault_line fault) → Ends (status_of fault) (Some ending) old new
-  row_told BadWords not h t = absurd h
-  row_told (BadConfig field) not h t = stopped_told (BadConfig field) refl refl (stopped_badly field ending old mid h) t
-  row_told (BadRecord line kind) not h t = stopped_told (BadRecord line kind) refl refl (stopped_by (BadRecord line kind) h) t
-  row_told ReadFault not h t = ends_read_fault ending old new (failed_now h.0) (nothing_before old.written mid.written after (fault_line ReadFault) h.1 t)
-  row_told WriteFault not h t = absurd (not refl)
-  row_told Memory not h t = ends_memory ending old new (both_parts ending old new mid.written (fronts Memory not h) (TookPart-whole mid.written after (fault_line Memory) t))
-  row_told TooLong not h t = stopped_told TooLong refl refl (stopped_by TooLong h) t
-  row_told (Unbuilt line) not h t = stopped_told (Unbuilt line) refl refl (stopped_by (Unbuilt line) h) t
-
-  row_cut : (fault : Fault) → fault ≢ WriteFault → is_memory fault ≡ false → Stops fault ending old mid → TookPart mid.written after (fault_line fault) → Cut ending old new
-  row_cut BadWords not other h t = absurd h
-  row_cut (BadConfig field) not other h t = stopped_cut (BadConfig field) (stopped_badly field ending old mid h) t
-  row_cut (BadRecord line kind) not other h t = stopped_cut (BadRecord line kind) (stopped_by (BadRecord line kind) h) t
-  row_cut ReadFault not other h t = read_fault_cut (failed_now h.0) (nothing_part old.written mid.written after (fault_line ReadFault) h.1 t)
-  row_cut WriteFault not other h t = absurd (not refl)
-  row_cut Memory not other h t = absurd (cc)
-  row_cut TooLong not other h t = stopped_cut TooLong (stopped_by TooLong h) t
-  row_cut (Unbuilt line) not other h t = stopped_cut (Unbuilt line) (stopped_by (Unbuilt line) h) t
-
-  pub ends_by : (fault : Fault) (status : ℕ) → fault ≢ WriteFault → Stops fault ending old mid → old.write_faults ≤ mid.write_faults → Finishes fault status mid.written after mid.write_faults faults → Ends status (Some ending) old new
-  ends_by fault status not h later (told_line is t) = rw is (row_told fault not h t)
-  ends_by fault status not h later (not_told is other rose t) = rw is (ends_write_fault (Some ending) old new (Rose-from old.write_faults mid.write_faults faults later rose) (row_cut fault not other h t))
-  ends_by fault status not h later (no_memory is t) = rw is (ends_memory ending old new (both_parts ending old new mid.written (fronts fault not h) t))
-
--- the sink failed at the output
-pub ends_cut : (ending : List ℕ → List ℕ → Ending) (old new : Moment) (fault : Fault) → fault ≡ WriteFault → Stops fault ending old new → Ends 6 (Some ending) old new
-ends_cut ending old new fault is h = cut (subst (λ f. Stops f ending old new) is h)
-  where
-    cut : Stops WriteFault ending old new → Ends 6 (Some ending) old new
-    cut h = ends_write_fault (Some ending) old new h.0 (text_cut h.1.0 h.1.1 h.1.2 (TookPart-more old.written new.written (ending h.1.0 h.1.1).output (text_of (ending h.1.0 h.1.1)) h.1.3 (last_line (ending h.1.0 h.1.1).fault, refl)))
-
--- words that have no form
-pub ends_badly : (asked : Option (List ℕ → List ℕ → Ending)) (old : Moment) (after : Option (List ℕ)) (faults status : ℕ) → asked ≡ None → (status ≡ 7 → BadWords ≡ Memory) → Finishes BadWords status old.written after old.write_faults faults → Ends status asked old (moment old.config old.first after faults)
-ends_badly asked old after faults status none sure (told_line is t) = rw is (ends_bad_words asked old (moment old.config old.first after faults) none (refl, refl) t)
-ends_badly asked old after faults status none sure (not_told is other rose t) = rw (is, none) (ends_write_fault None old (moment old.config old.first after faults) rose ((refl, refl), t))
-ends_badly asked old after faults status none sure (no_memory is t) = let h : BadWords ≡ Memory = sure is in absurd (cc)
-
--- Behind a configuration.
-
-pub configuring_never_writes : (fault : Fault) (old now : Input) → StopsConfiguring fault old now → fault ≢ WriteFault
-configuring_never_writes fault old now h is = subst (λ f. StopsConfiguring f old now) is h
-
-pub configuring_stops : (fault : Fault) (old now first : Input) (written : Option (List ℕ)) (faults : ℕ) → StopsConfiguring fault old now → Stops fault replayed (moment old first written faults) (moment now first written faults)
-configuring_stops BadWords old now first written faults h = absurd h
-configuring_stops (BadConfig field) old now first written faults h = (h.0, h.1, λ recording. ap (λ read. configured read recording) h.2, refl, Took-nil written)
-configuring_stops (BadRecord line kind) old now first written faults h = absurd h
-configuring_stops ReadFault old now first written faults h = (config_failed h refl, Took-nil written)
-configuring_stops WriteFault old now first written faults h = absurd h
-configuring_stops Memory old now first written faults h = (left_in old.left, left_in first.left, IsLeft-left_in old.left, IsLeft-left_in first.left, TookPart-nil written (replayed (left_in old.left) (left_in first.left)).output)
-configuring_stops TooLong old now first written faults h = absurd h
-configuring_stops (Unbuilt line) old now first written faults h = absurd h
-
-never_fails_in_hand : Rose 0 0 → ⊥
-never_fails_in_hand h = omega arith
-
--- A run with a configuration in hand, as the end of the run that read it.
-module _ (config : Config) (bytes : List ℕ) (is : IsConfiguration bytes config) (read_old read_new first_old first_new : Input) (before after : Option (List ℕ)) (old_faults new_faults : ℕ) (read : HasRead CONFIGURATION_BYTES read_old read_new bytes) where
-  abbrev held : List ℕ → List ℕ → Ending
-  held = replayed_from (opened config)
-
-  abbrev old_hand : Moment
-  old_hand = moment in_hand first_old before old_faults
-
-  abbrev new_hand : Moment
-  new_hand = moment in_hand first_new after new_faults
-
-  abbrev old_run : Moment
-  old_run = moment read_old first_old before old_faults
-
-  abbrev new_run : Moment
-  new_run = moment read_new first_new after new_faults
-
-  same : (other recording : List ℕ) → held other recording ≡ replayed bytes recording
-  same other recording = sym (ap (λ r. configured r recording) is)
-
-  reads_run : (other recording : List ℕ) → Reads held old_hand new_hand other recording → Reads replayed old_run new_run bytes recording
-  reads_run other recording h = record { config_read = read; first_read = subst (λ e. HasReadFirst (e.fault) first_old first_new recording) (same other recording) h.first_read }
-
-  told_run : (status : ℕ) → Told status held old_hand new_hand → Told status replayed old_run new_run
-  told_run status h = record {
-    config = bytes;
-    recording = h.recording;
-    reads = reads_run h.config h.recording h.reads;
-    is = h.is ∙ ap (λ e. exit_status (e.fault)) (same h.config h.recording);
-    written = subst (λ e. Took before after (text_of e)) (same h.config h.recording) h.written;
-  }
-
-  failed_run : SourceFailed held old_hand new_hand → SourceFailed replayed old_run new_run
-  failed_run (config_failed rose kept) = absurd (never_fails_in_hand rose)
-  failed_run (first_failed other hand taken rose) = first_failed bytes read (λ recording. subst (λ e. is_bad_config (e.fault) ≡ false) (same other recording) (taken recording)) rose
-
-  memory_run : NoMemory held old_hand new_hand → NoMemory replayed old_run new_run
-  memory_run h = record {
-    config = bytes;
-    recording = h.recording;
-    config_left = IsLeft-HasRead CONFIGURATION_BYTES read_old read_new bytes read;
-    first_left = h.first_left;
-    output = h.output;
-    last = h.last;
-    output_front = subst (λ e. IsPrefix h.output (e.output)) (same h.config h.recording) h.output_front;
-    last_front = h.last_front;
-    written = h.written;
-  }
-
-  cut_run : Cut held old_hand new_hand → Cut replayed old_run new_run
-  cut_run (text_cut other recording reads t) = text_cut bytes recording (reads_run other recording reads) (subst (λ e. TookPart before after (text_of e)) (same other recording) t)
-  cut_run (read_fault_cut failed t) = read_fault_cut (failed_run failed) t
-
-  pub ends_behind : (status : ℕ) → Ends status (Some held) old_hand new_hand → Ends status (Some replayed) old_run new_run
-  ends_behind status h = record {
-    known = h.known;
-    told = λ e. told_run status (h.told e);
-    bad_words = λ e. absurd (cc (h.bad_words e).0);
-    read_fault = λ e. let p = h.read_fault e in (failed_run p.0, p.1);
-    write_fault = λ e. let p = h.write_fault e in (p.0, cut_run p.1);
-    memory = λ e. memory_run (h.memory e);
-  }
-
--- A replay with a configuration in hand, where a state, its recording's source and the sink stand so.
-module _ (s : State) (first_old first_new : Input) (before after : Option (List ℕ)) (old_faults new_faults : ℕ) where
-  abbrev from_hand : Moment
-  from_hand = moment in_hand first_old before old_faults
-
-  abbrev to_hand : Moment
-  to_hand = moment in_hand first_new after new_faults
-
-  -- there was no memory before anything was written
-  pub stops_early : after ≡ before → Stops Memory (replayed_from s) from_hand to_hand
-  stops_early same = rw same ([], left_in first_old.left, refl, IsLeft-left_in first_old.left, TookPart-nil before (replayed_from s [] (left_in first_old.left)).output)
-
-  -- the source failed
-  pub stops_at_source : after ≡ before → Rose first_old.faults first_new.faults → Stops ReadFault (replayed_from s) from_hand to_hand
-  stops_at_source same rose = (first_failed [] hand_read (λ recording. recorded_is_no_bad_config s (recording_of recording)) rose, rw same (Took-nil before))
-
-  -- the recording is refused
-  pub stops_refused : (fault : Fault) (bytes : List ℕ) → after ≡ before → HasRead RECORDING_BYTES first_old first_new bytes → recorded s (recording_of bytes) ≡ refused fault → (config : List ℕ) × (recording : List ℕ) × Reads (replayed_from s) from_hand to_hand config recording × ((replayed_from s config recording).fault ≡ Some fault) × Took before after (replayed_from s config recording).output
-  stops_refused fault bytes same read is = (
-    [],
-    bytes,
-    reads_in_hand s from_hand to_hand bytes refl refl read,
-    ap (λ (e : Ending). e.fault) is,
-    subst (λ (e : Ending). Took before after (e.output)) (sym is) (rw same (Took-nil before)),
-  )
-
-  pub stops_too_long : after ≡ before → IfSome first_old.left (λ bytes. RECORDING_BYTES < length bytes) → Stops TooLong (replayed_from s) from_hand to_hand
-  stops_too_long same more =
-      let l = too_many_left RECORDING_BYTES first_old.left more in
-      stops_refused TooLong l.0 same (too_many l.1 l.2) (ap (recorded s) (recording_too_long l.0 l.2))
-
-  pub stops_unread : (fault : LineFault) (bytes : List ℕ) → after ≡ before → HasRead RECORDING_BYTES first_old first_new bytes → (fault ≡ lines.Memory) ⊎ (recording_of bytes ≡ Err fault) → Stops (fault_of fault) (replayed_from s) from_hand to_hand
-  stops_unread (lines.Line line kind) bytes same read (inl e) = absurd (cc)
-  stops_unread (lines.Line line kind) bytes same read (inr e) = stops_refused (BadRecord line kind) bytes same read (ap (recorded s) e)
-  stops_unread lines.TooLong bytes same read (inl e) = absurd (cc)
-  stops_unread lines.TooLong bytes same read (inr e) = stops_refused TooLong bytes same read (ap (recorded s) e)
-  stops_unread lines.Memory bytes same read why = stops_early same
-
-  -- its events were played
-  pub plays_done : (bytes : List ℕ) (events : List Event) → HasRead RECORDING_BYTES first_old first_new bytes → recording_of bytes ≡ Ok events → PlayedTo (played s events) before after → Done (replayed_from s) from_hand to_hand
-  plays_done bytes events read is h =
-      let e : recorded s (recording_of bytes) ≡ played s events = ap (recorded s) is in (
-        [],
-        bytes,
-        reads_in_hand s from_hand to_hand bytes refl refl read,
-        ap (λ (x : Ending). x.fault) e ∙ h.0,
-        subst (λ (x : Ending). Took before after (x.output)) (sym e) h.1,
-      )
-
-  pub plays_stop : (bytes : List ℕ) (events : List Event) (fault : Fault) → HasRead RECORDING_BYTES first_old first_new bytes → recording_of bytes ≡ Ok events → StopsPlaying fault (played s events) before after old_faults new_faults → Stops fault (replayed_from s) from_hand to_hand
-  plays_stop bytes events BadWords read is h = absurd h
-  plays_stop bytes events (BadConfig field) read is h = absurd h
-  plays_stop bytes events (BadRecord line kind) read is h = absurd h
-  plays_stop bytes events ReadFault read is h = absurd h
-  plays_stop bytes events WriteFault read is h =
-      let e : recorded s (recording_of bytes) ≡ played s events = ap (recorded s) is in
-      (h.0, ([], bytes, reads_in_hand s from_hand to_hand bytes refl refl read, subst (λ (x : Ending). TookPart before after (x.output)) (sym e) h.1))
-  plays_stop bytes events Memory read is h =
-      let e : recorded s (recording_of bytes) ≡ played s events = ap (recorded s) is in
-      ([], bytes, refl, IsLeft-HasRead RECORDING_BYTES first_old first_new bytes read, subst (λ (x : Ending). TookPart before after (x.output)) (sym e) h)
-  plays_stop bytes events TooLong read is h = absurd h
-  plays_stop bytes events (Unbuilt line) read is h =
-      let e : recorded s (recording_of bytes) ≡ played s events = ap (recorded s) is in
-      ([], bytes, reads_in_hand s from_hand to_hand bytes refl refl read, ap (λ (x : Ending). x.fault) e ∙ h.0, subst (λ (x : Ending). Took before after (x.output)) (sym e) h.1)
-
 -- what is known of a call's result, of the caller's own
 pub on_ok : {T E : Type 0} (r : Result T E) (P Q : Type 0) → (P → Q) → OnOk r P → OnOk r Q
 on_ok (Ok x) P Q f h = f h
@@ -468,3 +170,303 @@ on_ok (Err e) P Q f h = h
 pub if_err : {T E : Type 0} (r : Result T E) (P Q : E → Type 0) → ((e : E) → P e → Q e) → IfErr r P → IfErr r Q
 if_err (Ok x) P Q f h = h
 if_err (Err e) P Q f h = f e h
+
+-- By the laws on what is written.
+module _ (laws : StreamLaws) where
+  -- nothing was written before the line
+  nothing_before : (a b c : Option (List ℕ)) (line : List ℕ) → Took a b [] → Took b c line → Took a c line
+  nothing_before a b c line p q = laws.then a b c [] line p q
+
+  nothing_part : (a b c : Option (List ℕ)) (line : List ℕ) → Took a b [] → TookPart b c line → TookPart a c line
+  nothing_part a b c line p q = laws.then_part a b c [] line p q
+
+  -- the front of the output that was written before a run stopped
+  record Front (ending : List ℕ → List ℕ → Ending) (old : Moment) (mid : Option (List ℕ)) : Type 0 where
+    config : List ℕ
+    recording : List ℕ
+    config_left : IsLeft old.config.left config
+    first_left : IsLeft old.first.left recording
+    part : TookPart old.written mid (ending config recording).output
+
+  nothing_yet : (ending : List ℕ → List ℕ → Ending) (old : Moment) (mid : Option (List ℕ)) → Took old.written mid [] → Front ending old mid
+  nothing_yet ending old mid h = record {
+    config = left_in old.config.left;
+    recording = left_in old.first.left;
+    config_left = IsLeft-left_in old.config.left;
+    first_left = IsLeft-left_in old.first.left;
+    part = ([], laws.front_of_all (ending (left_in old.config.left) (left_in old.first.left)).output, h);
+  }
+
+  -- a front of the output, and a front of the last line
+  both_parts : (ending : List ℕ → List ℕ → Ending) (old new : Moment) (mid : Option (List ℕ)) → Front ending old mid → TookPart mid new.written (fault_line Memory) → NoMemory ending old new
+  both_parts ending old new mid f q = record {
+    config = f.config;
+    recording = f.recording;
+    config_left = f.config_left;
+    first_left = f.first_left;
+    output = f.part.0;
+    last = q.0;
+    output_front = f.part.1;
+    last_front = q.1;
+    written = laws.then old.written mid new.written f.part.0 q.0 f.part.2 q.2;
+  }
+
+  -- the files were read, and all is written but the last line
+  record Stopped (fault : Fault) (ending : List ℕ → List ℕ → Ending) (old mid : Moment) : Type 0 where
+    config : List ℕ
+    recording : List ℕ
+    reads : Reads ending old mid config recording
+    is : (ending config recording).fault ≡ Some fault
+    took : Took old.written mid.written (ending config recording).output
+
+  stopped_badly : (field : ConfigField) (ending : List ℕ → List ℕ → Ending) (old mid : Moment) → Stops (BadConfig field) ending old mid → Stopped (BadConfig field) ending old mid
+  stopped_badly field ending old mid h =
+      let ends : ending h.0 [] ≡ refused (BadConfig field) = h.2 [] in record {
+        config = h.0;
+        recording = [];
+        reads = record { config_read = h.1; first_read = subst (λ e. HasReadFirst (e.fault) old.first mid.first []) (sym ends) h.3 };
+        is = ap (λ e. e.fault) ends;
+        took = subst (λ e. Took old.written mid.written (e.output)) (sym ends) h.4;
+      }
+
+  front_of : (fault : Fault) (ending : List ℕ → List ℕ → Ending) (old mid : Moment) → is_bad_config (Some fault) ≡ false → Stopped fault ending old mid → Front ending old mid.written
+  front_of fault ending old mid not h = record {
+    config = h.config;
+    recording = h.recording;
+    config_left = IsLeft-HasRead CONFIGURATION_BYTES old.config mid.config h.config h.reads.config_read;
+    first_left = IsLeft-HasRead RECORDING_BYTES old.first mid.first h.recording (was_read (ending h.config h.recording).fault (ap is_bad_config h.is ∙ not) h.reads.first_read);
+    part = laws.whole_part old.written mid.written (ending h.config h.recording).output h.took;
+  }
+    where
+      was_read : (o : Option Fault) → is_bad_config o ≡ false → HasReadFirst o old.first mid.first h.recording → HasRead RECORDING_BYTES old.first mid.first h.recording
+      was_read None n r = r
+      was_read (Some BadWords) n r = r
+      was_read (Some (BadConfig field)) n r = absurd (cc)
+      was_read (Some (BadRecord line kind)) n r = r
+      was_read (Some ReadFault) n r = r
+      was_read (Some WriteFault) n r = r
+      was_read (Some Memory) n r = r
+      was_read (Some TooLong) n r = r
+      was_read (Some (Unbuilt line)) n r = r
+
+  module _ (ending : List ℕ → List ℕ → Ending) (old mid : Moment) (after : Option (List ℕ)) (faults : ℕ) where
+    abbrev new : Moment
+    new = moment mid.config mid.first after faults
+
+    reads_now : (config recording : List ℕ) → Reads ending old mid config recording → Reads ending old new config recording
+    reads_now config recording h = record { config_read = h.config_read; first_read = h.first_read }
+
+    failed_now : SourceFailed ending old mid → SourceFailed ending old new
+    failed_now (config_failed rose kept) = config_failed rose kept
+    failed_now (first_failed config read taken rose) = first_failed config read taken rose
+
+    -- the fault line was written
+    stopped_told : (fault : Fault) → is_told (status_of fault) ≡ true → is_status (status_of fault) ≡ true → Stopped fault ending old mid → Took mid.written after (fault_line fault) → Ends (status_of fault) (Some ending) old new
+    stopped_told fault one known h t = ends_told (status_of fault) ending old new one known (record {
+      config = h.config;
+      recording = h.recording;
+      reads = reads_now h.config h.recording h.reads;
+      is = sym (ap exit_status h.is);
+      written = subst (λ o. Took old.written after ((ending h.config h.recording).output ++ last_line o)) (sym h.is) (laws.then old.written mid.written after (ending h.config h.recording).output (fault_line fault) h.took t);
+    })
+
+    stopped_by : (fault : Fault) → (config : List ℕ) × (recording : List ℕ) × Reads ending old mid config recording × ((ending config recording).fault ≡ Some fault) × Took old.written mid.written (ending config recording).output → Stopped fault ending old mid
+    stopped_by fault h = record { config = h.0; recording = h.1; reads = h.2; is = h.3; took = h.4 }
+
+    -- the sink failed at the fault line
+    stopped_cut : (fault : Fault) → Stopped fault ending old mid → TookPart mid.written after (fault_line fault) → Cut ending old new
+    stopped_cut fault h t = text_cut h.config h.recording (reads_now h.config h.recording h.reads) (subst (λ o. TookPart old.written after ((ending h.config h.recording).output ++ last_line o)) (sym h.is) (laws.then_part old.written mid.written after (ending h.config h.recording).output (fault_line fault) h.took t))
+
+    fronts : (fault : Fault) → fault ≢ WriteFault → Stops fault ending old mid → Front ending old mid.written
+    fronts BadWords not h = absurd h
+    fronts (BadConfig field) not h = nothing_yet ending old mid.written h.4
+    fronts (BadRecord line kind) not h = front_of (BadRecord line kind) ending old mid refl (stopped_by (BadRecord line kind) h)
+    fronts ReadFault not h = nothing_yet ending old mid.written h.1
+    fronts WriteFault not h = absurd (not refl)
+    fronts Memory not h = record { config = h.0; recording = h.1; config_left = h.2; first_left = h.3; part = h.4 }
+    fronts TooLong not h = front_of TooLong ending old mid refl (stopped_by TooLong h)
+    fronts (Unbuilt line) not h = front_of (Unbuilt line) ending old mid refl (stopped_by (Unbuilt line) h)
+
+    row_told : (fault : Fault) → fault ≢ WriteFault → Stops fault ending old mid → Took mid.written after (fault_line fault) → Ends (status_of fault) (Some ending) old new
+    row_told BadWords not h t = absurd h
+    row_told (BadConfig field) not h t = stopped_told (BadConfig field) refl refl (stopped_badly field ending old mid h) t
+    row_told (BadRecord line kind) not h t = stopped_told (BadRecord line kind) refl refl (stopped_by (BadRecord line kind) h) t
+    row_told ReadFault not h t = ends_read_fault ending old new (failed_now h.0) (nothing_before old.written mid.written after (fault_line ReadFault) h.1 t)
+    row_told WriteFault not h t = absurd (not refl)
+    row_told Memory not h t = ends_memory ending old new (both_parts ending old new mid.written (fronts Memory not h) (laws.whole_part mid.written after (fault_line Memory) t))
+    row_told TooLong not h t = stopped_told TooLong refl refl (stopped_by TooLong h) t
+    row_told (Unbuilt line) not h t = stopped_told (Unbuilt line) refl refl (stopped_by (Unbuilt line) h) t
+
+    row_cut : (fault : Fault) → fault ≢ WriteFault → is_memory fault ≡ false → Stops fault ending old mid → TookPart mid.written after (fault_line fault) → Cut ending old new
+    row_cut BadWords not other h t = absurd h
+    row_cut (BadConfig field) not other h t = stopped_cut (BadConfig field) (stopped_badly field ending old mid h) t
+    row_cut (BadRecord line kind) not other h t = stopped_cut (BadRecord line kind) (stopped_by (BadRecord line kind) h) t
+    row_cut ReadFault not other h t = read_fault_cut (failed_now h.0) (nothing_part old.written mid.written after (fault_line ReadFault) h.1 t)
+    row_cut WriteFault not other h t = absurd (not refl)
+    row_cut Memory not other h t = absurd (cc)
+    row_cut TooLong not other h t = stopped_cut TooLong (stopped_by TooLong h) t
+    row_cut (Unbuilt line) not other h t = stopped_cut (Unbuilt line) (stopped_by (Unbuilt line) h) t
+
+    pub ends_by : (fault : Fault) (status : ℕ) → fault ≢ WriteFault → Stops fault ending old mid → old.write_faults ≤ mid.write_faults → Finishes fault status mid.written after mid.write_faults faults → Ends status (Some ending) old new
+    ends_by fault status not h later (told_line is t) = rw is (row_told fault not h t)
+    ends_by fault status not h later (not_told is other rose t) = rw is (ends_write_fault (Some ending) old new (laws.rose_from old.write_faults mid.write_faults faults later rose) (row_cut fault not other h t))
+    ends_by fault status not h later (no_memory is t) = rw is (ends_memory ending old new (both_parts ending old new mid.written (fronts fault not h) t))
+
+  -- the sink failed at the output
+  pub ends_cut : (ending : List ℕ → List ℕ → Ending) (old new : Moment) (fault : Fault) → fault ≡ WriteFault → Stops fault ending old new → Ends 6 (Some ending) old new
+  ends_cut ending old new fault is h = cut (subst (λ f. Stops f ending old new) is h)
+    where
+      cut : Stops WriteFault ending old new → Ends 6 (Some ending) old new
+      cut h = ends_write_fault (Some ending) old new h.0 (text_cut h.1.0 h.1.1 h.1.2 (laws.part_of_more old.written new.written (ending h.1.0 h.1.1).output (text_of (ending h.1.0 h.1.1)) h.1.3 (last_line (ending h.1.0 h.1.1).fault, refl)))
+
+  -- words that have no form
+  pub ends_badly : (asked : Option (List ℕ → List ℕ → Ending)) (old : Moment) (after : Option (List ℕ)) (faults status : ℕ) → asked ≡ None → (status ≡ 7 → BadWords ≡ Memory) → Finishes BadWords status old.written after old.write_faults faults → Ends status asked old (moment old.config old.first after faults)
+  ends_badly asked old after faults status none sure (told_line is t) = rw is (ends_bad_words asked old (moment old.config old.first after faults) none (refl, refl) t)
+  ends_badly asked old after faults status none sure (not_told is other rose t) = rw (is, none) (ends_write_fault None old (moment old.config old.first after faults) rose ((refl, refl), t))
+  ends_badly asked old after faults status none sure (no_memory is t) = let h : BadWords ≡ Memory = sure is in absurd (cc)
+
+  -- Behind a configuration.
+
+  pub configuring_never_writes : (fault : Fault) (old now : Input) → StopsConfiguring fault old now → fault ≢ WriteFault
+  configuring_never_writes fault old now h is = subst (λ f. StopsConfiguring f old now) is h
+
+  pub configuring_stops : (fault : Fault) (old now first : Input) (written : Option (List ℕ)) (faults : ℕ) → StopsConfiguring fault old now → Stops fault replayed (moment old first written faults) (moment now first written faults)
+  configuring_stops BadWords old now first written faults h = absurd h
+  configuring_stops (BadConfig field) old now first written faults h = (h.0, h.1, λ recording. ap (λ read. configured read recording) h.2, refl, laws.nothing written)
+  configuring_stops (BadRecord line kind) old now first written faults h = absurd h
+  configuring_stops ReadFault old now first written faults h = (config_failed h refl, laws.nothing written)
+  configuring_stops WriteFault old now first written faults h = absurd h
+  configuring_stops Memory old now first written faults h = (left_in old.left, left_in first.left, IsLeft-left_in old.left, IsLeft-left_in first.left, laws.no_part written (replayed (left_in old.left) (left_in first.left)).output)
+  configuring_stops TooLong old now first written faults h = absurd h
+  configuring_stops (Unbuilt line) old now first written faults h = absurd h
+
+  never_fails_in_hand : Rose 0 0 → ⊥
+  never_fails_in_hand h = omega arith
+
+  -- A run with a configuration in hand, as the end of the run that read it.
+  module _ (config : Config) (bytes : List ℕ) (is : IsConfiguration bytes config) (read_old read_new first_old first_new : Input) (before after : Option (List ℕ)) (old_faults new_faults : ℕ) (read : HasRead CONFIGURATION_BYTES read_old read_new bytes) where
+    abbrev held : List ℕ → List ℕ → Ending
+    held = replayed_from (opened_whole config)
+
+    abbrev old_hand : Moment
+    old_hand = moment in_hand first_old before old_faults
+
+    abbrev new_hand : Moment
+    new_hand = moment in_hand first_new after new_faults
+
+    abbrev old_run : Moment
+    old_run = moment read_old first_old before old_faults
+
+    abbrev new_run : Moment
+    new_run = moment read_new first_new after new_faults
+
+    same : (other recording : List ℕ) → held other recording ≡ replayed bytes recording
+    same other recording = sym (ap (λ r. configured r recording) is)
+
+    reads_run : (other recording : List ℕ) → Reads held old_hand new_hand other recording → Reads replayed old_run new_run bytes recording
+    reads_run other recording h = record { config_read = read; first_read = subst (λ e. HasReadFirst (e.fault) first_old first_new recording) (same other recording) h.first_read }
+
+    told_run : (status : ℕ) → Told status held old_hand new_hand → Told status replayed old_run new_run
+    told_run status h = record {
+      config = bytes;
+      recording = h.recording;
+      reads = reads_run h.config h.recording h.reads;
+      is = h.is ∙ ap (λ e. exit_status (e.fault)) (same h.config h.recording);
+      written = subst (λ e. Took before after (text_of e)) (same h.config h.recording) h.written;
+    }
+
+    failed_run : SourceFailed held old_hand new_hand → SourceFailed replayed old_run new_run
+    failed_run (config_failed rose kept) = absurd (never_fails_in_hand rose)
+    failed_run (first_failed other hand taken rose) = first_failed bytes read (λ recording. subst (λ e. is_bad_config (e.fault) ≡ false) (same other recording) (taken recording)) rose
+
+    memory_run : NoMemory held old_hand new_hand → NoMemory replayed old_run new_run
+    memory_run h = record {
+      config = bytes;
+      recording = h.recording;
+      config_left = IsLeft-HasRead CONFIGURATION_BYTES read_old read_new bytes read;
+      first_left = h.first_left;
+      output = h.output;
+      last = h.last;
+      output_front = subst (λ e. IsPrefix h.output (e.output)) (same h.config h.recording) h.output_front;
+      last_front = h.last_front;
+      written = h.written;
+    }
+
+    cut_run : Cut held old_hand new_hand → Cut replayed old_run new_run
+    cut_run (text_cut other recording reads t) = text_cut bytes recording (reads_run other recording reads) (subst (λ e. TookPart before after (text_of e)) (same other recording) t)
+    cut_run (read_fault_cut failed t) = read_fault_cut (failed_run failed) t
+
+    pub ends_behind : (status : ℕ) → Ends status (Some held) old_hand new_hand → Ends status (Some replayed) old_run new_run
+    ends_behind status h = record {
+      known = h.known;
+      told = λ e. told_run status (h.told e);
+      bad_words = λ e. absurd (cc (h.bad_words e).0);
+      read_fault = λ e. let p = h.read_fault e in (failed_run p.0, p.1);
+      write_fault = λ e. let p = h.write_fault e in (p.0, cut_run p.1);
+      memory = λ e. memory_run (h.memory e);
+    }
+
+  -- A replay with a configuration in hand, where a state, its recording's source and the sink stand so.
+  module _ (s : State) (first_old first_new : Input) (before after : Option (List ℕ)) (old_faults new_faults : ℕ) where
+    abbrev from_hand : Moment
+    from_hand = moment in_hand first_old before old_faults
+
+    abbrev to_hand : Moment
+    to_hand = moment in_hand first_new after new_faults
+
+    -- there was no memory before anything was written
+    pub stops_early : after ≡ before → Stops Memory (replayed_from s) from_hand to_hand
+    stops_early same = rw same ([], left_in first_old.left, refl, IsLeft-left_in first_old.left, laws.no_part before (replayed_from s [] (left_in first_old.left)).output)
+
+    -- the source failed
+    pub stops_at_source : after ≡ before → Rose first_old.faults first_new.faults → Stops ReadFault (replayed_from s) from_hand to_hand
+    stops_at_source same rose = (first_failed [] hand_read (λ recording. recorded_is_no_bad_config s (recording_of recording)) rose, rw same (laws.nothing before))
+
+    -- the recording is refused
+    pub stops_refused : (fault : Fault) (bytes : List ℕ) → after ≡ before → HasRead RECORDING_BYTES first_old first_new bytes → recorded s (recording_of bytes) ≡ refused fault → (config : List ℕ) × (recording : List ℕ) × Reads (replayed_from s) from_hand to_hand config recording × ((replayed_from s config recording).fault ≡ Some fault) × Took before after (replayed_from s config recording).output
+    stops_refused fault bytes same read is = (
+      [],
+      bytes,
+      reads_in_hand s from_hand to_hand bytes refl refl read,
+      ap (λ (e : Ending). e.fault) is,
+      subst (λ (e : Ending). Took before after (e.output)) (sym is) (rw same (laws.nothing before)),
+    )
+
+    pub stops_too_long : after ≡ before → IfSome first_old.left (λ bytes. RECORDING_BYTES < length bytes) → Stops TooLong (replayed_from s) from_hand to_hand
+    stops_too_long same more =
+        let l = too_many_left RECORDING_BYTES first_old.left more in
+        stops_refused TooLong l.0 same (too_many l.1 l.2) (ap (recorded s) (recording_too_long l.0 l.2))
+
+    pub stops_unread : (fault : LineFault) (bytes : List ℕ) → after ≡ before → HasRead RECORDING_BYTES first_old first_new bytes → (fault ≡ lines.Memory) ⊎ (recording_of bytes ≡ Err fault) → Stops (fault_of fault) (replayed_from s) from_hand to_hand
+    stops_unread (lines.Line line kind) bytes same read (inl e) = absurd (cc)
+    stops_unread (lines.Line line kind) bytes same read (inr e) = stops_refused (BadRecord line kind) bytes same read (ap (recorded s) e)
+    stops_unread lines.TooLong bytes same read (inl e) = absurd (cc)
+    stops_unread lines.TooLong bytes same read (inr e) = stops_refused TooLong bytes same read (ap (recorded s) e)
+    stops_unread lines.Memory bytes same read why = stops_early same
+
+    -- its events were played
+    pub plays_done : (bytes : List ℕ) (events : List Event) → HasRead RECORDING_BYTES first_old first_new bytes → recording_of bytes ≡ Ok events → PlayedTo (played s events) before after → Done (replayed_from s) from_hand to_hand
+    plays_done bytes events read is h =
+        let e : recorded s (recording_of bytes) ≡ played s events = ap (recorded s) is in (
+          [],
+          bytes,
+          reads_in_hand s from_hand to_hand bytes refl refl read,
+          ap (λ (x : Ending). x.fault) e ∙ h.0,
+          subst (λ (x : Ending). Took before after (x.output)) (sym e) h.1,
+        )
+
+    pub plays_stop : (bytes : List ℕ) (events : List Event) (fault : Fault) → HasRead RECORDING_BYTES first_old first_new bytes → recording_of bytes ≡ Ok events → StopsPlaying fault (played s events) before after old_faults new_faults → Stops fault (replayed_from s) from_hand to_hand
+    plays_stop bytes events BadWords read is h = absurd h
+    plays_stop bytes events (BadConfig field) read is h = absurd h
+    plays_stop bytes events (BadRecord line kind) read is h = absurd h
+    plays_stop bytes events ReadFault read is h = absurd h
+    plays_stop bytes events WriteFault read is h =
+        let e : recorded s (recording_of bytes) ≡ played s events = ap (recorded s) is in
+        (h.0, ([], bytes, reads_in_hand s from_hand to_hand bytes refl refl read, subst (λ (x : Ending). TookPart before after (x.output)) (sym e) h.1))
+    plays_stop bytes events Memory read is h =
+        let e : recorded s (recording_of bytes) ≡ played s events = ap (recorded s) is in
+        ([], bytes, refl, IsLeft-HasRead RECORDING_BYTES first_old first_new bytes read, subst (λ (x : Ending). TookPart before after (x.output)) (sym e) h)
+    plays_stop bytes events TooLong read is h = absurd h
+    plays_stop bytes events (Unbuilt line) read is h =
+        let e : recorded s (recording_of bytes) ≡ played s events = ap (recorded s) is in
+        ([], bytes, reads_in_hand s from_hand to_hand bytes refl refl read, ap (λ (x : Ending). x.fault) e ∙ h.0, subst (λ (x : Ending). Took before after (x.output)) (sym e) h.1)

@@ -1,7 +1,7 @@
 -- The status of each fault, and the last line that tells it.
 use Rattle.std.specs.Prelude.{ℕ, List, [], ◌++◌, codes}
 use Rattle.std.specs.Fmt.{decimal}
-use Rattle.mt_files.specs.Configuration.{name_of}
+use Rattle.mt_config.specs.Configuration.{name_of}
 use Rattle.mt_files.specs.declared.line_fault.LineFault.{LineFault}
 use Rattle.mt_files.specs.declared.line_fault.LineFault.TheVariants as lines
 use Rattle.mt_files.specs.declared.line_fault.LineKind.{LineKind}

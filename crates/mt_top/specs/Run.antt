@@ -7,14 +7,15 @@ use Rattle.mt_outside.specs.Stream.{IsPrefix, ReadToEnd, Rose, Took, TookPart}
 use Rattle.mt_model.specs.declared.config.Config.{Config}
 use Rattle.mt_model.specs.declared.limits.TheConstants.{CONFIGURATION_BYTES, RECORDING_BYTES}
 use Rattle.mt_model.specs.declared.recording.Event.{Event}
-use Rattle.mt_files.specs.Configuration.{Contents, IsConfiguration, configuration}
+use Rattle.mt_config.specs.Configuration.{IsConfiguration, configuration}
+use Rattle.mt_model.specs.Contents.{Contents}
 use Rattle.mt_files.specs.Output.{output_text}
 use Rattle.mt_files.specs.Recording.{recording_of}
-use Rattle.mt_files.specs.declared.configuration.ConfigField.{ConfigField}
+use Rattle.mt_config.specs.declared.configuration.ConfigField.{ConfigField}
 use Rattle.mt_files.specs.declared.line_fault.LineFault.{LineFault}
-use Rattle.mt_machine.specs.Machine.{built_events, is_built, next, run, sent}
-use Rattle.mt_machine.specs.Opened.{opened_with}
-use Rattle.mt_machine.specs.View.{State}
+use Rattle.mt_machine.specs.Lines.{built_events, is_built, next, run, sent}
+use Rattle.mt_machine.specs.Opened.{whole_with}
+use Rattle.mt_machine.specs.State.{State}
 use Rattle.mt_top.specs.declared.fault.Fault.{Fault}
 use Rattle.mt_top.specs.declared.fault.Fault.TheVariants.{BadWords, BadConfig, ReadFault, WriteFault, Memory, Unbuilt}
 use Rattle.mt_top.specs.Faults.{fault_line, fault_of, status_of}
@@ -58,7 +59,7 @@ recorded s (Err fault) = refused (fault_of fault)
 
 -- a configuration comes before the recording
 abbrev pub configured : Result Contents ConfigField → List ℕ → Ending
-configured (Ok contents) recording = recorded (opened_with contents.fabrics contents.entries contents.sessions) (recording_of recording)
+configured (Ok contents) recording = recorded (whole_with contents.fabrics contents.entries contents.sessions) (recording_of recording)
 configured (Err field) recording = refused (BadConfig field)
 
 -- what `replay CONFIG RECORDING` comes to, by the bytes of the two files

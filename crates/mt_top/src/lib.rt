@@ -2,9 +2,9 @@
 //! output and its exit status.
 #![tactic(auto)]
 
-mod answering;
 mod fault;
 mod last_line;
+mod playing;
 mod replaying;
 mod words;
 

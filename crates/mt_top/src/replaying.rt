@@ -2,21 +2,21 @@
 
 ghost use Rattle.std.specs.Prelude.{◌≡◌, ◌≢◌, ◌≤◌, Some, IfErr, IfOk, OnOk};
 ghost use Rattle.mt_outside.specs.Stream.{TookPart};
-ghost use Rattle.mt_machine.specs.Opened.{opened};
+ghost use Rattle.mt_machine.specs.Opened.{opened_whole};
 ghost use Rattle.mt_top.specs.declared.fault.Fault.TheVariants.{Memory};
 ghost use Rattle.mt_top.specs.Faults.{fault_line};
 ghost use Rattle.mt_top.specs.Run.{Configured, Done, Ends, Finishes, PlayedTo, Stops, StopsConfiguring, StopsPlaying, asked_of, in_hand, input, moment, played, replayed_from};
 ghost use Rattle.mt_top.specs.Words.{words_of};
 
-use crate::answering::step;
 use crate::fault::Fault;
 use crate::last_line::last_line;
+use crate::playing::step;
 use crate::words::files_of;
 use mt_files::{ConfigFault, ConfigField, config as configuration, events};
 use mt_model::limits::{CONFIGURATION_BYTES, RECORDING_BYTES};
 use mt_model::{Config, Events};
-use mt_node::Node;
-use mt_outside::{ReadFault, Sink, Source, read_all, write_all};
+use mt_outside::{ReadFault, Sink, Source, read_all, write_all, writings_add_up};
+use mt_whole::Whole;
 use std::alloc::Global;
 
 /// Does what the words say: `replay CONFIG RECORDING` starts a node with the configuration that
@@ -38,6 +38,7 @@ pub fn run<C: Source, A: Source, W: Sink>(
         (moment (input (C.left config.old) (C.faults config.old)) (input (A.left first.old) (A.faults first.old)) (W.written out.old) (W.faults out.old))
         (moment (input (C.left config.new) (C.faults config.new)) (input (A.left first.new) (A.faults first.new)) (W.written out.new) (W.faults out.new)) }
 {
+    writings_add_up();
     let Ok(_files) = files_of(words) else {
         return tell(Fault::BadWords, b"fault 2 words\n", out);
     };
@@ -55,10 +56,11 @@ pub fn replay_with<A: Source, W: Sink>(
     first: &mut A,
     out: &mut W,
 ) -> u8
-    ensures { Ends result (Some (replayed_from (opened config.now)))
+    ensures { Ends result (Some (replayed_from (opened_whole config.now)))
         (moment in_hand (input (A.left first.old) (A.faults first.old)) (W.written out.old) (W.faults out.old))
         (moment in_hand (input (A.left first.new) (A.faults first.new)) (W.written out.new) (W.faults out.new)) }
 {
+    writings_add_up();
     match replay(alloc, config, first, out) {
         Ok(()) => 0,
         Err(Fault::WriteFault) => 6,
@@ -90,15 +92,16 @@ fn replay<A: Source, W: Sink>(
     first: &mut A,
     out: &mut W,
 ) -> Result<(), Fault>
-    ensures ok { OnOk result (Done (replayed_from (opened config.now))
+    ensures ok { OnOk result (Done (replayed_from (opened_whole config.now))
         (moment in_hand (input (A.left first.old) (A.faults first.old)) (W.written out.old) (W.faults out.old))
         (moment in_hand (input (A.left first.new) (A.faults first.new)) (W.written out.new) (W.faults out.new))) }
-    ensures err { IfErr result (λ fault. Stops fault (replayed_from (opened config.now))
+    ensures err { IfErr result (λ fault. Stops fault (replayed_from (opened_whole config.now))
         (moment in_hand (input (A.left first.old) (A.faults first.old)) (W.written out.old) (W.faults out.old))
         (moment in_hand (input (A.left first.new) (A.faults first.new)) (W.written out.new) (W.faults out.new))) }
     ensures never_falls { W.faults out.old ≤ W.faults out.new }
 {
-    let Ok(node) = Node::start(alloc, config) else {
+    writings_add_up();
+    let Ok(whole) = Whole::start(alloc, config) else {
         return Err(Fault::Memory);
     };
     let recording = match read_all(alloc, first, RECORDING_BYTES) {
@@ -108,20 +111,21 @@ fn replay<A: Source, W: Sink>(
         Err(ReadFault::Memory) => return Err(Fault::Memory),
     };
     match events(alloc, &recording) {
-        Ok(events) => play(alloc, node, &events, out),
+        Ok(events) => play(alloc, whole, &events, out),
         Err(fault) => Err(Fault::of_recording(fault)),
     }
 }
 
 // Writes what the node sends over the events, up to the first that is not built.
-fn play<W: Sink>(alloc: Global, mut node: Node, events: &Events, out: &mut W) -> Result<(), Fault>
-    ensures ok { OnOk result (PlayedTo (played node events.now) (W.written out.old) (W.written out.new)) }
-    ensures err { IfErr result (λ fault. StopsPlaying fault (played node events.now) (W.written out.old) (W.written out.new) (W.faults out.old) (W.faults out.new)) }
+fn play<W: Sink>(alloc: Global, mut whole: Whole, events: &Events, out: &mut W) -> Result<(), Fault>
+    ensures ok { OnOk result (PlayedTo (played whole events.now) (W.written out.old) (W.written out.new)) }
+    ensures err { IfErr result (λ fault. StopsPlaying fault (played whole events.now) (W.written out.old) (W.written out.new) (W.faults out.old) (W.faults out.new)) }
     ensures never_falls { W.faults out.old ≤ W.faults out.new }
 {
+    writings_add_up();
     let mut line = 2u64;
     for event in events.as_slice() {
-        let Ok(answer) = step(alloc, &mut node, event) else {
+        let Ok(answer) = step(alloc, &mut whole, event) else {
             return Err(Fault::Memory);
         };
         let Some(text) = answer else {

@@ -216,6 +216,72 @@ fn payloads_that_are_no_request(rt: HostRuntime) -> Result<(), Fail> {
     Ok(())
 }
 
+// Requests that set a time of 1,000 ms, by five nodes of fabric 1, and their answers.
+const TIMED_1: &str = "A 5 1 0000000000000001 0a 152500e80324ff0118\n";
+
+const TIMED_2: &str = "A 5 1 0000000000000002 0a 152500e80324ff0118\n";
+
+const TIMED_3: &str = "A 5 1 0000000000000003 0a 152500e80324ff0118\n";
+
+const TIMED_4: &str = "A 5 1 0000000000000004 0a 152500e80324ff0118\n";
+
+const TIMED_5: &str = "A 5 1 0000000000000005 0a 152500e80324ff0118\n";
+
+const SET: &str = "P 5 1 01 1524000024ff0118\n";
+
+const BUSY: &str = "P 5 1 01 1524009c24ff0118\n";
+
+// Reads of On/Off by node 1 at the end of that time and behind it, and a payload that is no request.
+const IN_TIME: &str = "A 1005 1 0000000000000001 02 153600172402012403062404001818290324ff0118\n";
+
+const LATE: &str = "A 1006 1 0000000000000001 02 153600172402012403062404001818290324ff0118\n";
+
+const IN_TIME_DATA: &str =
+    "P 1005 1 05 1536011535012400013701240201240306240400182802181818290424ff0118\n";
+
+const LATE_DATA: &str =
+    "P 1006 1 05 1536011535012400013701240201240306240400182802181818290424ff0118\n";
+
+const TIMEOUT: &str = "P 1006 1 01 1524009424ff0118\n";
+
+#[test]
+fn times_are_set_and_taken_away(rt: HostRuntime) -> Result<(), Fail> {
+    let cases = [
+        made(
+            "in time",
+            &[HEAD, TIMED_1, IN_TIME],
+            0,
+            &[SET, IN_TIME_DATA],
+        ),
+        made(
+            "late, and the time is taken away",
+            &[HEAD, TIMED_1, LATE, LATE],
+            0,
+            &[SET, TIMEOUT, LATE_DATA],
+        ),
+        made(
+            "taken away by what is no request",
+            &[HEAD, TIMED_1, NO_BYTES, LATE],
+            0,
+            &[SET, INVALID, LATE_DATA],
+        ),
+        made(
+            "a fifth of the fabric",
+            &[HEAD, TIMED_1, TIMED_2, TIMED_3, TIMED_4, TIMED_5, IN_TIME],
+            0,
+            &[SET, SET, SET, SET, BUSY, IN_TIME_DATA],
+        ),
+        made(
+            "room again",
+            &[HEAD, TIMED_1, TIMED_2, TIMED_3, TIMED_4, READ, TIMED_5],
+            0,
+            &[SET, SET, SET, SET, DATA, SET],
+        ),
+    ];
+    check_all(&rt, rt.alloc(), &cases)?;
+    Ok(())
+}
+
 #[test]
 fn words_configurations_and_failures(rt: HostRuntime) -> Result<(), Fail> {
     let bad = ["fault 2 words\n"];

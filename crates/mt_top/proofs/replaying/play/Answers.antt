@@ -1,5 +1,4 @@
 use Rattle.std.proofs.Common.{◌++◌, ◌+◌, ◌≤◌, length, drop, [], ap, sym, ◌∙◌, append_assoc, subst, arith, rules}
-use Rattle.mt_outside.proofs.Streams.{Rose-from, Took-nil, Took-then}
 use Rattle.mt_top.specs.Run.{StepsIf, unbuilt_from}
 use Rattle.mt_top.proofs.Plays.{output_of, output-step, unbuilt-step, output-end, unbuilt-end, took-all, took-front}
 use Rattle.mt_top.proofs.replaying.play.Goals as goal
@@ -7,8 +6,8 @@ use Rattle.mt_top.proofs.replaying.play.Goals as goal
 pub loop-event-init : goal.loop-event-init
 loop-event-init g c = record {
   told = [];
-  took = Took-nil (g.W.Sink.written c.args.out.now);
-  output = ap (output_of c.args.node) (sym c.as_slice-event-items.ensures);
+  took = c.writings_add_up.ensures.nothing (g.W.Sink.written c.args.out.now);
+  output = ap (output_of c.args.whole) (sym c.as_slice-event-items.ensures);
   unbuilt = ap (unbuilt_from 2) (sym c.as_slice-event-items.ensures);
   line = omega arith;
   never_falls = omega arith;
@@ -17,7 +16,7 @@ loop-event-init g c = record {
 pub returns-in_default-clause-err : goal.returns-in_default-clause-err
 returns-in_default-clause-err g c =
     let l = c.loop-event in
-    (l.invariant.told, (output_of l.node (drop l.event-index c.as_slice-event-items.result.now), l.invariant.output), l.invariant.took)
+    (l.invariant.told, (output_of l.whole (drop l.event-index c.as_slice-event-items.result.now), l.invariant.output), l.invariant.took)
 
 pub returns-in_default-write_all-clause-err : goal.returns-in_default-write_all-clause-err
 returns-in_default-write_all-clause-err g c =
@@ -28,12 +27,12 @@ returns-in_default-write_all-clause-err g c =
     let all = c.as_slice-event-items.result.now in
     let event = c.event-item.result in
     let text = c.in-Some.text.items in
-    let new = c.step.new.node in
-    let steps = subst (StepsIf l.node new event) c.in-Some.is c.in-Ok.ensures in
+    let new = c.step.new.whole in
+    let steps = subst (StepsIf l.whole new event) c.in-Some.is c.in-Ok.ensures in
     let k = c.write_all.ensures in (
-      Rose-from (faults c.args.out.now) (faults l.out) (faults c.write_all.new.sink) i.never_falls (k.cause.rose (search rules)),
-      took-front (written c.args.out.now) (written l.out) (written c.write_all.new.sink) i.told text (output_of new (drop (l.event-index + 1) all)) (output_of c.args.node c.args.events.now) i.took (search rules)
-          (i.output ∙ ap (λ w. i.told ++ w) (output-step l.node new all l.event-index event text c.loop-event-test.true c.event-item.is steps.0 steps.1)),
+      c.writings_add_up.ensures.rose_from (faults c.args.out.now) (faults l.out) (faults c.write_all.new.sink) i.never_falls (k.cause.rose (search rules)),
+      took-front c.writings_add_up.ensures (written c.args.out.now) (written l.out) (written c.write_all.new.sink) i.told text (output_of new (drop (l.event-index + 1) all)) (output_of c.args.whole c.args.events.now) i.took (search rules)
+          (i.output ∙ ap (λ w. i.told ++ w) (output-step l.whole new all l.event-index event text c.loop-event-test.true c.event-item.is steps.0 steps.1)),
     )
 
 pub loop-event-preserved : goal.loop-event-preserved
@@ -44,13 +43,13 @@ loop-event-preserved g c =
     let all = c.as_slice-event-items.result.now in
     let event = c.event-item.result in
     let text = c.in-Some.text.items in
-    let new = c.step.new.node in
-    let steps = subst (StepsIf l.node new event) c.in-Some.is c.in-Ok.ensures in
+    let new = c.step.new.whole in
+    let steps = subst (StepsIf l.whole new event) c.in-Some.is c.in-Ok.ensures in
     let k = c.write_all.ensures in
     record {
       told = i.told ++ text;
-      took = Took-then (written c.args.out.now) (written l.out) (written c.write_all.new.sink) i.told text i.took (search rules);
-      output = i.output ∙ ap (λ w. i.told ++ w) (output-step l.node new all l.event-index event text c.loop-event-test.true c.event-item.is steps.0 steps.1) ∙ sym (append_assoc i.told text (output_of new (drop (l.event-index + 1) all)));
+      took = c.writings_add_up.ensures.then (written c.args.out.now) (written l.out) (written c.write_all.new.sink) i.told text i.took (search rules);
+      output = i.output ∙ ap (λ w. i.told ++ w) (output-step l.whole new all l.event-index event text c.loop-event-test.true c.event-item.is steps.0 steps.1) ∙ sym (append_assoc i.told text (output_of new (drop (l.event-index + 1) all)));
       unbuilt = i.unbuilt ∙ unbuilt-step l.line all l.event-index event c.loop-event-test.true c.event-item.is steps.0;
       line = omega (arith, i.line);
       never_falls = omega (arith, i.never_falls, k.cause.never_falls);
@@ -61,4 +60,4 @@ returns-clause-ok g c =
     let l = c.loop-event in
     let i = l.invariant in
     let le : length c.as_slice-event-items.result.now ≤ l.event-index = omega arith in
-    (i.unbuilt ∙ unbuilt-end l.line c.as_slice-event-items.result.now l.event-index le, took-all (g.W.Sink.written c.args.out.now) (g.W.Sink.written l.out) i.told (output_of l.node (drop l.event-index c.as_slice-event-items.result.now)) (output_of c.args.node c.args.events.now) i.took i.output (output-end l.node c.as_slice-event-items.result.now l.event-index le))
+    (i.unbuilt ∙ unbuilt-end l.line c.as_slice-event-items.result.now l.event-index le, took-all (g.W.Sink.written c.args.out.now) (g.W.Sink.written l.out) i.told (output_of l.whole (drop l.event-index c.as_slice-event-items.result.now)) (output_of c.args.whole c.args.events.now) i.took i.output (output-end l.whole c.as_slice-event-items.result.now l.event-index le))

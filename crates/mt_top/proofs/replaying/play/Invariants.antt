@@ -9,7 +9,7 @@ abbrev pub invariant-loop-event : goal.invariant-loop-event
 invariant-loop-event g l = record {
   told : List ℕ;
   took : Took (g.W.Sink.written l.fn.out) (g.W.Sink.written l.out) told;
-  output : output_of l.fn.node l.fn.events ≡ told ++ output_of l.node (drop l.event-index l.event-items);
+  output : output_of l.fn.whole l.fn.events ≡ told ++ output_of l.whole (drop l.event-index l.event-items);
   unbuilt : unbuilt_from 2 l.fn.events ≡ unbuilt_from l.line (drop l.event-index l.event-items);
   line : l.line ≡ l.event-index + 2;
   never_falls : g.W.Sink.faults l.fn.out ≤ g.W.Sink.faults l.out;

@@ -14,7 +14,7 @@ tell-requires g c = search rules
 pub returns-in_default : goal.returns-in_default
 returns-in_default g c =
     let none : asked_of (words_of c.args.words.now) ≡ None = ap (option_map (λ files. replayed)) (sym c.files_of.ensures ∙ ap result_ok c.in_default.is) in
-    ends_badly (asked_of (words_of c.args.words.now))
+    ends_badly c.writings_add_up.ensures (asked_of (words_of c.args.words.now))
     (moment (input (g.C.Source.left c.args.config.now) (g.C.Source.faults c.args.config.now)) (input (g.A.Source.left c.args.first.now) (g.A.Source.faults c.args.first.now)) (g.W.Sink.written c.args.out.now) (g.W.Sink.faults c.args.out.now))
     (g.W.Sink.written c.tell.new.out) (g.W.Sink.faults c.tell.new.out) c.tell.result none c.tell.ensures.memory c.tell.ensures.finishes
 
@@ -22,7 +22,7 @@ pub returns-in-Ok-configured : goal.returns-in-Ok-configured
 returns-in-Ok-configured g c =
     let some : asked_of (words_of c.args.words.now) ≡ Some replayed = ap (option_map (λ files. replayed)) (sym c.files_of.ensures ∙ ap result_ok c.in-Ok.is) in
     let h = c.in-Ok-configured.ensures.ok in
-    rw some (ends_behind c.in-Ok-configured.config h.0 h.2
+    rw some (ends_behind c.writings_add_up.ensures c.in-Ok-configured.config h.0 h.2
     (input (g.C.Source.left c.args.config.now) (g.C.Source.faults c.args.config.now)) (input (g.C.Source.left c.configured.new.source) (g.C.Source.faults c.configured.new.source))
     (input (g.A.Source.left c.args.first.now) (g.A.Source.faults c.args.first.now)) (input (g.A.Source.left c.replay_with.new.first) (g.A.Source.faults c.replay_with.new.first))
     (g.W.Sink.written c.args.out.now) (g.W.Sink.written c.replay_with.new.out) (g.W.Sink.faults c.args.out.now) (g.W.Sink.faults c.replay_with.new.out)
@@ -30,7 +30,7 @@ returns-in-Ok-configured g c =
 
 pub finish-requires : goal.finish-requires
 finish-requires g c =
-    configuring_never_writes c.in-Err.fault
+    configuring_never_writes c.writings_add_up.ensures c.in-Err.fault
     (input (g.C.Source.left c.args.config.now) (g.C.Source.faults c.args.config.now)) (input (g.C.Source.left c.configured.new.source) (g.C.Source.faults c.configured.new.source))
     c.in-Err.ensures.err
 
@@ -42,7 +42,7 @@ returns-in-Err g c =
     let first = input (g.A.Source.left c.args.first.now) (g.A.Source.faults c.args.first.now) in
     let written = g.W.Sink.written c.args.out.now in
     let faults = g.W.Sink.faults c.args.out.now in
-    rw some (ends_by replayed (moment config first written faults) (moment read first written faults) (g.W.Sink.written c.finish.new.out) (g.W.Sink.faults c.finish.new.out) c.in-Err.fault c.finish.result
-    (configuring_never_writes c.in-Err.fault config read c.in-Err.ensures.err)
-    (configuring_stops c.in-Err.fault config read first written faults c.in-Err.ensures.err)
+    rw some (ends_by c.writings_add_up.ensures replayed (moment config first written faults) (moment read first written faults) (g.W.Sink.written c.finish.new.out) (g.W.Sink.faults c.finish.new.out) c.in-Err.fault c.finish.result
+    (configuring_never_writes c.writings_add_up.ensures c.in-Err.fault config read c.in-Err.ensures.err)
+    (configuring_stops c.writings_add_up.ensures c.in-Err.fault config read first written faults c.in-Err.ensures.err)
     (omega arith) c.finish.ensures)

@@ -1,0 +1,18 @@
+-- What an answer is made of.
+use Rattle.std.specs.Prelude.{◌≡◌, ℕ, Option}
+use Rattle.mt_model.specs.declared.access.Actor.{Actor}
+use Rattle.mt_model.specs.declared.message.Request.{Request}
+use Rattle.mt_model.specs.declared.state.NodeState.{NodeState}
+use Rattle.mt_machine.specs.Observation.{observation}
+use Rattle.mt_machine.specs.Step.{reply_in_time, reply_to, steps_in_time, steps_to}
+use Rattle.mt_node.specs.declared.outcome.Answered.{Answered}
+
+-- the reply to a request of whoever is taken as asking, and its steps
+pub record IsAnswer (s : NodeState) (asking : Actor) (request : Request) (answered : Answered) : Type 0 where
+  pub reply : answered.reply ≡ reply_to (observation asking.fabric s) asking request
+  pub steps : answered.steps ≡ steps_to (observation asking.fabric s) asking request
+
+-- the same of a request that must have come until a time, at this time
+pub record IsAnswerInTime (s : NodeState) (asking : Actor) (request : Request) (timed : Option ℕ) (now : ℕ) (answered : Answered) : Type 0 where
+  pub reply : answered.reply ≡ reply_in_time s asking request timed now
+  pub steps : answered.steps ≡ steps_in_time s asking request timed now

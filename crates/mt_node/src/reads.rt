@@ -1,0 +1,82 @@
+//! Reads.
+
+ghost use Rattle.std.specs.Prelude.{◌≡◌, ◌↔◌, [], None, Some, IfOk};
+ghost use Rattle.std.specs.List.{list_any};
+ghost use Rattle.mt_read.specs.Reading.{read_answer};
+ghost use Rattle.mt_machine.specs.Observation.{observation};
+ghost use Rattle.mt_machine.specs.Step.{is_item, names_item, read_reply};
+
+use crate::node::Node;
+use crate::outcome::Answered;
+use crate::requests::refused;
+use mt_machine::rows_stand_in_order;
+use mt_model::{Actor, Index, Items, Path, Paths, Reply, Status, Steps, Versions};
+use mt_read::{ReadFault, read};
+use std::alloc::AllocError;
+
+/// What a read is answered. It changes nothing.
+pub(crate) fn answered(
+    node: &Node,
+    asking: &Actor,
+    paths: &Paths,
+    filtered: bool,
+    versions: &Versions,
+) -> Result<Answered, AllocError>
+    ensures { IfOk result (λ answered. answered ≡ record { reply = read_reply (observation asking.now.fabric node.now.state) asking.now paths.now filtered versions.now; steps = [] }) }
+{
+    if any_item(paths.as_slice()) {
+        return Ok(refused(node.alloc, Status::InvalidAction));
+    }
+    match seen(node, asking, paths, filtered, versions) {
+        Ok(items) => Ok(Answered {
+            reply: Reply::Report {
+                subscription: None,
+                items,
+                suppress: true,
+            },
+            steps: Steps::new(node.alloc),
+        }),
+        Err(ReadFault::NotGlobal) => Ok(refused(node.alloc, Status::InvalidAction)),
+        Err(ReadFault::Memory) => Err(AllocError),
+    }
+}
+
+fn any_item(paths: &[Path]) -> bool
+    ensures { result ≡ list_any names_item paths.now }
+{
+    paths.iter().any(names_item)
+}
+
+// Whether a path names a single item of a list.
+fn names_item(path: &Path) -> bool
+    ensures { result ≡ names_item path.now }
+{
+    is_item(path.index)
+}
+
+fn is_item(index: Index) -> bool
+    ensures { result ≡ is_item index }
+{
+    match index {
+        Index::At(_) => true,
+        Index::Whole => false,
+        Index::Append => false,
+    }
+}
+
+// What whoever asks reads, of what its fabric observes.
+fn seen(
+    node: &Node,
+    asking: &Actor,
+    paths: &Paths,
+    filtered: bool,
+    versions: &Versions,
+) -> Result<Items, ReadFault>
+    ensures exact { let seen = (observation asking.now.fabric node.now.state).seen in
+        IfOk result (λ items. read_answer seen asking.now paths.now filtered versions.now ≡ Some items) }
+    ensures not_global { let seen = (observation asking.now.fabric node.now.state).seen in
+        (result ≡ Err ReadFault.NotGlobal) ↔ (read_answer seen asking.now paths.now filtered versions.now ≡ None) }
+{
+    rows_stand_in_order();
+    read(node.alloc, node, asking, paths, filtered, versions)
+}

@@ -1,0 +1,60 @@
+-- What an outcome of the whole stands for.
+use Rattle.std.specs.Prelude.{◌≡◌, ℕ, Bool, true, false, List, [], Option, Some, None, Result, Ok, Err, filter, length, unwrap_or}
+use Rattle.mt_im.specs.declared.fault.ImFault.{ImFault}
+use Rattle.mt_im.specs.declared.fault.ImFault.TheVariants as faults
+use Rattle.mt_model.specs.declared.access.Actor.{Actor}
+use Rattle.mt_model.specs.declared.action.PlainDeadline.{PlainDeadline}
+use Rattle.mt_model.specs.declared.message.Request.{Request}
+use Rattle.mt_model.specs.declared.recording.Event.{Event}
+use Rattle.mt_node.specs.Plan.{IsPlan, IsPlanned, applied}
+use Rattle.mt_model.specs.declared.action.Action.TheVariants.{Nothing}
+use Rattle.mt_machine.specs.Isolation.{is_deadline_in}
+use Rattle.mt_machine.specs.Lines.{is_built, next, next_for, sent, sent_for, without}
+use Rattle.mt_machine.specs.State.{State}
+use Rattle.mt_machine.specs.Step.{asker}
+use Rattle.mt_whole.specs.declared.outcome.WholeOutcome.{WholeOutcome}
+
+-- how many other actors of an actor's fabric have a deadline
+abbrev pub others_in : Actor → List PlainDeadline → ℕ
+others_in actor deadlines = length (filter (is_deadline_in actor.fabric) (without actor deadlines))
+
+-- the state behind an outcome
+abbrev pub applied_whole : WholeOutcome → State → State
+applied_whole outcome s = record { node = applied outcome.node s.node; deadlines = unwrap_or outcome.deadlines s.deadlines }
+
+-- whether a payload was not decoded for want of memory
+abbrev pub is_want_of_memory : Result Request ImFault → Bool
+is_want_of_memory (Ok request) = false
+is_want_of_memory (Err faults.Memory) = true
+is_want_of_memory (Err fault) = false
+
+-- The outcome is that of a line of this actor, whose payload was decoded to this.
+pub record IsLine (s : State) (ms : ℕ) (actor : Actor) (asked : Result Request ImFault) (outcome : WholeOutcome) : Type 0 where
+  pub sent : outcome.sent ≡ sent_for s actor ms asked
+  pub state : applied_whole outcome s ≡ next_for s actor ms asked
+  pub planned : IsPlanned s.node outcome.node
+
+-- The same, whoever's line it is that is taken as this asker.
+abbrev pub IsLineFor : State → ℕ → Actor → Result Request ImFault → WholeOutcome → Type 0
+IsLineFor s ms asking asked outcome = (actor : Actor) → asker s.node actor ≡ Some asking → IsLine s ms actor asked outcome
+
+-- nothing is sent, and time passes
+pub record IsQuiet (s : State) (ms : ℕ) (outcome : WholeOutcome) : Type 0 where
+  pub sent : outcome.sent ≡ []
+  pub deadlines : outcome.deadlines ≡ None
+  pub node : IsPlan s.node Nothing ms outcome.node
+
+-- The outcome is that of this event.
+pub record IsWholePlan (s : State) (event : Event) (outcome : WholeOutcome) : Type 0 where
+  pub sent : outcome.sent ≡ sent s event
+  pub state : applied_whole outcome s ≡ next s event
+  pub planned : IsPlanned s.node outcome.node
+
+-- there is an outcome exactly where the event is built
+abbrev pub IsPlanIf : State → Event → Option WholeOutcome → Type 0
+IsPlanIf s event None = is_built event ≡ false
+IsPlanIf s event (Some outcome) = (is_built event ≡ true) × IsWholePlan s event outcome
+
+-- the outcome was made on this state
+abbrev pub IsWholePlanned : State → WholeOutcome → Type 0
+IsWholePlanned s outcome = (event : Event) × IsWholePlan s event outcome

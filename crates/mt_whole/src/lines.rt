@@ -1,0 +1,157 @@
+//! A line of a plain actor, from what its payload was decoded to.
+
+ghost use Rattle.std.specs.Prelude.{◌≡◌, Err, Ok, true, IfOk, if◌then◌else◌, unwrap_or};
+ghost use Rattle.mt_machine.specs.Lines.{fault_reply, is_built_payload, is_refused, line_actor, sent_as, with_deadline};
+ghost use Rattle.mt_machine.specs.Step.{is_built_request, refusal};
+ghost use Rattle.mt_model.specs.Status.{code_of};
+ghost use Rattle.mt_model.specs.declared.status.Status.TheVariants.{Busy};
+ghost use Rattle.mt_whole.specs.Plan.{IsLine, IsLineFor, IsQuiet};
+
+use crate::deadlines::{deadline_of, is_refused, next_deadlines};
+use crate::outcome::WholeOutcome;
+use crate::sending::sent_as;
+use crate::whole::Whole;
+use mt_im::ImFault;
+use mt_model::{Action, Actor, Auth, PlainDeadlines, Reply, Request, SentList, Status};
+use std::alloc::{AllocError, Global};
+
+/// Whom a line names: the plain PASE session where its fabric is 0, otherwise a node of its fabric.
+pub(crate) fn line_actor(fabric: u8, node: u64, cats: [u32; 3]) -> Actor
+    ensures { result ≡ line_actor fabric node cats }
+{
+    if fabric == 0 {
+        return Actor {
+            fabric: 0,
+            auth: Auth::Pase,
+            node: 0,
+            cats: [0; 3],
+            session: None,
+        };
+    }
+    Actor {
+        fabric,
+        auth: Auth::Case,
+        node,
+        cats,
+        session: None,
+    }
+}
+
+/// Plans a line. What is no request goes the same way as what is one.
+pub(crate) fn planned_line(
+    whole: &Whole,
+    ms: u64,
+    actor: &Actor,
+    asked: &Result<Request, ImFault>,
+) -> Result<WholeOutcome, AllocError>
+    requires { is_built_payload asked.now ≡ true }
+    ensures { IfOk result (IsLine whole.now ms actor.now asked.now) }
+{
+    match whole.node.asker(actor) {
+        Some(asking) => planned_for(whole, ms, &asking, asked),
+        None => quiet(whole, ms),
+    }
+}
+
+// Nothing is sent where nobody is taken as asking.
+fn quiet(whole: &Whole, ms: u64) -> Result<WholeOutcome, AllocError>
+    ensures { IfOk result (IsQuiet whole.now ms) }
+{
+    let node = whole.node.plan(&Action::Nothing, ms)?;
+    Ok(WholeOutcome {
+        sent: SentList::new(whole.alloc),
+        node,
+        deadlines: None,
+    })
+}
+
+fn planned_for(
+    whole: &Whole,
+    ms: u64,
+    asking: &Actor,
+    asked: &Result<Request, ImFault>,
+) -> Result<WholeOutcome, AllocError>
+    requires { is_built_payload asked.now ≡ true }
+    ensures { IfOk result (IsLineFor whole.now ms asking.now asked.now) }
+{
+    let deadlines = next_deadlines(whole.alloc, whole.deadlines.as_slice(), asking, ms, asked)?;
+    match asked {
+        Ok(request) => answered(whole, ms, asking, request, deadlines),
+        Err(fault) => refused(whole, ms, asking, *fault, deadlines),
+    }
+}
+
+// What a request is answered.
+fn answered(
+    whole: &Whole,
+    ms: u64,
+    asking: &Actor,
+    request: &Request,
+    deadlines: Option<PlainDeadlines>,
+) -> Result<WholeOutcome, AllocError>
+    requires built { is_built_request request.now ≡ true }
+    requires next { unwrap_or deadlines whole.now.deadlines ≡ with_deadline asking.now whole.now.deadlines ms (Ok request.now) }
+    ensures { IfOk result (IsLineFor whole.now ms asking.now (Ok request.now)) }
+{
+    let timed = deadline_of(whole.deadlines.as_slice(), asking);
+    let node = whole.node.plan_asked(asking, request, timed, ms)?;
+    let sent = if_not_refused(whole, ms, asking, request, &node.reply)?;
+    Ok(WholeOutcome {
+        sent,
+        node,
+        deadlines,
+    })
+}
+
+// The messages of a reply, or those that refuse a time for which there is no room.
+fn if_not_refused(
+    whole: &Whole,
+    ms: u64,
+    asking: &Actor,
+    request: &Request,
+    reply: &Reply,
+) -> Result<SentList, AllocError>
+    ensures { IfOk result (λ sent. sent ≡ sent_as ms asking.now.fabric
+        (if is_refused asking.now whole.now.deadlines ms request.now then refusal (code_of Busy) else reply.now)) }
+{
+    if is_refused(whole.deadlines.as_slice(), asking, ms, request) {
+        let busy = Reply::Status {
+            code: Status::Busy.code(),
+        };
+        return sent_as(whole.alloc, ms, asking.fabric, &busy);
+    }
+    sent_as(whole.alloc, ms, asking.fabric, reply)
+}
+
+// What is no request is refused, and time passes.
+fn refused(
+    whole: &Whole,
+    ms: u64,
+    asking: &Actor,
+    fault: ImFault,
+    deadlines: Option<PlainDeadlines>,
+) -> Result<WholeOutcome, AllocError>
+    requires { unwrap_or deadlines whole.now.deadlines ≡ with_deadline asking.now whole.now.deadlines ms (Err fault) }
+    ensures { IfOk result (IsLineFor whole.now ms asking.now (Err fault)) }
+{
+    let node = whole.node.plan(&Action::Nothing, ms)?;
+    let sent = sent_as(whole.alloc, ms, asking.fabric, &fault_reply(fault))?;
+    Ok(WholeOutcome {
+        sent,
+        node,
+        deadlines,
+    })
+}
+
+// The reply to a payload that is no request.
+fn fault_reply(fault: ImFault) -> Reply
+    ensures { result ≡ fault_reply fault }
+{
+    let status = match fault {
+        ImFault::TooManyPaths => Status::PathsExhausted,
+        _ => Status::InvalidAction,
+    };
+    Reply::Status {
+        code: status.code(),
+    }
+}

@@ -1,0 +1,109 @@
+//! The whole.
+
+ghost use Rattle.std.specs.Prelude.{◌≡◌, IfOk};
+ghost use Rattle.mt_machine.specs.Lines.{is_built_payload};
+ghost use Rattle.mt_machine.specs.Opened.{opened_whole};
+ghost use Rattle.mt_whole.specs.Plan.{IsPlanIf, IsWholePlanned, applied_whole, is_want_of_memory};
+
+use crate::lines::{line_actor, planned_line};
+use crate::outcome::WholeOutcome;
+use mt_im::{ImFault, decode};
+use mt_model::{Config, Event, PlainDeadlines, Request};
+use mt_node::{Node, is_built_request};
+use std::alloc::{AllocError, Global};
+use std::marker::Model;
+
+/// The node, and the deadlines of plain actors around it. Contracts see the state of both.
+#[derive(Drop)]
+pub struct Whole {
+    pub(crate) alloc: Global,
+    pub(crate) node: Node,
+    pub(crate) deadlines: PlainDeadlines,
+}
+
+impl Model for Whole {
+    ghost use Rattle.mt_machine.specs.State.{State};
+    ghost use Rattle.mt_tlv.specs.contracts.value.Value as values;
+    ghost use Rattle.std.specs.Coded.{codes};
+
+    ghost Value = { State };
+
+    ghost coded = { Prim.hlevel (codes, values.the_row.coded) };
+
+    ghost view = { λ whole. record { node = whole.node.state; deadlines = whole.deadlines } };
+}
+
+impl Whole {
+    /// A new node with this configuration, in its first boot; nobody has a deadline.
+    pub fn start(alloc: Global, config: &Config) -> Result<Whole, AllocError>
+        ensures { IfOk result (λ whole. whole ≡ opened_whole config.now) }
+    {
+        let node = Node::start(alloc, config)?;
+        Ok(Whole {
+            alloc,
+            node,
+            deadlines: PlainDeadlines::new(alloc),
+        })
+    }
+
+    /// Plans an event of a recording, None exactly where it is not built. It changes nothing, and takes
+    /// all the memory.
+    pub fn plan(&self, event: &Event) -> Result<Option<WholeOutcome>, AllocError>
+        ensures { IfOk result (IsPlanIf self.now event.now) }
+    {
+        let Event::Ask {
+            ms,
+            fabric,
+            node,
+            cats,
+            opcode,
+            payload,
+        } = event
+        else {
+            return Ok(None);
+        };
+        let actor = line_actor(*fabric, *node, *cats);
+        let asked = decode(self.alloc, *opcode, payload.as_slice());
+        if is_want_of_memory(&asked) {
+            return Err(AllocError);
+        }
+        if !is_built_payload(&asked) {
+            return Ok(None);
+        }
+        let outcome = planned_line(self, *ms, &actor, &asked)?;
+        Ok(Some(outcome))
+    }
+
+    /// Makes of the whole what a planned event makes of it. It takes no memory, and cannot fail.
+    pub fn apply(&mut self, outcome: WholeOutcome)
+        requires { IsWholePlanned self.old outcome }
+        ensures { self.new ≡ applied_whole outcome self.old }
+    {
+        let WholeOutcome {
+            sent: _,
+            node,
+            deadlines,
+        } = outcome;
+        self.node.apply(node);
+        if let Some(deadlines) = deadlines {
+            self.deadlines = deadlines;
+        }
+    }
+}
+
+// Whether a payload was not decoded for want of memory.
+fn is_want_of_memory(asked: &Result<Request, ImFault>) -> bool
+    ensures { result ≡ is_want_of_memory asked.now }
+{
+    matches!(asked, Err(ImFault::Memory))
+}
+
+// Whether what a payload was decoded to is built.
+fn is_built_payload(asked: &Result<Request, ImFault>) -> bool
+    ensures { result ≡ is_built_payload asked.now }
+{
+    match asked {
+        Ok(request) => is_built_request(request),
+        Err(_) => true,
+    }
+}
