@@ -1,3 +1,4 @@
+pub mod Again
 pub mod Deadlines
 pub mod Entries
 pub mod Fabrics

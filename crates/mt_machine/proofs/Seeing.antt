@@ -105,7 +105,7 @@ rows-veil fabric s valid place =
     ∙ (λ i. lower i ++ (own i ++ higher i))
     ∙ sym (seen-ordered fabric (rows_of s place))
 
-plain-veil : (fabric : ℕ) (plain : Option ℕ) → has_fabric fabric (if has_fabric fabric plain then Some fabric else None) ≡ has_fabric fabric plain
+pub plain-veil : (fabric : ℕ) (plain : Option ℕ) → has_fabric fabric (if has_fabric fabric plain then Some fabric else None) ≡ has_fabric fabric plain
 plain-veil fabric None = refl
 plain-veil fabric (Some other) = by_test (other == fabric)
   where

@@ -1,16 +1,19 @@
 -- Laws of the written machine.
-use Rattle.std.specs.Prelude.{◌≡◌, ◌≢◌, ℕ, List, [], None, true}
+use Rattle.std.specs.Prelude.{◌≡◌, ◌≢◌, ℕ, List, [], None, Option, Some, true}
 use Rattle.mt_model.specs.Config.{are_entries, are_fabrics}
 use Rattle.mt_model.specs.Seen.{Observation, seen_as}
 use Rattle.mt_model.specs.declared.access.Actor.{Actor}
 use Rattle.mt_model.specs.declared.message.Request.{Request}
 use Rattle.mt_model.specs.declared.access.AclEntry.{AclEntry}
 use Rattle.mt_model.specs.declared.config.SessionRow.{SessionRow}
+use Rattle.mt_model.specs.declared.fabric.Credentials.{Credentials}
 use Rattle.mt_model.specs.declared.fabric.Fabric.{Fabric}
+use Rattle.mt_model.specs.declared.network.Armed.{Armed}
+use Rattle.mt_model.specs.declared.network.Network.{Network}
 use Rattle.mt_model.specs.declared.recording.Event.{Event}
 use Rattle.mt_model.specs.declared.state.NodeState.{NodeState}
 use Rattle.mt_model.specs.declared.action.Action.{Action}
-use Rattle.mt_machine.specs.Isolation.{own_of_whole, public_view, veil, veil_of_whole}
+use Rattle.mt_machine.specs.Isolation.{own, own_of_whole, public_view, veil, veil_of_whole}
 use Rattle.mt_machine.specs.Lines.{fabric_of, is_built, next, sent}
 use Rattle.mt_machine.specs.Observation.{observation}
 use Rattle.mt_machine.specs.Opened.{opened_with}
@@ -21,6 +24,19 @@ use Rattle.mt_machine.specs.Step.{after_action, aside_of, session_asking, steps_
 -- public to it.
 abbrev pub SeesTheVeil : Type 0
 SeesTheVeil = (fabric : ℕ) (s : NodeState) → IsValid s → observation fabric (veil fabric s) ≡ observation fabric s
+
+-- The veil has the own part of its fabric, and what is public to it, as the state has them: it takes nothing
+-- away from either, and neither has more than the veil can be built of.
+abbrev pub KeepsItsOwnPart : Type 0
+KeepsItsOwnPart = (fabric : ℕ) (s : NodeState) → IsValid s → own fabric (veil fabric s) ≡ own fabric s
+
+abbrev pub KeepsItsPublicView : Type 0
+KeepsItsPublicView = (fabric : ℕ) (s : NodeState) → IsValid s → public_view fabric (veil fabric s) ≡ public_view fabric s
+
+-- What an expiry gives back is public to nobody: neither saved credentials nor saved networks are.
+abbrev pub HidesWhatIsSaved : Type 0
+HidesWhatIsSaved = (fabric : ℕ) (s : NodeState) (armed : Armed) (credentials : Option Credentials) (networks : List Network)
+    → public_view fabric (record s { armed = Some (record armed { saved_credentials = credentials; saved_networks = networks }) }) ≡ public_view fabric (record s { armed = Some armed })
 
 -- What an event sends on the veil of its fabric is what it sends on the state.
 abbrev pub SendsOnTheVeil : Type 0

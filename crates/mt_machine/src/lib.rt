@@ -13,7 +13,7 @@
 #![tactic(auto)]
 
 ghost use Rattle.std.specs.Prelude.{◌≡◌, ◌∷◌, []};
-ghost use Rattle.mt_machine.specs.Laws.{EndsNothing, KeepsTheOwn, MakesNoStep, OpensValid, SeesItsViewAlone, SeesTheVeil, SendsOnTheVeil, SetsTheTime, StandsInOrder, StaysValid};
+ghost use Rattle.mt_machine.specs.Laws.{EndsNothing, HidesWhatIsSaved, KeepsItsOwnPart, KeepsItsPublicView, KeepsTheOwn, MakesNoStep, OpensValid, SeesItsViewAlone, SeesTheVeil, SendsOnTheVeil, SetsTheTime, StandsInOrder, StaysValid};
 ghost use Rattle.mt_machine.specs.Samples.{acl_report, data_report, denial_report, empty_report, hidden_report, invalid_action, no_cluster_report, no_endpoint_report, read_acl, read_acl_anywhere, read_cluster_99, read_endpoint_7, read_on_off, sent_to_reader, too_deep};
 
 use mt_model::{
@@ -25,6 +25,14 @@ use mt_model::{
 /// of what is public to it.
 pub fn sees_the_veil()
     ensures { SeesTheVeil }
+{}
+
+/// The veil has the own part of its fabric and what is public to it, as the state has them. What an expiry
+/// gives back, saved credentials and networks, is public to nobody.
+pub fn veil_keeps_both_parts()
+    ensures own { KeepsItsOwnPart }
+    ensures view { KeepsItsPublicView }
+    ensures saved { HidesWhatIsSaved }
 {}
 
 /// What an event sends on the veil of its fabric is what it sends on the state.
