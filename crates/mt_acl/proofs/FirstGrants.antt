@@ -9,12 +9,12 @@ use Rattle.std.proofs.lemmas.List.Folds.{list_any_at, list_any_none}
 use Rattle.std.proofs.lemmas.Map.Views.{any-filter_same}
 use Rattle.std.proofs.lemmas.Bool.{ltb-false}
 use Rattle.std.proofs.Math.ListN.{get_or}
-use Rattle.mt_model.specs.declared.access.AclEntry.{AclEntry}
-use Rattle.mt_model.specs.declared.access.Actor.{Actor}
-use Rattle.mt_model.specs.declared.access.Auth.TheVariants.{Pase}
-use Rattle.mt_model.specs.declared.access.Privilege.{Privilege}
-use Rattle.mt_model.specs.declared.access.Privilege.TheVariants.{View}
-use Rattle.mt_model.specs.declared.place.Place.{Place}
+use Rattle.mt_model.specs.declared.tables.access.AclEntry.{AclEntry}
+use Rattle.mt_model.specs.declared.tables.access.Actor.{Actor}
+use Rattle.mt_model.specs.declared.tables.access.Auth.TheVariants.{Pase}
+use Rattle.mt_model.specs.declared.tables.access.Privilege.{Privilege}
+use Rattle.mt_model.specs.declared.tables.access.Privilege.TheVariants.{View}
+use Rattle.mt_model.specs.declared.rows.place.Place.{Place}
 use Rattle.mt_acl.specs.Access.{IsFirstToGrant, implicit_grants, is_granted, entry_grants, own_entry_grants, is_own}
 
 -- an entry for reads past the end

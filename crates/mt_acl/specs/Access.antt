@@ -3,15 +3,15 @@
 use Rattle.std.specs.Prelude.{ℕ, ◌≡◌, ◌/◌, ◌%◌, ◌^◌, ◌==◌, nat_le, not, ◌&&◌, ◌||◌, if◌then◌else◌, Bool, true, false, IsTrue, IsFalse, List, [], ◌∷◌, Option, Some, None, position, slice_get}
 use Rattle.std.specs.List.{AllWithin, list_any}
 use Rattle.std.specs.Option.{option_map}
-use Rattle.mt_model.specs.Access.{includes}
-use Rattle.mt_model.specs.Devices.{device_of}
-use Rattle.mt_model.specs.declared.access.AclEntry.{AclEntry}
-use Rattle.mt_model.specs.declared.access.Actor.{Actor}
-use Rattle.mt_model.specs.declared.access.Auth.{Auth}
-use Rattle.mt_model.specs.declared.access.Auth.TheVariants.{Pase, Case, Group}
-use Rattle.mt_model.specs.declared.access.Privilege.{Privilege}
-use Rattle.mt_model.specs.declared.access.Target.{Target}
-use Rattle.mt_model.specs.declared.place.Place.{Place}
+use Rattle.mt_model.specs.tables.Access.{includes}
+use Rattle.mt_model.specs.rows.Devices.{device_of}
+use Rattle.mt_model.specs.declared.tables.access.AclEntry.{AclEntry}
+use Rattle.mt_model.specs.declared.tables.access.Actor.{Actor}
+use Rattle.mt_model.specs.declared.tables.access.Auth.{Auth}
+use Rattle.mt_model.specs.declared.tables.access.Auth.TheVariants.{Pase, Case, Group}
+use Rattle.mt_model.specs.declared.tables.access.Privilege.{Privilege}
+use Rattle.mt_model.specs.declared.tables.access.Target.{Target}
+use Rattle.mt_model.specs.declared.rows.place.Place.{Place}
 use Rattle.mt_acl.specs.declared.granting.Grant.{Grant}
 use Rattle.mt_acl.specs.declared.granting.Grant.TheVariants.{Implicit, Entry}
 

@@ -2,8 +2,8 @@
 -- Access Control Cluster).
 use Rattle.std.specs.Prelude.{nat_le, not, ◌&&◌, if◌then◌else◌, Bool, Option, Some, None, length}
 use Rattle.std.specs.List.{list_all}
-use Rattle.mt_model.specs.Config.{is_pase, is_target, may_be_granted, may_be_subject}
-use Rattle.mt_model.specs.declared.access.AclEntry.{AclEntry}
+use Rattle.mt_model.specs.texts.Config.{is_pase, is_target, may_be_granted, may_be_subject}
+use Rattle.mt_model.specs.declared.tables.access.AclEntry.{AclEntry}
 use Rattle.mt_model.specs.declared.limits.TheConstants.{SUBJECTS, TARGETS}
 use Rattle.mt_acl.specs.declared.validity.EntryFault.{EntryFault}
 use Rattle.mt_acl.specs.declared.validity.EntryFault.TheVariants.{Mode, GroupAdmin, Subject, Target, TooMany}

@@ -2,13 +2,13 @@
 
 ghost use Rattle.std.specs.Prelude.{◌≡◌, ◌↔◌, IsTrue, IsFalse, IfSome, All, is_some, position};
 ghost use Rattle.std.specs.List.{list_any};
-ghost use Rattle.mt_model.specs.Devices.{device_of};
+ghost use Rattle.mt_model.specs.rows.Devices.{device_of};
 ghost use Rattle.mt_acl.specs.Access.{NamesFirst, entry_grants, fits_device, fits_number, fits_subjects, fits_target, fits_targets, grant_of, implicit_grants, is_granted, names_actor, names_cat, own_entry_grants, same_auth};
 
 use mt_model::{AclEntry, Actor, Auth, Place, Privilege, Target, device_type};
 
 // The upper half of a subject that is a CAT.
-const CAT_SUBJECT: u64 = 0xffff_fffd;
+pub(crate) const CAT_SUBJECT: u64 = 0xffff_fffd;
 
 /// What grants.
 #[derive(Clone, Copy, Debug, PartialEq, Eq)]

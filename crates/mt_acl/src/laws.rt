@@ -2,10 +2,10 @@
 
 ghost use Rattle.std.specs.Prelude.{◌≡◌, ◌<◌, ◌+◌, ◌*◌, ◌^◌, ◌==◌, ◌&&◌, ℕ, List, Bool, filter, nat_le};
 ghost use Rattle.mt_acl.specs.Access.{is_granted, is_own, names_cat};
-ghost use Rattle.mt_model.specs.declared.access.AclEntry.{AclEntry};
-ghost use Rattle.mt_model.specs.declared.access.Actor.{Actor};
-ghost use Rattle.mt_model.specs.declared.access.Privilege.{Privilege};
-ghost use Rattle.mt_model.specs.declared.place.Place.{Place};
+ghost use Rattle.mt_model.specs.declared.tables.access.AclEntry.{AclEntry};
+ghost use Rattle.mt_model.specs.declared.tables.access.Actor.{Actor};
+ghost use Rattle.mt_model.specs.declared.tables.access.Privilege.{Privilege};
+ghost use Rattle.mt_model.specs.declared.rows.place.Place.{Place};
 
 /// Whether an actor is granted a privilege depends on the entries of its own fabric alone.
 pub fn own_entries_alone_grant()

@@ -2,14 +2,12 @@
 
 ghost use Rattle.std.specs.Prelude.{◌≡◌, ◌↔◌, ◌==◌, IsTrue, IsOk, IfErr, not};
 ghost use Rattle.std.specs.List.{list_all};
-ghost use Rattle.mt_model.specs.Config.{is_cat, is_entry, is_operational, is_target, may_be_granted, may_be_subject};
+ghost use Rattle.mt_model.specs.texts.Config.{is_cat, is_entry, is_target, may_be_granted, may_be_subject};
 ghost use Rattle.mt_acl.specs.Validity.{first_fault, has_room};
 
-use mt_model::limits::{LAST_GROUP, LAST_OPERATIONAL_NODE, SUBJECTS, TARGETS};
-use mt_model::{AclEntry, Auth, Privilege, Target};
-
-// The upper half of a subject that is a CAT.
-const CAT_SUBJECT: u64 = 0xffff_fffd;
+use crate::granting::CAT_SUBJECT;
+use mt_model::limits::{LAST_GROUP, SUBJECTS, TARGETS};
+use mt_model::{AclEntry, Auth, Privilege, Target, is_operational};
 
 /// The rule that an entry breaks.
 #[derive(Clone, Copy, Debug, PartialEq, Eq)]
@@ -80,12 +78,6 @@ fn may_be_subject(auth: Auth, subject: u64) -> bool
         Auth::Case => is_operational(subject) || is_cat(subject),
         Auth::Group => subject >= 1 && subject <= LAST_GROUP,
     }
-}
-
-fn is_operational(node: u64) -> bool
-    ensures { result ≡ is_operational node }
-{
-    node >= 1 && node <= LAST_OPERATIONAL_NODE
 }
 
 fn is_cat(subject: u64) -> bool

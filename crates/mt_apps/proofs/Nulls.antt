@@ -3,9 +3,9 @@ use Rattle.std.proofs.Common.{◌≡◌, ◌==◌, ℕ, true, false, List, [], �
 use Rattle.std.proofs.Math.Dec.{eqb-suc-zero}
 use Rattle.mt_tlv.specs.Tree.{array, null, octets, uint}
 use Rattle.mt_apps.specs.OperationalCredentials.{intermediate_tree}
-use Rattle.mt_model.specs.Entries.{subjects_tree, target_tree, targets_tree}
+use Rattle.mt_model.specs.tables.Entries.{subjects_tree, target_tree, targets_tree}
 use Rattle.mt_model.specs.Trees.{untagged}
-use Rattle.mt_model.specs.declared.access.Target.{Target}
+use Rattle.mt_model.specs.declared.tables.access.Target.{Target}
 
 pub some_subjects : (subjects : List ℕ) → (length subjects == 0) ≡ false → subjects_tree subjects ≡ array (untagged uint subjects)
 some_subjects [] e = cc

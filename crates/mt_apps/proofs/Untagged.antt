@@ -3,8 +3,8 @@ use Rattle.std.proofs.Common.{◌≡◌, List, [], ◌∷◌, refl}
 use Rattle.mt_tlv.specs.Tree.{Tree, int, uint, bool, text, octets, null, bits32, bits64, structure, array, list, more}
 use Rattle.mt_tlv.specs.View.{elements, tree}
 use Rattle.mt_tlv.specs.declared.value.Tag.TheVariants.{Anonymous}
-use Rattle.mt_model.specs.Trees.{untagged}
-use Rattle.mt_apps.specs.Members.{members, value_of}
+use Rattle.mt_model.specs.Trees.{untagged, value_of}
+use Rattle.mt_apps.specs.Members.{members}
 
 tree_of_value : (t : Tree) → tree (value_of t) ≡ t
 tree_of_value (int z) = refl

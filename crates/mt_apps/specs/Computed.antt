@@ -2,9 +2,9 @@
 -- Specification, chapters 7, 9 and 11). What each cluster has of them stands in the file of its name.
 use Rattle.std.specs.Prelude.{◌==◌, List, [], ◌∷◌, Option, Some, None, map, if◌then◌else◌}
 use Rattle.mt_tlv.specs.declared.value.Value.{Value}
-use Rattle.mt_model.specs.Sight.{is_acl, is_nocs}
-use Rattle.mt_model.specs.declared.place.Place.{Place}
-use Rattle.mt_model.specs.declared.place.Row.{Row}
+use Rattle.mt_model.specs.rows.Sight.{is_acl, is_nocs}
+use Rattle.mt_model.specs.declared.rows.place.Place.{Place}
+use Rattle.mt_model.specs.declared.rows.place.Row.{Row}
 use Rattle.mt_meta.specs.clusters.AccessControl as access_control
 use Rattle.mt_meta.specs.clusters.BasicInformation as basic_information
 use Rattle.mt_meta.specs.clusters.Descriptor as descriptor

@@ -3,7 +3,7 @@ use Rattle.std.specs.Prelude.{ℕ, ◌==◌, List, [], ◌∷◌, Option, Some, 
 use Rattle.mt_tlv.specs.Tree.{Tree, uint, structure, none, more}
 use Rattle.mt_tlv.specs.declared.value.Tag.TheVariants.{Context}
 use Rattle.mt_tlv.specs.declared.value.Value.{Value}
-use Rattle.mt_model.specs.Devices.{device_of}
+use Rattle.mt_model.specs.rows.Devices.{device_of}
 use Rattle.mt_model.specs.Trees.{array_of}
 use Rattle.mt_meta.specs.Table.{clusters_of}
 use Rattle.mt_apps.specs.Parts.{numbers}

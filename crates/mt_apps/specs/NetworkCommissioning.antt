@@ -6,7 +6,7 @@ use Rattle.mt_tlv.specs.declared.value.Value.{Value}
 use Rattle.mt_tlv.specs.declared.value.Value.TheVariants as values
 use Rattle.mt_model.specs.Trees.{array_of}
 use Rattle.mt_model.specs.declared.limits.TheConstants.{NETWORKS}
-use Rattle.mt_model.specs.declared.network.Network.{Network}
+use Rattle.mt_model.specs.declared.tables.network.Network.{Network}
 
 -- NetworkInfoStruct: 0 network id, 1 connected
 abbrev pub network_tree : Network → Tree

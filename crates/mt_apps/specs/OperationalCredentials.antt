@@ -5,10 +5,10 @@ use Rattle.mt_tlv.specs.declared.value.Tag.TheVariants.{Context}
 use Rattle.mt_tlv.specs.declared.value.Value.{Value}
 use Rattle.mt_tlv.specs.declared.value.Value.TheVariants as values
 use Rattle.mt_model.specs.Trees.{array_of}
-use Rattle.mt_model.specs.declared.fabric.Fabric.{Fabric}
+use Rattle.mt_model.specs.declared.tables.fabric.Fabric.{Fabric}
 use Rattle.mt_model.specs.declared.limits.TheConstants.{FABRICS}
-use Rattle.mt_model.specs.declared.place.Place.{Place}
-use Rattle.mt_model.specs.declared.place.Row.{Row}
+use Rattle.mt_model.specs.declared.rows.place.Place.{Place}
+use Rattle.mt_model.specs.declared.rows.place.Row.{Row}
 use Rattle.mt_meta.specs.clusters.OperationalCredentials as operational_credentials
 use Rattle.mt_apps.specs.Parts.{Parts, row_at}
 

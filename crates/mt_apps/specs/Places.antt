@@ -1,6 +1,6 @@
 -- Whether each place of the table has its rows.
 use Rattle.std.specs.Prelude.{◌==◌, ◌&&◌, ◌||◌, not, Bool, is_some, if◌then◌else◌}
-use Rattle.mt_model.specs.declared.place.Place.{Place}
+use Rattle.mt_model.specs.declared.rows.place.Place.{Place}
 use Rattle.mt_meta.specs.Stored.{count_first_rows, is_scoped, is_stored}
 use Rattle.mt_meta.specs.clusters.OperationalCredentials as operational_credentials
 use Rattle.mt_apps.specs.Computed.{computed_value}

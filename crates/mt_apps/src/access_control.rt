@@ -2,8 +2,8 @@
 
 ghost use Rattle.std.specs.Prelude.{◌≡◌, IfOk, map};
 ghost use Rattle.mt_apps.specs.AccessControl.{access_control_value, entry_row};
-ghost use Rattle.mt_model.specs.Entries.{entry_value, mode_number, privilege_number, subjects_tree, targets_tree};
-ghost use Rattle.mt_model.specs.Sight.{is_acl};
+ghost use Rattle.mt_model.specs.tables.Entries.{entry_value, mode_number, privilege_number, subjects_tree, targets_tree};
+ghost use Rattle.mt_model.specs.rows.Sight.{is_acl};
 ghost use Rattle.mt_tlv.specs.View.{tree};
 
 use crate::arrays::{FABRIC_INDEX, array_of};

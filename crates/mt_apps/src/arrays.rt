@@ -3,11 +3,11 @@
 ghost use Rattle.std.specs.Prelude.{◌≡◌, List, IfOk};
 ghost use Rattle.mt_tlv.specs.Tree.{Tree, octets, uint};
 ghost use Rattle.mt_tlv.specs.View.{elements, tree};
-ghost use Rattle.mt_model.specs.Trees.{array_of, nullable};
+ghost use Rattle.mt_model.specs.Trees.{array_of, nullable, value_of};
 ghost use Rattle.mt_apps.specs.Descriptor.{device_tree};
 ghost use Rattle.mt_apps.specs.NetworkCommissioning.{network_tree};
-ghost use Rattle.mt_model.specs.Entries.{target_tree};
-ghost use Rattle.mt_apps.specs.Members.{member, members, value_of};
+ghost use Rattle.mt_model.specs.tables.Entries.{target_tree};
+ghost use Rattle.mt_apps.specs.Members.{member, members};
 
 use mt_model::{Network, Target};
 use mt_tlv::{Bytes, Members, Tag, Value};

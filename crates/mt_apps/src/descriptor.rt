@@ -2,7 +2,7 @@
 
 ghost use Rattle.std.specs.Prelude.{◌≡◌, IfOk};
 ghost use Rattle.mt_apps.specs.Descriptor.{descriptor_value, devices_value, parts_of};
-ghost use Rattle.mt_model.specs.Devices.{device_of};
+ghost use Rattle.mt_model.specs.rows.Devices.{device_of};
 
 use crate::arrays::{DeviceType, array_of};
 use mt_meta::clusters::descriptor::{CLIENT_LIST, DEVICE_TYPE_LIST, PARTS_LIST, SERVER_LIST};

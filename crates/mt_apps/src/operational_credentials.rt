@@ -3,7 +3,7 @@
 ghost use Rattle.std.specs.Prelude.{◌≡◌, IfOk, map};
 ghost use Rattle.mt_apps.specs.OperationalCredentials.{fabric_row, fabric_value, intermediate_tree, is_fabrics, noc_row, noc_value, operational_credentials_value};
 ghost use Rattle.mt_apps.specs.Seen.{parts_in};
-ghost use Rattle.mt_model.specs.Sight.{is_nocs};
+ghost use Rattle.mt_model.specs.rows.Sight.{is_nocs};
 ghost use Rattle.mt_tlv.specs.View.{tree};
 
 use crate::arrays::{FABRIC_INDEX, array_of};

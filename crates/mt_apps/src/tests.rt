@@ -1,8 +1,8 @@
 //! Rows whose values' bytes were worked out outside this repository.
 
 ghost use Rattle.std.specs.Prelude.{◌≡◌, IfOk, IsTrue};
-ghost use Rattle.mt_model.specs.Config.{ascend_from};
-ghost use Rattle.mt_model.specs.Order.{fabrics_ascend};
+ghost use Rattle.mt_model.specs.texts.Config.{ascend_from};
+ghost use Rattle.mt_model.specs.rows.Order.{fabrics_ascend};
 
 use super::*;
 use mt_model::{

@@ -2,9 +2,9 @@
 use Rattle.std.proofs.Common.{◌≡◌, ℕ, suc, ◌+◌, ◌<◌, ◌==◌, Bool, true, false, not, ◌&&◌, nat_le, List, ◌∷◌, length, drop, get_or, refl, sym, ap, ◌∙◌, add-one}
 use Rattle.std.specs.List.{list_any}
 use Rattle.std.proofs.Math.Seq.{drop-cons}
-use Rattle.mt_model.specs.Config.{are_numbered_from, ascend_from, none_alike}
-use Rattle.mt_model.specs.declared.access.AclEntry.{AclEntry}
-use Rattle.mt_model.specs.declared.fabric.Fabric.{Fabric}
+use Rattle.mt_model.specs.texts.Config.{are_numbered_from, ascend_from, none_alike}
+use Rattle.mt_model.specs.declared.tables.access.AclEntry.{AclEntry}
+use Rattle.mt_model.specs.declared.tables.fabric.Fabric.{Fabric}
 
 -- what is left from an item on
 pub drop_at : {X : Type 0} (xs : List X) (i : ℕ) (x : X) → i < length xs → x ≡ get_or xs i x → drop i xs ≡ x ∷ drop (i + 1) xs

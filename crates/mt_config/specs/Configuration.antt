@@ -5,8 +5,8 @@ use Rattle.std.specs.Str.{is_utf8}
 use Rattle.serde_json.specs.Data.{Data}
 use Rattle.serde_json.specs.Find.{as_object}
 use Rattle.serde_json.specs.Read as json
-use Rattle.mt_model.specs.Contents.{Contents, contents_of}
-use Rattle.mt_model.specs.declared.config.Config.{Config}
+use Rattle.mt_model.specs.texts.Contents.{Contents, contents_of}
+use Rattle.mt_model.specs.declared.texts.config.Config.{Config}
 use Rattle.mt_model.specs.declared.limits.TheConstants.{CONFIGURATION_BYTES}
 use Rattle.mt_config.specs.Lists.{fabrics, sessions, roots, csrs, joins, reachable}
 use Rattle.mt_config.specs.declared.configuration.ConfigFault.{ConfigFault}

@@ -1,11 +1,11 @@
 -- The lists of a configuration: rows that have their form and keep the rules.
 use Rattle.std.specs.Prelude.{ℕ, ◌+◌, ◌&&◌, Bool, if◌then◌else◌, List, [], ◌∷◌, ◌++◌, codes, Option, Some, None}
 use Rattle.serde_json.specs.Data.{Data, Items, no_items, item}
-use Rattle.mt_model.specs.Config.{are_fabrics, are_entries, are_sessions, are_roots, are_csrs, are_joins, are_network_ids}
-use Rattle.mt_model.specs.declared.config.CsrRow.{CsrRow}
-use Rattle.mt_model.specs.declared.config.JoinRow.{JoinRow}
-use Rattle.mt_model.specs.declared.config.RootRow.{RootRow}
-use Rattle.mt_model.specs.declared.config.SessionRow.{SessionRow}
+use Rattle.mt_model.specs.texts.Config.{are_fabrics, are_entries, are_sessions, are_roots, are_csrs, are_joins, are_network_ids}
+use Rattle.mt_model.specs.declared.texts.config.CsrRow.{CsrRow}
+use Rattle.mt_model.specs.declared.texts.config.JoinRow.{JoinRow}
+use Rattle.mt_model.specs.declared.texts.config.RootRow.{RootRow}
+use Rattle.mt_model.specs.declared.texts.config.SessionRow.{SessionRow}
 use Rattle.mt_model.specs.declared.limits.TheConstants.{FABRICS, SESSIONS, VERDICTS, NETWORKS}
 use Rattle.mt_config.specs.Json.{◌>>=◌, octets, items_of, list_of}
 use Rattle.mt_config.specs.Rows.{fabric_of, entries_of, session, root, csr, join}

@@ -4,18 +4,18 @@
 use Rattle.std.specs.Prelude.{ℕ, ◌==◌, ◌%◌, ◌^◌, if◌then◌else◌, List, [], ◌∷◌, codes, Option, Some, None}
 use Rattle.serde_json.specs.Data.{Data}
 use Rattle.serde_json.specs.Find.{get_item, as_str}
-use Rattle.mt_model.specs.Entries.{mode_numbered, privilege_numbered}
-use Rattle.mt_model.specs.declared.access.AclEntry.{AclEntry}
-use Rattle.mt_model.specs.declared.access.Auth.{Auth}
-use Rattle.mt_model.specs.declared.access.Auth.TheVariants.{Pase, Case, Group}
-use Rattle.mt_model.specs.declared.access.Privilege.{Privilege}
-use Rattle.mt_model.specs.declared.access.Target.{Target}
-use Rattle.mt_model.specs.declared.config.CsrRow.{CsrRow}
-use Rattle.mt_model.specs.declared.config.JoinRow.{JoinRow}
-use Rattle.mt_model.specs.declared.config.RootRow.{RootRow}
-use Rattle.mt_model.specs.declared.config.SessionRow.{SessionRow}
-use Rattle.mt_model.specs.declared.fabric.Credentials.{Credentials}
-use Rattle.mt_model.specs.declared.fabric.Fabric.{Fabric}
+use Rattle.mt_model.specs.tables.Entries.{mode_numbered, privilege_numbered}
+use Rattle.mt_model.specs.declared.tables.access.AclEntry.{AclEntry}
+use Rattle.mt_model.specs.declared.tables.access.Auth.{Auth}
+use Rattle.mt_model.specs.declared.tables.access.Auth.TheVariants.{Pase, Case, Group}
+use Rattle.mt_model.specs.declared.tables.access.Privilege.{Privilege}
+use Rattle.mt_model.specs.declared.tables.access.Target.{Target}
+use Rattle.mt_model.specs.declared.texts.config.CsrRow.{CsrRow}
+use Rattle.mt_model.specs.declared.texts.config.JoinRow.{JoinRow}
+use Rattle.mt_model.specs.declared.texts.config.RootRow.{RootRow}
+use Rattle.mt_model.specs.declared.texts.config.SessionRow.{SessionRow}
+use Rattle.mt_model.specs.declared.tables.fabric.Credentials.{Credentials}
+use Rattle.mt_model.specs.declared.tables.fabric.Fabric.{Fabric}
 use Rattle.mt_model.specs.declared.limits.TheConstants.{ENTRIES, SUBJECTS, TARGETS, CATS}
 use Rattle.mt_config.specs.declared.rows.Ids.{Ids}
 use Rattle.mt_config.specs.declared.rows.Keys.{Keys}

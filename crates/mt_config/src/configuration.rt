@@ -3,7 +3,7 @@
 ghost use Rattle.std.specs.Prelude.{◌≡◌, IfErr, IfOk, Some};
 ghost use Rattle.serde_json.specs.View.{view};
 ghost use Rattle.mt_config.specs.Configuration.{IsConfiguration, IsFaultOf, IsFirstFault, IsReadAs, contents, name_of, object};
-ghost use Rattle.mt_model.specs.Contents.{contents_of};
+ghost use Rattle.mt_model.specs.texts.Contents.{contents_of};
 ghost use Rattle.mt_config.specs.Gives.{AnswersAs};
 
 use crate::lists::{csrs, fabrics, joins, reachable, roots, sessions};

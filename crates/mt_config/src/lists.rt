@@ -2,7 +2,7 @@
 
 ghost use Rattle.std.specs.Prelude.{◌≡◌, ◌≤◌, IfOk, IsTrue, length};
 ghost use Rattle.serde_json.specs.View.{view, items_view};
-ghost use Rattle.mt_model.specs.Config.{are_csrs, are_entries, are_fabrics, are_joins, are_network_ids, are_roots, are_sessions};
+ghost use Rattle.mt_model.specs.texts.Config.{are_csrs, are_entries, are_fabrics, are_joins, are_network_ids, are_roots, are_sessions};
 ghost use Rattle.mt_model.specs.declared.limits.TheConstants.{FABRICS};
 ghost use Rattle.mt_config.specs.Gives.{Answers, Gives};
 ghost use Rattle.mt_config.specs.Lists.{fabrics, is_table, table_of, table_from, sessions, roots, csrs, joins, reachable};

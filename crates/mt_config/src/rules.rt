@@ -3,19 +3,19 @@
 ghost use Rattle.std.specs.Prelude.{◌≡◌, bytes_eq, count_by, nat_le};
 ghost use Rattle.std.specs.List.{list_all, list_any};
 ghost use Rattle.std.specs.Str.{is_utf8};
-ghost use Rattle.mt_model.specs.Config.{are_both_pase, are_credentials, are_csrs, are_entries, are_fabrics, are_joins, are_network_ids, are_numbered_from, are_roots, are_sessions, ascend_from, has_up_to, have_one_fabric, have_one_identity, have_one_label, have_one_session, is_cat_or_none, is_certificate, is_csr, is_entry, is_established, is_fabric, is_intermediate, is_join, is_label, is_of, is_operational, is_root, is_session, none_alike};
+ghost use Rattle.mt_model.specs.texts.Config.{are_both_pase, are_credentials, are_csrs, are_entries, are_fabrics, are_joins, are_network_ids, are_numbered_from, are_roots, are_sessions, ascend_from, has_up_to, have_one_fabric, have_one_identity, have_one_label, have_one_session, is_cat_or_none, is_certificate, is_csr, is_entry, is_established, is_fabric, is_intermediate, is_join, is_label, is_of, is_root, is_session, none_alike};
 
 use mt_acl::valid;
 use mt_model::limits::{
     CASE_SESSIONS, CERTIFICATE_BYTES, ELEMENTS_BYTES, ENTRIES, FABRICS, IPK_BYTES, LABEL_BYTES,
-    LAST_OPERATIONAL_NODE, NETWORK_ID_BYTES, NETWORKS, NONCE_BYTES, PASE_SESSIONS, ROOT_KEY_BYTES,
+    NETWORK_ID_BYTES, NETWORKS, NONCE_BYTES, PASE_SESSIONS, ROOT_KEY_BYTES,
     SESSIONS, SIGNATURE_BYTES, VERDICTS,
 };
-use mt_model::{AclEntry, Auth, Credentials, CsrRow, Fabric, JoinRow, RootRow, SessionRow};
+use mt_model::{AclEntry, Auth, Credentials, CsrRow, Fabric, JoinRow, RootRow, SessionRow, is_operational};
 use mt_tlv::Bytes;
 
 /// Whether these may be the fabrics of a new node.
-#[tactic(auto, unfolding(mt_model::specs::Config::are_fabrics))]
+#[tactic(auto, unfolding(mt_model::specs::texts::Config::are_fabrics))]
 pub(crate) fn are_fabrics(fabrics: &[Fabric]) -> bool
     ensures { result ≡ are_fabrics fabrics.now }
 {
@@ -77,12 +77,6 @@ fn is_intermediate(bytes: &[u8]) -> bool
     ensures { result ≡ is_intermediate bytes.now }
 {
     bytes.len() <= CERTIFICATE_BYTES
-}
-
-fn is_operational(node: u64) -> bool
-    ensures { result ≡ is_operational node }
-{
-    1 <= node && node <= LAST_OPERATIONAL_NODE
 }
 
 fn is_label(bytes: &[u8]) -> bool
@@ -156,7 +150,7 @@ fn have_one_label(a: &Fabric, b: &Fabric) -> bool
 }
 
 /// Whether these may be the access control entries of these fabrics.
-#[tactic(auto, unfolding(mt_model::specs::Config::are_entries))]
+#[tactic(auto, unfolding(mt_model::specs::texts::Config::are_entries))]
 pub(crate) fn are_entries(fabrics: &[Fabric], entries: &[AclEntry]) -> bool
     ensures { result ≡ are_entries fabrics.now entries.now }
 {
@@ -223,7 +217,7 @@ fn ascend(entries: &[AclEntry]) -> bool
 }
 
 /// Whether these may be the sessions of a configuration.
-#[tactic(auto, unfolding(mt_model::specs::Config::are_sessions))]
+#[tactic(auto, unfolding(mt_model::specs::texts::Config::are_sessions))]
 pub(crate) fn are_sessions(rows: &[SessionRow]) -> bool
     ensures { result ≡ are_sessions rows.now }
 {
@@ -348,7 +342,7 @@ fn are_both_pase(a: &SessionRow, b: &SessionRow) -> bool
 }
 
 /// Whether these may be the verdicts on root certificates.
-#[tactic(auto, unfolding(mt_model::specs::Config::are_roots))]
+#[tactic(auto, unfolding(mt_model::specs::texts::Config::are_roots))]
 pub(crate) fn are_roots(rows: &[RootRow]) -> bool
     ensures { result ≡ are_roots rows.now }
 {
@@ -368,7 +362,7 @@ fn is_root(row: &RootRow) -> bool
 }
 
 /// Whether these may be the answers to requests for certificate signing requests.
-#[tactic(auto, unfolding(mt_model::specs::Config::are_csrs))]
+#[tactic(auto, unfolding(mt_model::specs::texts::Config::are_csrs))]
 pub(crate) fn are_csrs(rows: &[CsrRow]) -> bool
     ensures { result ≡ are_csrs rows.now }
 {
@@ -390,7 +384,7 @@ fn is_csr(row: &CsrRow) -> bool
 }
 
 /// Whether these may be the verdicts on chains of certificates.
-#[tactic(auto, unfolding(mt_model::specs::Config::are_joins))]
+#[tactic(auto, unfolding(mt_model::specs::texts::Config::are_joins))]
 pub(crate) fn are_joins(rows: &[JoinRow]) -> bool
     ensures { result ≡ are_joins rows.now }
 {
@@ -413,7 +407,7 @@ fn is_join(row: &JoinRow) -> bool
 }
 
 /// Whether these may be the ids of reachable networks.
-#[tactic(auto, unfolding(mt_model::specs::Config::are_network_ids))]
+#[tactic(auto, unfolding(mt_model::specs::texts::Config::are_network_ids))]
 pub(crate) fn are_network_ids(ids: &[Bytes]) -> bool
     ensures { result ≡ are_network_ids ids.now }
 {

@@ -1,8 +1,8 @@
 -- An answer, step by step.
 use Rattle.std.proofs.Common.{◌≡◌, ℕ, suc, ◌+◌, ◌-◌, ◌%◌, ◌<◌, ◌≤◌, true, false, List, [], Option, Some, None, Result, Ok, Err, if◌then◌else◌, refl, ap, sym, ◌∙◌, arith}
 use Rattle.std.proofs.lemmas.Bool.{cond-false, cond-true}
-use Rattle.mt_model.specs.declared.config.SessionRow.{SessionRow}
-use Rattle.mt_model.specs.declared.message.Payload.{Payload}
+use Rattle.mt_model.specs.declared.texts.config.SessionRow.{SessionRow}
+use Rattle.mt_model.specs.declared.messages.message.Payload.{Payload}
 use Rattle.mt_session.specs.declared.fault.SealFault.{SealFault}
 use Rattle.mt_session.specs.declared.fault.SealFault.TheVariants.{Exhausted, TooLong, Memory}
 use Rattle.mt_session.specs.Sessions.{Message, next_counter}

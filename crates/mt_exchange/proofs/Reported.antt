@@ -1,7 +1,7 @@
 -- A report, step by step.
 use Rattle.std.proofs.Common.{◌≡◌, ℕ, ◌+◌, ◌%◌, List, [], ◌∷◌, Option, Some, None, Ok, sym, ◌∙◌}
-use Rattle.mt_model.specs.declared.config.SessionRow.{SessionRow}
-use Rattle.mt_model.specs.declared.message.Payload.{Payload}
+use Rattle.mt_model.specs.declared.texts.config.SessionRow.{SessionRow}
+use Rattle.mt_model.specs.declared.messages.message.Payload.{Payload}
 use Rattle.mt_session.specs.Sessions.{next_counter}
 use Rattle.mt_exchange.specs.declared.exchange.Exchange.{Exchange}
 use Rattle.mt_exchange.specs.Opened.{put}

@@ -1,7 +1,7 @@
 -- What a session says to a message, and what has happened once more.
 use Rattle.std.proofs.Common.{◌≡◌, ◌≢◌, ℕ, List, [], ◌∷◌, ◌++◌, Option, Some, None, Result, Ok, Err, IfSome, IfNone, IfOk, OnOk, ap, sym, subst}
 use Rattle.std.proofs.lemmas.List.Sums.{fold-append}
-use Rattle.mt_model.specs.declared.config.SessionRow.{SessionRow}
+use Rattle.mt_model.specs.declared.texts.config.SessionRow.{SessionRow}
 use Rattle.mt_session.specs.declared.fault.SealFault.{SealFault}
 use Rattle.mt_session.specs.declared.fault.SealFault.TheVariants.{Memory}
 use Rattle.mt_frame.specs.declared.header.ProtocolHeader.{ProtocolHeader}

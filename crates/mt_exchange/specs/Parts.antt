@@ -1,6 +1,6 @@
 -- What is sent, as the code has it, and payloads one by one.
 use Rattle.std.specs.Prelude.{List, [], ◌∷◌, Option, Some, None}
-use Rattle.mt_model.specs.declared.message.Payload.{Payload}
+use Rattle.mt_model.specs.declared.messages.message.Payload.{Payload}
 use Rattle.mt_exchange.specs.declared.sending.Sending as code
 use Rattle.mt_exchange.specs.declared.sending.Sending.TheVariants as sendings
 use Rattle.mt_exchange.specs.Sending.{Sending, silence, alone, reliably, plainly}

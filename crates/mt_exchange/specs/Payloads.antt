@@ -7,9 +7,9 @@ use Rattle.mt_tlv.specs.Reading.{element_at}
 use Rattle.mt_im.specs.Blocks.{field_of, number_in, structure_in}
 use Rattle.mt_im.specs.Reading.{request_in}
 use Rattle.mt_im.specs.declared.fault.ImFault.{ImFault}
-use Rattle.mt_model.specs.declared.message.Payload.{Payload}
-use Rattle.mt_model.specs.declared.message.Request.{Request}
-use Rattle.mt_model.specs.declared.message.Request.TheVariants as requests
+use Rattle.mt_model.specs.declared.messages.message.Payload.{Payload}
+use Rattle.mt_model.specs.declared.messages.message.Request.{Request}
+use Rattle.mt_model.specs.declared.messages.message.Request.TheVariants as requests
 
 -- the members of the structure at the front, or none
 abbrev pub members_in : Option Elements → Elements

@@ -1,8 +1,8 @@
 -- What is sent on the exchanges of a session, and what is then kept, owed and awaited.
 use Rattle.std.specs.Prelude.{ℕ, zero, suc, ◌+◌, ◌%◌, Bool, true, false, List, [], ◌∷◌, ◌++◌, Option, Some, None, Result, Ok, Err, if◌then◌else◌}
 use Rattle.mt_frame.specs.declared.header.ProtocolHeader.{ProtocolHeader}
-use Rattle.mt_model.specs.declared.config.SessionRow.{SessionRow}
-use Rattle.mt_model.specs.declared.message.Payload.{Payload}
+use Rattle.mt_model.specs.declared.texts.config.SessionRow.{SessionRow}
+use Rattle.mt_model.specs.declared.messages.message.Payload.{Payload}
 use Rattle.mt_session.specs.declared.fault.SealFault.{SealFault}
 use Rattle.mt_session.specs.declared.fault.SealFault.TheVariants.{Exhausted, TooLong, Memory}
 use Rattle.mt_session.specs.Sessions.{Message, next_datagram, refusal}

@@ -1,7 +1,7 @@
 //! How the exchanges begin, and what a message is.
 
 ghost use Rattle.std.specs.Prelude.{◌≡◌, ◌++◌, ◌∷◌, [], List, IfOk, OnOk, OnErr, true, ℕ};
-ghost use Rattle.mt_model.specs.declared.config.SessionRow.{SessionRow};
+ghost use Rattle.mt_model.specs.declared.texts.config.SessionRow.{SessionRow};
 ghost use Rattle.mt_session.specs.Opening.{arrival};
 ghost use Rattle.mt_exchange.specs.Receiving.{behind as behind_turn, confirming as confirming_of, is_interaction as is_interaction_of, key_of as key_of_header, received as received_among, taken, taken_by, taken_on};
 ghost use Rattle.mt_exchange.specs.Runs.{Happening, IsRunOf, arrived, dropped, run};

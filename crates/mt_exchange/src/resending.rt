@@ -2,7 +2,7 @@
 
 ghost use Rattle.std.specs.Prelude.{◌≡◌, ◌++◌, ◌∷◌, [], List, ℕ, IfOk, OnOk, OnErr, map, filter, None};
 ghost use Rattle.std.specs.List.{flat_map};
-ghost use Rattle.mt_model.specs.declared.config.SessionRow.{SessionRow};
+ghost use Rattle.mt_model.specs.declared.texts.config.SessionRow.{SessionRow};
 ghost use Rattle.mt_exchange.specs.Resending.{closes as closes_at, behind_step as behind_step_at, due_again as due_again_of, end_in as end_from, end_of as end_of_one, end_times as end_times_of, end_with as end_with_one, ended_by, ended_of as ended_of_one, is_due as is_due_at, is_spent as is_spent_at, resent as resent_at, sent_again as sent_again_at, wait_after as wait_of};
 ghost use Rattle.mt_exchange.specs.Runs.{Happening, IsRunOf, resend_step, run};
 

@@ -1,8 +1,8 @@
 //! What is sent: answers to messages, and reports of subscriptions.
 
 ghost use Rattle.std.specs.Prelude.{◌≡◌, ◌≢◌, ◌++◌, ◌∷◌, ◌+◌, ◌%◌, [], List, ℕ, true, false, IfOk, IfErr, OnOk, OnErr, Some, None, Ok, Err};
-ghost use Rattle.mt_model.specs.declared.config.SessionRow.{SessionRow};
-ghost use Rattle.mt_model.specs.declared.message.Payload.{Payload};
+ghost use Rattle.mt_model.specs.declared.texts.config.SessionRow.{SessionRow};
+ghost use Rattle.mt_model.specs.declared.messages.message.Payload.{Payload};
 ghost use Rattle.mt_session.specs.declared.fault.SealFault.TheVariants.{Exhausted, TooLong, Memory};
 ghost use Rattle.mt_session.specs.Opening.{Arrival};
 ghost use Rattle.mt_session.specs.Sessions.{Message, StandsFor};

@@ -1,8 +1,8 @@
 -- The least index that no fabric has, and the place of a fabric that gets it.
 use Rattle.std.proofs.Common.{◌≡◌, ℕ, zero, suc, ◌+◌, ◌<◌, ◌≤◌, inl, inr, ◌==◌, nat_lt, true, false, List, [], ◌∷◌, length, refl, ap, sym, subst, ◌∙◌, insert, arith, eq-eqb, eqb-true, le-ltb, lt-ltb, ne_eqb}
 use Rattle.std.proofs.lemmas.Bool.{cases_Bool, cases_eq, cond-true, cond-false, eqb-false, or_from, or_left, or_right}
-use Rattle.mt_model.specs.Order.{rise_above}
-use Rattle.mt_model.specs.declared.fabric.Fabric.{Fabric}
+use Rattle.mt_model.specs.rows.Order.{rise_above}
+use Rattle.mt_model.specs.declared.tables.fabric.Fabric.{Fabric}
 use Rattle.mt_fabrics.proofs.Places.{head_above, low_unused, tail_rises}
 use Rattle.mt_fabrics.specs.Table.{IsLeastUnused, IsTable, is_used, least_unused, placed, unused_from}
 

@@ -3,8 +3,8 @@ use Rattle.std.proofs.Common.{◌≡◌, ℕ, zero, suc, ◌<◌, ◌≤◌, ◌
 use Rattle.std.proofs.lemmas.Bool.{and_parts, cond-true, cond-false, not_from_false, not_from_true, or_from}
 use Rattle.std.proofs.lemmas.List.{get_or_read}
 use Rattle.std.proofs.lemmas.List.Folds.{list_any_at}
-use Rattle.mt_model.specs.Order.{fabrics_ascend, rise_above}
-use Rattle.mt_model.specs.declared.fabric.Fabric.{Fabric}
+use Rattle.mt_model.specs.rows.Order.{fabrics_ascend, rise_above}
+use Rattle.mt_model.specs.declared.tables.fabric.Fabric.{Fabric}
 use Rattle.mt_fabrics.specs.Places.{IsAt}
 use Rattle.mt_fabrics.specs.Table.{changed, has_index, has_other_index, is_used, removed}
 

@@ -3,13 +3,13 @@ use Rattle.std.proofs.Common.{◌≡◌, ℕ, ◌+◌, ◌<◌, ◌≤◌, inl, 
 use Rattle.std.proofs.lemmas.Bool.{and_from, and_parts, both_ways, cases_Bool, cond-true, cond-false, eqb-false, false_from_ne_true, false≢true, not-true, not_from_false, or_from, or_parts}
 use Rattle.std.proofs.lemmas.Slice.Eq.{bytes_eq-Decides}
 use Rattle.std.specs.List.{list_all, list_any}
-use Rattle.mt_model.specs.Config.{have_one_identity, have_one_label, none_alike}
-use Rattle.mt_model.specs.Order.{rise_above}
-use Rattle.mt_model.specs.declared.fabric.Credentials.{Credentials}
-use Rattle.mt_model.specs.declared.fabric.Fabric.{Fabric}
+use Rattle.mt_model.specs.texts.Config.{have_one_identity, have_one_label, none_alike, has_identity}
+use Rattle.mt_model.specs.rows.Order.{rise_above}
+use Rattle.mt_model.specs.declared.tables.fabric.Credentials.{Credentials}
+use Rattle.mt_model.specs.declared.tables.fabric.Fabric.{Fabric}
 use Rattle.mt_fabrics.proofs.Gaps.{is_least, unused_from-within}
 use Rattle.mt_fabrics.proofs.Places.{head_above, low_changed, tail_rises}
-use Rattle.mt_fabrics.specs.Table.{IsTable, added, changed, changed_at, has_identity, has_index, has_index_up_to, has_label, has_other_index, has_others_identity, has_others_label, is_used, labelled, least_unused, placed, removed, updated, with_credentials, with_index, with_label}
+use Rattle.mt_fabrics.specs.Table.{IsTable, added, changed, changed_at, has_index, has_index_up_to, has_label, has_other_index, has_others_identity, has_others_label, is_used, labelled, least_unused, placed, removed, updated, with_credentials, with_index, with_label}
 
 -- Tests on fabrics.
 

@@ -1,6 +1,6 @@
 -- Fabrics, looked at one by one.
 use Rattle.std.proofs.Common.{◌≡◌, ℕ, suc, ◌+◌, ◌<◌, ◌==◌, ◌||◌, cond, List, ◌∷◌, length, drop, get_or, sym, ap, ◌∙◌, add-one, drop-cons}
-use Rattle.mt_model.specs.declared.fabric.Fabric.{Fabric}
+use Rattle.mt_model.specs.declared.tables.fabric.Fabric.{Fabric}
 use Rattle.mt_fabrics.specs.Table.{is_used, unused_from}
 
 -- what is left from a fabric on

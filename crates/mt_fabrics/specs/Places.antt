@@ -1,6 +1,6 @@
 -- Where the fabric with an index stands in the table, and what follows for what is found and changed there.
 use Rattle.std.specs.Prelude.{◌≡◌, ℕ, ◌<◌, true, false, List, length, get_or, slice_set, find, remove, Option, Some, None}
-use Rattle.mt_model.specs.declared.fabric.Fabric.{Fabric}
+use Rattle.mt_model.specs.declared.tables.fabric.Fabric.{Fabric}
 use Rattle.mt_fabrics.specs.Table.{changed, has_index, is_used, removed}
 
 -- The fabric with this index stands at this place.

@@ -2,10 +2,10 @@
 -- what each call refuses.
 use Rattle.std.specs.Prelude.{◌≡◌, ℕ, ◌+◌, ◌<◌, ◌≤◌, ◌==◌, ◌&&◌, nat_le, nat_lt, not, Bool, true, false, List, [], ◌∷◌, length, map, filter, find, bytes_eq, Option, Some, None, option_map, if◌then◌else◌}
 use Rattle.std.specs.List.{list_all, list_any}
-use Rattle.mt_model.specs.Config.{have_one_identity, have_one_label, none_alike}
-use Rattle.mt_model.specs.Order.{fabrics_ascend}
-use Rattle.mt_model.specs.declared.fabric.Credentials.{Credentials}
-use Rattle.mt_model.specs.declared.fabric.Fabric.{Fabric}
+use Rattle.mt_model.specs.texts.Config.{have_one_identity, have_one_label, none_alike}
+use Rattle.mt_model.specs.rows.Order.{fabrics_ascend}
+use Rattle.mt_model.specs.declared.tables.fabric.Credentials.{Credentials}
+use Rattle.mt_model.specs.declared.tables.fabric.Fabric.{Fabric}
 use Rattle.mt_fabrics.specs.declared.fault.FabricFault.{FabricFault}
 use Rattle.mt_fabrics.specs.declared.fault.FabricFault.TheVariants.{NoIndex, Conflict, LabelConflict, TableFull, Memory}
 
@@ -45,10 +45,6 @@ pub record IsLeastUnused (index : ℕ) (fabrics : List Fabric) : Type 0 where
   pub least : (lower : ℕ) → 1 ≤ lower → lower < index → is_used lower fabrics ≡ true
 
 -- Identities and labels.
-
--- the identity of a fabric: the public key of its root, and its id
-abbrev pub has_identity : List ℕ → ℕ → Fabric → Bool
-has_identity root_key fabric_id fabric = bytes_eq fabric.credentials.root_key root_key && (fabric.credentials.fabric_id == fabric_id)
 
 -- an empty label is nobody's
 abbrev pub has_label : List ℕ → Fabric → Bool

@@ -1,7 +1,7 @@
 //! What a call changes in the table. Nothing here asks whether it may.
 
 ghost use Rattle.std.specs.Prelude.{◌≡◌, ◌+◌, ◌≤◌, true, Some, OnErr, OnOk, find, vec_len};
-ghost use Rattle.mt_model.specs.Order.{fabrics_ascend};
+ghost use Rattle.mt_model.specs.rows.Order.{fabrics_ascend};
 ghost use Rattle.mt_fabrics.specs.Places.{IsAt};
 ghost use Rattle.mt_fabrics.specs.Table.{credentials_at, has_index, labelled, least_unused, placed, removed, updated};
 

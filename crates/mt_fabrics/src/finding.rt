@@ -2,9 +2,10 @@
 
 ghost use Rattle.std.specs.Prelude.{◌≡◌, ◌+◌, ◌<◌, ◌≤◌, true, bytes_eq, length};
 ghost use Rattle.std.specs.List.{list_any};
-ghost use Rattle.mt_model.specs.Order.{fabrics_ascend};
+ghost use Rattle.mt_model.specs.rows.Order.{fabrics_ascend};
 ghost use Rattle.mt_fabrics.specs.Places.{IsPlace};
-ghost use Rattle.mt_fabrics.specs.Table.{has_identity, has_label, has_others_identity, has_others_label, index_by, least_unused};
+ghost use Rattle.mt_fabrics.specs.Table.{has_label, has_others_identity, has_others_label, index_by, least_unused};
+ghost use Rattle.mt_model.specs.texts.Config.{has_identity};
 
 use mt_model::{Credentials, Fabric};
 
@@ -45,7 +46,7 @@ pub(crate) fn index_by(fabrics: &[Fabric], root_key: &[u8], fabric_id: u64) -> O
     ensures { result ≡ index_by root_key.now fabric_id fabrics.now }
 {
     for fabric in fabrics {
-        if has_identity(root_key, fabric_id, fabric) {
+        if fabric.has_identity(root_key, fabric_id) {
             return Some(fabric.index);
         }
     }
@@ -95,14 +96,7 @@ fn has_others_identity(index: u8, given: &Credentials, fabric: &Fabric) -> bool
 fn has_given_identity(given: &Credentials, fabric: &Fabric) -> bool
     ensures { result ≡ has_identity given.now.root_key given.now.fabric_id fabric.now }
 {
-    has_identity(given.root_key.as_slice(), given.fabric_id, fabric)
-}
-
-fn has_identity(root_key: &[u8], fabric_id: u64, fabric: &Fabric) -> bool
-    ensures { result ≡ has_identity root_key.now fabric_id fabric.now }
-{
-    is_same(fabric.credentials.root_key.as_slice(), root_key)
-        && fabric.credentials.fabric_id == fabric_id
+    fabric.has_identity(given.root_key.as_slice(), given.fabric_id)
 }
 
 fn has_others_label(index: u8, label: &[u8], fabric: &Fabric) -> bool

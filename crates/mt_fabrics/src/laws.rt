@@ -2,8 +2,8 @@
 //! function that does nothing.
 
 ghost use Rattle.std.specs.Prelude.{◌≡◌, ℕ, None, List};
-ghost use Rattle.mt_model.specs.declared.fabric.Credentials.{Credentials};
-ghost use Rattle.mt_model.specs.declared.fabric.Fabric.{Fabric};
+ghost use Rattle.mt_model.specs.declared.tables.fabric.Credentials.{Credentials};
+ghost use Rattle.mt_model.specs.declared.tables.fabric.Fabric.{Fabric};
 ghost use Rattle.mt_fabrics.specs.Table.{IsLeastUnused, IsTable, add_refusal, added, label_refusal, labelled, least_unused, removed, update_refusal, updated};
 
 /// In a table no fabric has the index that the next one gets, and each lower index from 1 is a fabric's.

@@ -26,7 +26,7 @@ pub struct FabricTable {
 
 impl Model for FabricTable {
     ghost use Rattle.std.specs.Prelude.{List};
-    ghost use Rattle.mt_model.specs.declared.fabric.Fabric.{Fabric};
+    ghost use Rattle.mt_model.specs.declared.tables.fabric.Fabric.{Fabric};
     ghost use Rattle.mt_fabrics.specs.Table.{IsTable};
 
     ghost Value = { List Fabric };

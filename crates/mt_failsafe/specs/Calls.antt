@@ -1,12 +1,12 @@
 -- What arming, renewing, completing and expiring answer, and what they make of the fail-safe (Matter Core Specification,
 -- chapter 11, General Commissioning Cluster). None stands for one that is not armed.
 use Rattle.std.specs.Prelude.{ℕ, ◌+◌, ◌*◌, ◌==◌, ◌&&◌, min, Bool, true, false, List, Option, Some, None, Result, Ok, Err, if◌then◌else◌}
-use Rattle.mt_model.specs.declared.access.Actor.{Actor}
-use Rattle.mt_model.specs.declared.access.Auth.{Auth}
-use Rattle.mt_model.specs.declared.access.Auth.TheVariants as auths
-use Rattle.mt_model.specs.declared.fabric.Credentials.{Credentials}
-use Rattle.mt_model.specs.declared.network.Armed.{Armed}
-use Rattle.mt_model.specs.declared.network.Network.{Network}
+use Rattle.mt_model.specs.declared.tables.access.Actor.{Actor}
+use Rattle.mt_model.specs.declared.tables.access.Auth.{Auth}
+use Rattle.mt_model.specs.declared.tables.access.Auth.TheVariants as auths
+use Rattle.mt_model.specs.declared.tables.fabric.Credentials.{Credentials}
+use Rattle.mt_model.specs.declared.tables.network.Armed.{Armed}
+use Rattle.mt_model.specs.declared.tables.network.Network.{Network}
 use Rattle.mt_failsafe.specs.declared.fault.Busy.{Busy}
 use Rattle.mt_failsafe.specs.declared.fault.FailsafeFault.{FailsafeFault}
 use Rattle.mt_failsafe.specs.declared.fault.FailsafeFault.TheVariants as faults

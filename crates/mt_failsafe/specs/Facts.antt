@@ -2,8 +2,8 @@
 -- updated is owner and context; where nothing was added the context is the owner; credentials are saved exactly where
 -- there was an update.
 use Rattle.std.specs.Prelude.{ℕ, ◌==◌, ◌&&◌, not, Bool, true, false, Option, Some, None}
-use Rattle.mt_model.specs.declared.fabric.Credentials.{Credentials}
-use Rattle.mt_model.specs.declared.network.Armed.{Armed}
+use Rattle.mt_model.specs.declared.tables.fabric.Credentials.{Credentials}
+use Rattle.mt_model.specs.declared.tables.network.Armed.{Armed}
 
 abbrev pub is_added : Armed → Option ℕ → Bool
 is_added armed None = armed.context == armed.owner

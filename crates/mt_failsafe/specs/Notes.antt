@@ -1,8 +1,8 @@
 -- What the commands of commissioning note in an armed fail-safe, and when they may (Matter Core Specification, chapter 11,
 -- Operational Credentials Cluster).
 use Rattle.std.specs.Prelude.{ℕ, ◌==◌, ◌&&◌, ◌||◌, not, is_none, is_some, Bool, true, false, List, Option, Some, None, if◌then◌else◌}
-use Rattle.mt_model.specs.declared.fabric.Credentials.{Credentials}
-use Rattle.mt_model.specs.declared.network.Armed.{Armed}
+use Rattle.mt_model.specs.declared.tables.fabric.Credentials.{Credentials}
+use Rattle.mt_model.specs.declared.tables.network.Armed.{Armed}
 
 -- no fabric was added since it was armed, and none updated
 abbrev pub is_unused : Armed → Bool

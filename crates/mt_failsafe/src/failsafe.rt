@@ -25,7 +25,7 @@ pub struct Failsafe {
 
 impl Model for Failsafe {
     ghost use Rattle.std.specs.Prelude.{IsTrue, Option};
-    ghost use Rattle.mt_model.specs.declared.network.Armed.{Armed};
+    ghost use Rattle.mt_model.specs.declared.tables.network.Armed.{Armed};
     ghost use Rattle.mt_failsafe.specs.Facts.{keeps_facts};
 
     ghost Value = { Option Armed };

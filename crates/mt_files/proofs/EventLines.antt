@@ -12,11 +12,11 @@ use Rattle.hex.specs.Hex.{encode_lower}
 use Rattle.mt_outside.specs.declared.fate.Fate.{Fate}
 use Rattle.mt_outside.specs.declared.fate.Fate.TheVariants.{Kept, Lost, Torn}
 use Rattle.mt_model.specs.declared.limits.TheConstants.{LAST_TIME, LINE_BYTES, PAYLOAD_BYTES, RECEIVED_BYTES, RECORDING_BYTES, RECORDING_LINES}
-use Rattle.mt_model.specs.declared.recording.Event.{Event}
-use Rattle.mt_model.specs.declared.recording.Event.TheVariants.{Ask, Datagram, Tick, Report, Resend, Stop}
-use Rattle.mt_model.specs.declared.recording.Sent.{Sent}
-use Rattle.mt_model.specs.declared.recording.To.{To}
-use Rattle.mt_model.specs.declared.recording.To.TheVariants.{Plain, Session}
+use Rattle.mt_model.specs.declared.texts.recording.Event.{Event}
+use Rattle.mt_model.specs.declared.texts.recording.Event.TheVariants.{Ask, Datagram, Tick, Report, Resend, Stop}
+use Rattle.mt_model.specs.declared.texts.recording.Sent.{Sent}
+use Rattle.mt_model.specs.declared.texts.recording.To.{To}
+use Rattle.mt_model.specs.declared.texts.recording.To.TheVariants.{Plain, Session}
 use Rattle.mt_files.specs.declared.event.TheConstants.{LAST_CALLS, LAST_FABRIC}
 use Rattle.mt_files.specs.declared.line_fault.LineKind.{LineKind}
 use Rattle.mt_files.specs.declared.line_fault.LineKind.TheVariants.{Hex}
@@ -25,7 +25,7 @@ use Rattle.mt_files.specs.Field.{fate_text}
 use Rattle.mt_files.specs.Form.{HasForm, IsEvent, IsSent, IsTo}
 use Rattle.mt_files.specs.Lines.{lines_of, parts_of}
 use Rattle.mt_files.specs.Output.{fields_to, sent_line, IsOutput}
-use Rattle.mt_model.specs.Events.{event_time}
+use Rattle.mt_model.specs.texts.Events.{event_time}
 use Rattle.mt_files.specs.Recording.{head, recording_of, recording_text}
 use Rattle.mt_files.specs.Subject.{cat_text}
 use Rattle.mt_files.proofs.ReadAgain.{fate_in-fate_text, Lacks-fate_text, Lacks-payload_text, Lacks-peer_text, Lacks-subject_text, length-cats, length-encode, length-payload_text, opcode_in-encode, payload_in-payload_text, peer_in-peer_text, subject_in-subject_text}

@@ -16,7 +16,7 @@ use Rattle.hex.proofs.HexLemmas.{decode_of-encode_lower, decode_sized-encode_low
 use Rattle.mt_outside.specs.declared.fate.Fate.{Fate}
 use Rattle.mt_outside.specs.declared.fate.Fate.TheVariants.{Kept, Lost, Torn}
 use Rattle.mt_outside.specs.declared.network.Peer.{Peer}
-use Rattle.mt_model.specs.declared.recording.Event.{Event}
+use Rattle.mt_model.specs.declared.texts.recording.Event.{Event}
 use Rattle.mt_files.specs.declared.line_fault.LineKind.{LineKind}
 use Rattle.mt_files.specs.Field.{bytes_in, fate_in, fate_text, first_byte, ok_of, opcode_in, payload_in, payload_text, peer_in, peer_of, peer_text, port_in}
 use Rattle.mt_files.specs.Form.{AreCats, IsPeer}

@@ -8,7 +8,7 @@ use Rattle.std.specs.Option.{option_map_or}
 use Rattle.std.proofs.lemmas.Bool.{le-ltb, ltb-false}
 use Rattle.std.proofs.lemmas.List.Elements.{All-nil, All-cons, All-head, All-tail}
 use Rattle.mt_model.specs.declared.limits.TheConstants.{LINE_BYTES, RECORDING_BYTES, RECORDING_LINES}
-use Rattle.mt_model.specs.declared.recording.Event.{Event}
+use Rattle.mt_model.specs.declared.texts.recording.Event.{Event}
 use Rattle.mt_files.specs.declared.line_fault.LineFault.{LineFault}
 use Rattle.mt_files.specs.declared.line_fault.LineFault.TheVariants.{Line, TooLong}
 use Rattle.mt_files.specs.declared.line_fault.LineKind.{LineKind}
@@ -16,7 +16,7 @@ use Rattle.mt_files.specs.declared.line_fault.LineKind.TheVariants.{Head, Time}
 use Rattle.mt_files.specs.Event.{line_event}
 use Rattle.mt_files.specs.Form.{HasForm}
 use Rattle.mt_files.specs.Lines.{lines_of, text_is}
-use Rattle.mt_model.specs.Events.{event_time}
+use Rattle.mt_model.specs.texts.Events.{event_time}
 use Rattle.mt_files.specs.Recording.{at_line, events_behind_head, events_from, followed, head, in_time, line_told, onto, recording_of, time_at, IsRecording}
 use Rattle.mt_files.proofs.Shapes.{line_event-form}
 

@@ -2,9 +2,9 @@
 use Rattle.std.specs.Prelude.{◌≡◌, ℕ, List, [], ◌∷◌, codes, map}
 use Rattle.std.specs.Fmt.{decimal}
 use Rattle.hex.specs.Hex.{encode_lower}
-use Rattle.mt_model.specs.declared.recording.Sent.{Sent}
-use Rattle.mt_model.specs.declared.recording.To.{To}
-use Rattle.mt_model.specs.declared.recording.To.TheVariants.{Plain, Session}
+use Rattle.mt_model.specs.declared.texts.recording.Sent.{Sent}
+use Rattle.mt_model.specs.declared.texts.recording.To.{To}
+use Rattle.mt_model.specs.declared.texts.recording.To.TheVariants.{Plain, Session}
 use Rattle.mt_files.specs.Field.{payload_text, peer_text}
 use Rattle.mt_files.specs.Lines.{line_of, text_of}
 

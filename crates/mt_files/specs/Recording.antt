@@ -4,8 +4,8 @@ use Rattle.std.specs.List.{filter_map}
 use Rattle.std.specs.List.Sorted.{IsNonDecreasing}
 use Rattle.std.specs.Option.{option_map_or}
 use Rattle.mt_model.specs.declared.limits.TheConstants.{LINE_BYTES, RECORDING_BYTES, RECORDING_LINES}
-use Rattle.mt_model.specs.Events.{event_time}
-use Rattle.mt_model.specs.declared.recording.Event.{Event}
+use Rattle.mt_model.specs.texts.Events.{event_time}
+use Rattle.mt_model.specs.declared.texts.recording.Event.{Event}
 use Rattle.mt_files.specs.declared.line_fault.LineFault.{LineFault}
 use Rattle.mt_files.specs.declared.line_fault.LineFault.TheVariants.{Line, TooLong}
 use Rattle.mt_files.specs.declared.line_fault.LineKind.{LineKind}

@@ -5,14 +5,14 @@ ghost use Rattle.std.specs.Prelude.{◌≡◌, ◌≢◌, ◌≤◌, ◌<◌, �
 ghost use Rattle.std.specs.List.{filter_map};
 ghost use Rattle.std.specs.List.Sorted.{IsNonDecreasing};
 ghost use Rattle.mt_model.specs.declared.limits.TheConstants.{RECORDING_BYTES, RECORDING_LINES};
-ghost use Rattle.mt_model.specs.declared.recording.Event.{Event};
-ghost use Rattle.mt_model.specs.declared.recording.Sent.{Sent};
+ghost use Rattle.mt_model.specs.declared.texts.recording.Event.{Event};
+ghost use Rattle.mt_model.specs.declared.texts.recording.Sent.{Sent};
 ghost use Rattle.mt_files.specs.Event.{event_line};
 ghost use Rattle.mt_files.specs.Field.{number_of};
 ghost use Rattle.mt_files.specs.Form.{HasForm, IsEvent, IsSent};
 ghost use Rattle.mt_files.specs.Lines.{lines_of};
 ghost use Rattle.mt_files.specs.Output.{IsOutput, sent_line};
-ghost use Rattle.mt_model.specs.Events.{event_time};
+ghost use Rattle.mt_model.specs.texts.Events.{event_time};
 ghost use Rattle.mt_files.specs.Recording.{IsRecording, recording_of, recording_text};
 
 /// The texts that are read are the recordings: the head, then a line for each event, within the

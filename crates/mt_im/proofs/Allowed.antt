@@ -9,15 +9,15 @@ use Rattle.mt_tlv.specs.declared.reading.Kind.TheVariants as containers
 use Rattle.mt_tlv.specs.Limits.{is_same_tag, is_tag_in, IsAllowed, AreAllowed, deepest}
 use Rattle.mt_tlv.specs.Tree.{Tree, uint, bool, structure, array, Elements, none, more}
 use Rattle.mt_tlv.specs.View.{tree}
-use Rattle.mt_model.specs.Blocks.{optional_number, index_field, path_tree, event_path_tree}
-use Rattle.mt_model.specs.declared.message.Index.{Index}
-use Rattle.mt_model.specs.declared.message.Index.TheVariants.{Whole, Append, At}
-use Rattle.mt_model.specs.declared.message.Path.{Path}
-use Rattle.mt_model.specs.declared.message.Request.{Request}
-use Rattle.mt_model.specs.declared.message.Request.TheVariants as requests
-use Rattle.mt_model.specs.declared.message.WriteItem.{WriteItem}
-use Rattle.mt_model.specs.declared.place.Place.{Place}
-use Rattle.mt_model.specs.declared.state.Version.{Version}
+use Rattle.mt_model.specs.messages.Blocks.{optional_number, index_field, path_tree, event_path_tree}
+use Rattle.mt_model.specs.declared.messages.message.Index.{Index}
+use Rattle.mt_model.specs.declared.messages.message.Index.TheVariants.{Whole, Append, At}
+use Rattle.mt_model.specs.declared.messages.message.Path.{Path}
+use Rattle.mt_model.specs.declared.messages.message.Request.{Request}
+use Rattle.mt_model.specs.declared.messages.message.Request.TheVariants as requests
+use Rattle.mt_model.specs.declared.messages.message.WriteItem.{WriteItem}
+use Rattle.mt_model.specs.declared.rows.place.Place.{Place}
+use Rattle.mt_model.specs.declared.node.state.Version.{Version}
 use Rattle.mt_im.specs.Requests.{revision, blocks, optional_blocks, event_filter_tree, event_filters, cluster_path_tree, version_filter_tree, write_tree, command_path_tree, command_tree, request_fields, request_tree}
 use Rattle.mt_im.specs.Limits.{IsIndex, IsPath, IsEventPath, IsVersion, IsWriteItem, IsCommand, Fits, room_inside}
 use Rattle.mt_im.proofs.Written.{filters_fit}

@@ -4,13 +4,14 @@ use Rattle.mt_tlv.specs.declared.value.Value.{Value}
 use Rattle.mt_tlv.specs.declared.value.Value.TheVariants as values
 use Rattle.mt_tlv.specs.Tree.{Tree, int, uint, bool, text, octets, null, bits32, bits64, structure, array, list, Elements, none}
 use Rattle.mt_tlv.specs.View.{tree}
-use Rattle.mt_model.specs.declared.message.Index.{Index}
-use Rattle.mt_model.specs.declared.message.Index.TheVariants.{Whole, Append, At}
-use Rattle.mt_model.specs.declared.message.Path.{Path}
-use Rattle.mt_model.specs.declared.message.WriteItem.{WriteItem}
-use Rattle.mt_model.specs.declared.place.Place.{Place}
-use Rattle.mt_model.specs.declared.state.Version.{Version}
-use Rattle.mt_im.specs.Blocks.{◌>>=◌, value_of, field_of, number_in, unsigned_in, structure_in, list_in, required_at, number_at, optional_number_at, optional_truth_at, not_true, index_in, index_at, attribute_path_in, event_path_in, event_filter_in, version_in, version_filter_in, is_concrete, concrete_path_in, write_item_in, command_path_in, arguments_in, command_data_in}
+use Rattle.mt_model.specs.declared.messages.message.Index.{Index}
+use Rattle.mt_model.specs.declared.messages.message.Index.TheVariants.{Whole, Append, At}
+use Rattle.mt_model.specs.declared.messages.message.Path.{Path}
+use Rattle.mt_model.specs.declared.messages.message.WriteItem.{WriteItem}
+use Rattle.mt_model.specs.declared.rows.place.Place.{Place}
+use Rattle.mt_model.specs.declared.node.state.Version.{Version}
+use Rattle.mt_im.specs.Blocks.{◌>>=◌, field_of, number_in, unsigned_in, structure_in, list_in, required_at, number_at, optional_number_at, optional_truth_at, not_true, index_in, index_at, attribute_path_in, event_path_in, event_filter_in, version_in, version_filter_in, is_concrete, concrete_path_in, write_item_in, command_path_in, arguments_in, command_data_in}
+use Rattle.mt_model.specs.Trees.{value_of}
 use Rattle.mt_im.specs.Fields.{HasNo, HasField}
 use Rattle.mt_im.specs.Spelling.{IndexSpells, AttributePathSpells, EventPathSpells, EventFilterSpells, ClusterPathSpells, VersionFilterSpells, IsConcrete, AttributeDataSpells, CommandPathSpells, CommandDataSpells}
 use Rattle.mt_im.proofs.FieldLaws.{bind_some, field_found, field_missing, field_only, field_none, number_found, number_only, list_found, structure_found, Ties, required_found, has_number_at, number_read_at, has_unsigned, may_have_number, optional_number_read, must_be_false, optional_truth_read}

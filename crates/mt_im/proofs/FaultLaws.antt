@@ -2,7 +2,7 @@
 use Rattle.std.proofs.Common.{◌≡◌, ◌≢◌, subst, ℕ, ◌+◌, nat_le, Bool, true, false, List, [], ◌∷◌, Option, Some, None, is_some, Result, Ok, Err, IfErr, if◌then◌else◌}
 use Rattle.mt_tlv.specs.declared.fault.TlvFault.TheVariants as tlv
 use Rattle.mt_tlv.specs.Tree.{Elements}
-use Rattle.mt_model.specs.declared.message.Request.{Request}
+use Rattle.mt_model.specs.declared.messages.message.Request.{Request}
 use Rattle.mt_im.specs.declared.fault.ImFault.{ImFault}
 use Rattle.mt_im.specs.declared.fault.ImFault.TheVariants.{Tlv, Missing, TooManyPaths, Memory}
 use Rattle.mt_im.specs.declared.messages.Kind.{Kind}

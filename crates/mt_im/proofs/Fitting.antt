@@ -8,14 +8,14 @@ use Rattle.mt_tlv.specs.declared.reading.Kind.TheVariants as containers
 use Rattle.mt_tlv.specs.Limits.{IsAllowed, AreAllowed, deepest}
 use Rattle.mt_tlv.specs.Tree.{Tree, uint, structure, array, Elements, none, more}
 use Rattle.mt_tlv.specs.View.{tree}
-use Rattle.mt_model.specs.declared.message.Index.{Index}
-use Rattle.mt_model.specs.declared.message.Index.TheVariants.{Whole, Append, At}
-use Rattle.mt_model.specs.declared.message.Path.{Path}
-use Rattle.mt_model.specs.declared.message.Request.{Request}
-use Rattle.mt_model.specs.declared.message.Request.TheVariants as requests
-use Rattle.mt_model.specs.declared.message.WriteItem.{WriteItem}
-use Rattle.mt_model.specs.declared.place.Place.{Place}
-use Rattle.mt_model.specs.declared.state.Version.{Version}
+use Rattle.mt_model.specs.declared.messages.message.Index.{Index}
+use Rattle.mt_model.specs.declared.messages.message.Index.TheVariants.{Whole, Append, At}
+use Rattle.mt_model.specs.declared.messages.message.Path.{Path}
+use Rattle.mt_model.specs.declared.messages.message.Request.{Request}
+use Rattle.mt_model.specs.declared.messages.message.Request.TheVariants as requests
+use Rattle.mt_model.specs.declared.messages.message.WriteItem.{WriteItem}
+use Rattle.mt_model.specs.declared.rows.place.Place.{Place}
+use Rattle.mt_model.specs.declared.node.state.Version.{Version}
 use Rattle.mt_im.specs.Fields.{greatest, HasNo, HasField, MayHaveNumber, AreBlocks, HasBlocks, MayHaveBlocks}
 use Rattle.mt_im.specs.Spelling.{IndexSpells, AttributePathSpells, EventPathSpells, EventFilterSpells, VersionFilterSpells, AttributeDataSpells, CommandDataSpells, FieldsSpell, RequestSpells}
 use Rattle.mt_im.specs.Limits.{IsIndex, IsPath, IsEventPath, IsVersion, IsWriteItem, IsCommand, IsSelection, Fits, room_inside}

@@ -4,12 +4,12 @@ use Rattle.std.proofs.lemmas.Bool.{leb-true, le-leb}
 use Rattle.mt_tlv.specs.Tree.{Tree, uint, bool, array, Elements, none, more}
 use Rattle.mt_tlv.specs.declared.value.Value.{Value}
 use Rattle.mt_model.specs.declared.limits.TheConstants.{PATHS, WRITE_ITEMS}
-use Rattle.mt_model.specs.declared.message.Path.{Path}
-use Rattle.mt_model.specs.declared.message.Request.{Request}
-use Rattle.mt_model.specs.declared.message.Request.TheVariants as requests
-use Rattle.mt_model.specs.declared.message.WriteItem.{WriteItem}
-use Rattle.mt_model.specs.declared.place.Place.{Place}
-use Rattle.mt_model.specs.declared.state.Version.{Version}
+use Rattle.mt_model.specs.declared.messages.message.Path.{Path}
+use Rattle.mt_model.specs.declared.messages.message.Request.{Request}
+use Rattle.mt_model.specs.declared.messages.message.Request.TheVariants as requests
+use Rattle.mt_model.specs.declared.messages.message.WriteItem.{WriteItem}
+use Rattle.mt_model.specs.declared.rows.place.Place.{Place}
+use Rattle.mt_model.specs.declared.node.state.Version.{Version}
 use Rattle.mt_im.specs.declared.fault.ImFault.{ImFault}
 use Rattle.mt_im.specs.declared.fault.ImFault.TheVariants.{TooManyPaths}
 use Rattle.mt_im.specs.declared.messages.Selection.{Selection}

@@ -6,8 +6,8 @@ use Rattle.mt_tlv.specs.declared.value.Tag.TheVariants.{Anonymous}
 use Rattle.mt_tlv.specs.Limits.{IsElement}
 use Rattle.mt_tlv.specs.Reading.{element_at}
 use Rattle.mt_tlv.specs.Tree.{Tree, uint, structure, Elements}
-use Rattle.mt_model.specs.declared.message.Request.{Request}
-use Rattle.mt_model.specs.declared.message.Request.TheVariants as requests
+use Rattle.mt_model.specs.declared.messages.message.Request.{Request}
+use Rattle.mt_model.specs.declared.messages.message.Request.TheVariants as requests
 use Rattle.mt_im.specs.declared.fault.ImFault.{ImFault}
 use Rattle.mt_im.specs.declared.messages.Kind.{Kind}
 use Rattle.mt_im.specs.declared.messages.Kind.TheVariants as kinds

@@ -6,15 +6,15 @@ use Rattle.mt_tlv.specs.declared.value.Tag.TheVariants.{Anonymous, Context}
 use Rattle.mt_tlv.specs.declared.value.Value.{Value}
 use Rattle.mt_tlv.specs.Tree.{Tree, uint, bool, null, array, Elements, none, more}
 use Rattle.mt_tlv.specs.View.{tree}
-use Rattle.mt_model.specs.Blocks.{optional_number, index_field, path_tree, event_path_tree}
-use Rattle.mt_model.specs.declared.message.Index.{Index}
-use Rattle.mt_model.specs.declared.message.Index.TheVariants.{Whole, Append, At}
-use Rattle.mt_model.specs.declared.message.Path.{Path}
-use Rattle.mt_model.specs.declared.message.Request.{Request}
-use Rattle.mt_model.specs.declared.message.Request.TheVariants as requests
-use Rattle.mt_model.specs.declared.message.WriteItem.{WriteItem}
-use Rattle.mt_model.specs.declared.place.Place.{Place}
-use Rattle.mt_model.specs.declared.state.Version.{Version}
+use Rattle.mt_model.specs.messages.Blocks.{optional_number, index_field, path_tree, event_path_tree}
+use Rattle.mt_model.specs.declared.messages.message.Index.{Index}
+use Rattle.mt_model.specs.declared.messages.message.Index.TheVariants.{Whole, Append, At}
+use Rattle.mt_model.specs.declared.messages.message.Path.{Path}
+use Rattle.mt_model.specs.declared.messages.message.Request.{Request}
+use Rattle.mt_model.specs.declared.messages.message.Request.TheVariants as requests
+use Rattle.mt_model.specs.declared.messages.message.WriteItem.{WriteItem}
+use Rattle.mt_model.specs.declared.rows.place.Place.{Place}
+use Rattle.mt_model.specs.declared.node.state.Version.{Version}
 use Rattle.mt_im.specs.Fields.{greatest, HasNo, HasField, MayHaveNumber, MayHaveTruth, AreBlocks, MayHaveBlocks}
 use Rattle.mt_im.specs.Requests.{opcode_of, revision, blocks, optional_blocks, event_filter_tree, event_filters, cluster_path_tree, version_filter_tree, write_tree, command_path_tree, command_tree, request_fields, request_tree}
 use Rattle.mt_im.specs.Spelling.{IndexSpells, AttributePathSpells, EventPathSpells, EventFilterSpells, VersionFilterSpells, AttributeDataSpells, CommandDataSpells, FieldsSpell, RequestSpells}

@@ -5,31 +5,18 @@ use Rattle.mt_tlv.specs.declared.value.Tag.TheVariants.{Anonymous, Context, Comm
 use Rattle.mt_tlv.specs.declared.value.Value.{Value}
 use Rattle.mt_tlv.specs.declared.value.Value.TheVariants as values
 use Rattle.mt_tlv.specs.Tree.{Tree, int, uint, bool, text, octets, null, bits32, bits64, structure, array, list, Elements, none, more}
-use Rattle.mt_model.specs.declared.message.Index.{Index}
-use Rattle.mt_model.specs.declared.message.Index.TheVariants.{Whole, Append, At}
-use Rattle.mt_model.specs.declared.message.Path.{Path}
-use Rattle.mt_model.specs.declared.message.WriteItem.{WriteItem}
-use Rattle.mt_model.specs.declared.place.Place.{Place}
-use Rattle.mt_model.specs.declared.state.Version.{Version}
+use Rattle.mt_model.specs.Trees.{value_of}
+use Rattle.mt_model.specs.declared.messages.message.Index.{Index}
+use Rattle.mt_model.specs.declared.messages.message.Index.TheVariants.{Whole, Append, At}
+use Rattle.mt_model.specs.declared.messages.message.Path.{Path}
+use Rattle.mt_model.specs.declared.messages.message.WriteItem.{WriteItem}
+use Rattle.mt_model.specs.declared.rows.place.Place.{Place}
+use Rattle.mt_model.specs.declared.node.state.Version.{Version}
 
 infixl 10 ◌>>=◌
 abbrev pub ◌>>=◌ : {A B : Type 0} → Option A → (A → Option B) → Option B
 None >>= f = None
 (Some x) >>= f = f x
-
--- the value that has this tree
-abbrev pub value_of : Tree → Value
-value_of (int z) = values.Int z
-value_of (uint n) = values.Uint n
-value_of (bool b) = values.Bool b
-value_of (text s) = values.Text s
-value_of (octets s) = values.Octets s
-value_of null = values.Null
-value_of (bits32 n) = values.Bits32 n
-value_of (bits64 n) = values.Bits64 n
-value_of (structure es) = values.Struct es
-value_of (array es) = values.Array es
-value_of (list es) = values.List es
 
 -- ---- fields
 

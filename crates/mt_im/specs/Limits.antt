@@ -6,14 +6,14 @@ use Rattle.mt_tlv.specs.View.{tree}
 use Rattle.mt_tlv.specs.Narrow.{narrow}
 use Rattle.mt_tlv.specs.Limits.{IsAllowed, IsElement, longest}
 use Rattle.mt_model.specs.declared.limits.TheConstants.{PATHS, WRITE_ITEMS}
-use Rattle.mt_model.specs.declared.message.Index.{Index}
-use Rattle.mt_model.specs.declared.message.Index.TheVariants.{Whole, Append, At}
-use Rattle.mt_model.specs.declared.message.Path.{Path}
-use Rattle.mt_model.specs.declared.message.Request.{Request}
-use Rattle.mt_model.specs.declared.message.Request.TheVariants as requests
-use Rattle.mt_model.specs.declared.message.WriteItem.{WriteItem}
-use Rattle.mt_model.specs.declared.place.Place.{Place}
-use Rattle.mt_model.specs.declared.state.Version.{Version}
+use Rattle.mt_model.specs.declared.messages.message.Index.{Index}
+use Rattle.mt_model.specs.declared.messages.message.Index.TheVariants.{Whole, Append, At}
+use Rattle.mt_model.specs.declared.messages.message.Path.{Path}
+use Rattle.mt_model.specs.declared.messages.message.Request.{Request}
+use Rattle.mt_model.specs.declared.messages.message.Request.TheVariants as requests
+use Rattle.mt_model.specs.declared.messages.message.WriteItem.{WriteItem}
+use Rattle.mt_model.specs.declared.rows.place.Place.{Place}
+use Rattle.mt_model.specs.declared.node.state.Version.{Version}
 use Rattle.mt_im.specs.Requests.{request_tree}
 use Rattle.mt_im.specs.Spelling.{IsConcrete, RequestSpells}
 

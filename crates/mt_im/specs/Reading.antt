@@ -7,8 +7,8 @@ use Rattle.mt_tlv.specs.Limits.{is_anonymous}
 use Rattle.mt_tlv.specs.Reading.{element_at}
 use Rattle.mt_tlv.specs.Tree.{Tree, Elements}
 use Rattle.mt_model.specs.declared.limits.TheConstants.{PATHS, WRITE_ITEMS}
-use Rattle.mt_model.specs.declared.message.Request.{Request}
-use Rattle.mt_model.specs.declared.message.Request.TheVariants as requests
+use Rattle.mt_model.specs.declared.messages.message.Request.{Request}
+use Rattle.mt_model.specs.declared.messages.message.Request.TheVariants as requests
 use Rattle.mt_im.specs.declared.fault.ImFault.{ImFault}
 use Rattle.mt_im.specs.declared.fault.ImFault.TheVariants.{Tlv, Missing, Form, Opcode, TooManyPaths, Memory}
 use Rattle.mt_im.specs.declared.messages.Kind.{Kind}

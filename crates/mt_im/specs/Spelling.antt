@@ -4,14 +4,14 @@ use Rattle.std.specs.Prelude.{◌≡◌, ℕ, Bool, false, List, [], ◌∷◌, 
 use Rattle.mt_tlv.specs.declared.value.Value.{Value}
 use Rattle.mt_tlv.specs.Tree.{Tree, uint, null, structure, list, Elements, none}
 use Rattle.mt_tlv.specs.View.{tree}
-use Rattle.mt_model.specs.declared.message.Index.{Index}
-use Rattle.mt_model.specs.declared.message.Index.TheVariants.{Whole, Append, At}
-use Rattle.mt_model.specs.declared.message.Path.{Path}
-use Rattle.mt_model.specs.declared.message.Request.{Request}
-use Rattle.mt_model.specs.declared.message.Request.TheVariants as requests
-use Rattle.mt_model.specs.declared.message.WriteItem.{WriteItem}
-use Rattle.mt_model.specs.declared.place.Place.{Place}
-use Rattle.mt_model.specs.declared.state.Version.{Version}
+use Rattle.mt_model.specs.declared.messages.message.Index.{Index}
+use Rattle.mt_model.specs.declared.messages.message.Index.TheVariants.{Whole, Append, At}
+use Rattle.mt_model.specs.declared.messages.message.Path.{Path}
+use Rattle.mt_model.specs.declared.messages.message.Request.{Request}
+use Rattle.mt_model.specs.declared.messages.message.Request.TheVariants as requests
+use Rattle.mt_model.specs.declared.messages.message.WriteItem.{WriteItem}
+use Rattle.mt_model.specs.declared.rows.place.Place.{Place}
+use Rattle.mt_model.specs.declared.node.state.Version.{Version}
 use Rattle.mt_im.specs.Fields.{greatest, HasNo, HasField, HasNumber, MayHaveNumber, HasTruth, MayHaveTruth, HasBlocks, MayHaveBlocks}
 use Rattle.mt_im.specs.Requests.{opcode_of}
 

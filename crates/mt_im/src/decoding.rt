@@ -7,7 +7,7 @@ ghost use Rattle.mt_tlv.specs.Limits.{IsElement};
 ghost use Rattle.mt_tlv.specs.Reading.{element_at};
 ghost use Rattle.mt_tlv.specs.Tree.{structure};
 ghost use Rattle.mt_tlv.specs.declared.fault.TlvFault.TheVariants as tlv;
-ghost use Rattle.mt_model.specs.declared.message.Request.{Request};
+ghost use Rattle.mt_model.specs.declared.messages.message.Request.{Request};
 ghost use Rattle.mt_im.specs.declared.fault.ImFault.TheVariants.{Tlv};
 ghost use Rattle.mt_im.specs.Limits.{IsRequestIn};
 ghost use Rattle.mt_im.specs.Reading.{Gives, message_in, request_in};

@@ -5,7 +5,7 @@ ghost use Rattle.mt_tlv.specs.declared.value.Tag.TheVariants.{Anonymous};
 ghost use Rattle.mt_tlv.specs.Limits.{IsAllowed, deepest};
 ghost use Rattle.mt_tlv.specs.Narrow.{narrow};
 ghost use Rattle.mt_tlv.specs.Tree.{Tree};
-ghost use Rattle.mt_model.specs.declared.message.Request.{Request};
+ghost use Rattle.mt_model.specs.declared.messages.message.Request.{Request};
 ghost use Rattle.mt_im.specs.Limits.{Fits, IsRequest, IsRequestIn, IsWithinLimits};
 ghost use Rattle.mt_im.specs.Reading.{request_at, request_in};
 ghost use Rattle.mt_im.specs.Requests.{opcode_of, request_tree};

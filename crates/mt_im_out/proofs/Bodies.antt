@@ -5,9 +5,9 @@ use Rattle.std.proofs.lemmas.List.{append-nil}
 use Rattle.mt_tlv.specs.declared.value.Tag.TheVariants.{Anonymous}
 use Rattle.mt_tlv.specs.Narrow.{narrow, narrow_elements, end_of_container}
 use Rattle.mt_tlv.specs.Tree.{none}
-use Rattle.mt_model.specs.Blocks.{optional_number, item_block, item_tree}
+use Rattle.mt_model.specs.messages.Blocks.{optional_number, item_block, item_tree}
 use Rattle.mt_model.specs.declared.limits.TheConstants.{ITEM_BYTES}
-use Rattle.mt_model.specs.declared.message.Item.{Item}
+use Rattle.mt_model.specs.declared.messages.message.Item.{Item}
 use Rattle.mt_im.specs.Requests.{blocks, optional_blocks, revision}
 use Rattle.mt_im_out.specs.Messages.{optional_truth, report_tree}
 use Rattle.mt_im_out.specs.Chunks.{fit}

@@ -8,7 +8,7 @@ use Rattle.std.proofs.lemmas.List.{append-nil}
 use Rattle.std.proofs.lemmas.List.Concat.{flat_map-append}
 use Rattle.std.proofs.lemmas.List.Elements.{All-nil, All-cons, All-head, All-tail, All-append, All-weaker}
 use Rattle.mt_model.specs.declared.limits.TheConstants.{ITEM_BYTES}
-use Rattle.mt_model.specs.declared.message.Item.{Item}
+use Rattle.mt_model.specs.declared.messages.message.Item.{Item}
 use Rattle.mt_im_out.specs.Chunks.{fit, size_of, greedy_from, greedy, attribute_items, event_items, split_items, Part, attribute_part, event_parts, at_least_one, parts_of}
 use Rattle.mt_im_out.specs.Greedy.{IsShort, IsWithin, IsOfOneKind, AreFull}
 use Rattle.mt_im_out.proofs.Bodies.{bytes_one}

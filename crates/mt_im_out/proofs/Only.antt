@@ -6,7 +6,7 @@ use Rattle.std.proofs.lemmas.Bool.Decides.{nat_tests}
 use Rattle.std.proofs.lemmas.List.{append-nil}
 use Rattle.std.proofs.lemmas.List.Elements.{All-nil, All-cons, All-head, All-tail}
 use Rattle.mt_model.specs.declared.limits.TheConstants.{ITEM_BYTES}
-use Rattle.mt_model.specs.declared.message.Item.{Item}
+use Rattle.mt_model.specs.declared.messages.message.Item.{Item}
 use Rattle.mt_im_out.specs.Chunks.{fit, size_of, greedy_from, greedy, attribute_part}
 use Rattle.mt_im_out.specs.Greedy.{AreFull, IsGreedySplit}
 use Rattle.mt_im_out.proofs.Bodies.{bytes_of, bytes-append}

@@ -6,11 +6,11 @@ use Rattle.std.proofs.lemmas.Bool.Decides.{nat_tests}
 use Rattle.std.proofs.lemmas.List.{append-nil}
 use Rattle.mt_tlv.specs.declared.value.Value.TheVariants as values
 use Rattle.mt_tlv.specs.Tree.{Elements, none}
-use Rattle.mt_model.specs.Blocks.{item_block}
+use Rattle.mt_model.specs.messages.Blocks.{item_block}
 use Rattle.mt_model.specs.declared.limits.TheConstants.{ITEM_BYTES}
-use Rattle.mt_model.specs.declared.message.Item.{Item}
-use Rattle.mt_model.specs.declared.message.Item.TheVariants as items
-use Rattle.mt_model.specs.declared.message.Path.{Path}
+use Rattle.mt_model.specs.declared.messages.message.Item.{Item}
+use Rattle.mt_model.specs.declared.messages.message.Item.TheVariants as items
+use Rattle.mt_model.specs.declared.messages.message.Path.{Path}
 use Rattle.mt_im_out.specs.Chunks.{fit, appended, split_item}
 
 pub fit_alone : (x : Item) → fit (x ∷ []) ≡ nat_le (length (item_block x)) ITEM_BYTES

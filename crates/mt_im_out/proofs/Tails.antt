@@ -4,11 +4,11 @@ use Rattle.std.proofs.lemmas.List.{append-nil}
 use Rattle.mt_tlv.specs.declared.value.Tag.TheVariants.{Anonymous, Context}
 use Rattle.mt_tlv.specs.Narrow.{narrow, narrow_elements, length_and_value, opening, end_of_container}
 use Rattle.mt_tlv.specs.Tree.{Tree, uint, bool, array, structure, Elements, none, more}
-use Rattle.mt_model.specs.Blocks.{optional_number, path_tree, event_path_tree, refused_tree, item_block, item_tree}
-use Rattle.mt_model.specs.declared.message.Item.TheVariants as items
-use Rattle.mt_model.specs.declared.message.Item.{Item}
-use Rattle.mt_model.specs.declared.message.Path.{Path}
-use Rattle.mt_model.specs.declared.state.Version.{Version}
+use Rattle.mt_model.specs.messages.Blocks.{optional_number, path_tree, event_path_tree, refused_tree, item_block, item_tree}
+use Rattle.mt_model.specs.declared.messages.message.Item.TheVariants as items
+use Rattle.mt_model.specs.declared.messages.message.Item.{Item}
+use Rattle.mt_model.specs.declared.messages.message.Path.{Path}
+use Rattle.mt_model.specs.declared.node.state.Version.{Version}
 use Rattle.mt_im.specs.Requests.{blocks, optional_blocks, event_filter_tree, version_filter_tree, revision}
 use Rattle.mt_im_out.specs.Chunks.{event_items}
 use Rattle.mt_im_out.specs.Messages.{optional_truth, status_elements, invoke_response_tree}

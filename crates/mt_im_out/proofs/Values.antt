@@ -5,10 +5,10 @@ use Rattle.mt_tlv.specs.declared.value.Value.{Value}
 use Rattle.mt_tlv.specs.Narrow.{narrow}
 use Rattle.mt_tlv.specs.Tree.{Tree, int, uint, bool, text, octets, null, bits32, bits64, structure, array, list, none, more}
 use Rattle.mt_tlv.specs.View.{tree}
-use Rattle.mt_model.specs.Blocks.{path_tree, item_block}
-use Rattle.mt_model.specs.declared.message.Item.TheVariants.{Attribute}
-use Rattle.mt_model.specs.declared.message.Path.{Path}
-use Rattle.mt_im_out.specs.Chunks.{value_of}
+use Rattle.mt_model.specs.messages.Blocks.{path_tree, item_block}
+use Rattle.mt_model.specs.declared.messages.message.Item.TheVariants.{Attribute}
+use Rattle.mt_model.specs.declared.messages.message.Path.{Path}
+use Rattle.mt_model.specs.Trees.{value_of}
 use Rattle.mt_im_out.specs.Packing.{Packed, put}
 
 pub tree_value : (t : Tree) → tree (value_of t) ≡ t

@@ -6,34 +6,21 @@ use Rattle.mt_tlv.specs.declared.value.Value.{Value}
 use Rattle.mt_tlv.specs.declared.value.Value.TheVariants as values
 use Rattle.mt_tlv.specs.Tree.{Tree, int, uint, bool, text, octets, null, bits32, bits64, structure, array, list, Elements, none, more}
 use Rattle.mt_tlv.specs.Narrow.{narrow, narrow_elements}
+use Rattle.mt_model.specs.Trees.{value_of}
 use Rattle.mt_model.specs.declared.limits.TheConstants.{ITEM_BYTES}
-use Rattle.mt_model.specs.declared.message.Index.TheVariants.{Append}
-use Rattle.mt_model.specs.declared.message.Item.{Item}
-use Rattle.mt_model.specs.declared.message.Item.TheVariants.{Attribute, Refused, Event, EventRefused}
-use Rattle.mt_model.specs.declared.message.Path.{Path}
-use Rattle.mt_model.specs.declared.message.Payload.{Payload}
-use Rattle.mt_model.specs.declared.message.Reply.{Reply}
-use Rattle.mt_model.specs.declared.message.Reply.TheVariants as replies
-use Rattle.mt_model.specs.Blocks.{item_tree}
+use Rattle.mt_model.specs.declared.messages.message.Index.TheVariants.{Append}
+use Rattle.mt_model.specs.declared.messages.message.Item.{Item}
+use Rattle.mt_model.specs.declared.messages.message.Item.TheVariants.{Attribute, Refused, Event, EventRefused}
+use Rattle.mt_model.specs.declared.messages.message.Path.{Path}
+use Rattle.mt_model.specs.declared.messages.message.Payload.{Payload}
+use Rattle.mt_model.specs.declared.messages.message.Reply.{Reply}
+use Rattle.mt_model.specs.declared.messages.message.Reply.TheVariants as replies
+use Rattle.mt_model.specs.messages.Blocks.{item_tree}
 use Rattle.mt_im.specs.Requests.{blocks, command_tree}
 use Rattle.mt_im_out.specs.declared.opcodes.TheConstants.{STATUS_RESPONSE, SUBSCRIBE_RESPONSE, REPORT_DATA, WRITE_RESPONSE, INVOKE_RESPONSE}
 use Rattle.mt_im_out.specs.Messages.{status_response_tree, subscribe_response_tree, write_response_tree, command_status_tree, invoke_response_tree, report_tree}
 
 -- A list that is too long.
-
--- the value that stands for a tree
-abbrev pub value_of : Tree → Value
-value_of (int z) = values.Int z
-value_of (uint n) = values.Uint n
-value_of (bool b) = values.Bool b
-value_of (text s) = values.Text s
-value_of (octets s) = values.Octets s
-value_of null = values.Null
-value_of (bits32 n) = values.Bits32 n
-value_of (bits64 n) = values.Bits64 n
-value_of (structure es) = values.Struct es
-value_of (array es) = values.Array es
-value_of (list es) = values.List es
 
 -- how many bytes the blocks of items have together
 abbrev pub size_of : List Item → ℕ

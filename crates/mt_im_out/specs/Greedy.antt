@@ -1,9 +1,9 @@
 -- What the laws say of the parts of a report.
 use Rattle.std.specs.Prelude.{◌≡◌, ◌≢◌, ◌<◌, ◌≤◌, ◌+◌, ◌⊎◌, List, [], ◌∷◌, ◌++◌, length, map, All, ⊤}
 use Rattle.std.specs.List.{flat_map}
-use Rattle.mt_model.specs.Blocks.{item_block}
+use Rattle.mt_model.specs.messages.Blocks.{item_block}
 use Rattle.mt_model.specs.declared.limits.TheConstants.{ITEM_BYTES}
-use Rattle.mt_model.specs.declared.message.Item.{Item}
+use Rattle.mt_model.specs.declared.messages.message.Item.{Item}
 use Rattle.mt_im_out.specs.Chunks.{Part, attribute_part, size_of}
 
 -- A payload takes the item.

@@ -3,10 +3,10 @@
 use Rattle.std.specs.Prelude.{ℕ, Bool, true, false, Option, List, [], ◌∷◌}
 use Rattle.mt_tlv.specs.declared.value.Tag.TheVariants.{Anonymous, Context}
 use Rattle.mt_tlv.specs.Tree.{Tree, uint, bool, structure, array, Elements, none, more}
-use Rattle.mt_model.specs.declared.message.Item.{Item}
-use Rattle.mt_model.specs.declared.message.Item.TheVariants.{Refused}
-use Rattle.mt_model.specs.declared.place.Place.{Place}
-use Rattle.mt_model.specs.Blocks.{optional_number, path_tree, refused_tree, item_tree}
+use Rattle.mt_model.specs.declared.messages.message.Item.{Item}
+use Rattle.mt_model.specs.declared.messages.message.Item.TheVariants.{Refused}
+use Rattle.mt_model.specs.declared.rows.place.Place.{Place}
+use Rattle.mt_model.specs.messages.Blocks.{optional_number, path_tree, refused_tree, item_tree}
 use Rattle.mt_im.specs.Requests.{revision, optional_blocks, command_path_tree}
 
 -- StatusResponse: 0 status

@@ -3,10 +3,10 @@ use Rattle.std.specs.Prelude.{ℕ, ◌+◌, Bool, true, false, ◌||◌, Option,
 use Rattle.mt_tlv.specs.declared.value.Tag.TheVariants.{Anonymous, Context}
 use Rattle.mt_tlv.specs.Narrow.{narrow_elements, opening, end_of_container}
 use Rattle.mt_tlv.specs.Tree.{none}
-use Rattle.mt_model.specs.Blocks.{optional_number, item_block}
+use Rattle.mt_model.specs.messages.Blocks.{optional_number, item_block}
 use Rattle.mt_model.specs.declared.limits.TheConstants.{ITEM_BYTES}
-use Rattle.mt_model.specs.declared.message.Item.{Item}
-use Rattle.mt_model.specs.declared.message.Payload.{Payload}
+use Rattle.mt_model.specs.declared.messages.message.Item.{Item}
+use Rattle.mt_model.specs.declared.messages.message.Payload.{Payload}
 use Rattle.mt_im.specs.Requests.{revision}
 use Rattle.mt_im_out.specs.declared.opcodes.TheConstants.{REPORT_DATA}
 use Rattle.mt_im_out.specs.declared.reports.Packing.{Packing}

@@ -3,8 +3,8 @@
 ghost use Rattle.std.specs.Prelude.{◌≡◌, ◌++◌, OnOk};
 ghost use Rattle.mt_tlv.specs.declared.value.Tag.TheVariants.{Context};
 ghost use Rattle.mt_tlv.specs.Narrow.{narrow, narrow_elements, length_and_value};
-ghost use Rattle.mt_model.specs.declared.message.Item.TheVariants as items;
-ghost use Rattle.mt_model.specs.Blocks.{path_tree, event_path_tree, path_of, index_field, status_tree, refused_tree, event_tree, item_block};
+ghost use Rattle.mt_model.specs.declared.messages.message.Item.TheVariants as items;
+ghost use Rattle.mt_model.specs.messages.Blocks.{path_tree, event_path_tree, path_of, index_field, status_tree, refused_tree, event_tree, item_block};
 ghost use Rattle.mt_im.specs.Requests.{command_path_tree, command_tree};
 
 use crate::fields::{

@@ -4,7 +4,7 @@ ghost use Rattle.std.specs.Prelude.{◌≡◌, ◌<◌, ◌++◌, ◌∷◌, [],
 ghost use Rattle.mt_tlv.specs.declared.value.Tag.TheVariants.{Anonymous, Context};
 ghost use Rattle.mt_tlv.specs.Narrow.{narrow, narrow_elements, opening, end_of_container};
 ghost use Rattle.mt_tlv.specs.Tree.{uint, bool, none};
-ghost use Rattle.mt_model.specs.Blocks.{optional_number};
+ghost use Rattle.mt_model.specs.messages.Blocks.{optional_number};
 ghost use Rattle.mt_im.specs.Requests.{revision};
 ghost use Rattle.mt_im_out.specs.Messages.{optional_truth};
 

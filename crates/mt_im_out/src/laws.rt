@@ -4,7 +4,7 @@
 ghost use Rattle.std.specs.Prelude.{◌≡◌, ◌≢◌, ◌≤◌, ◌++◌, [], ◌∷◌, true, false, ℕ, Bool, List, Option, All, map};
 ghost use Rattle.std.specs.List.{flat_map};
 ghost use Rattle.mt_model.specs.declared.limits.TheConstants.{ITEM_BYTES};
-ghost use Rattle.mt_model.specs.declared.message.Item.{Item};
+ghost use Rattle.mt_model.specs.declared.messages.message.Item.{Item};
 ghost use Rattle.mt_im_out.specs.Chunks.{Part, size_of, attribute_items, event_items, split_items, greedy, parts_of, report_payload, report_payloads};
 ghost use Rattle.mt_im_out.specs.Greedy.{IsShort, IsWithin, IsOfOneKind, AreFull, IsGreedySplit};
 

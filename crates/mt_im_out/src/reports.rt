@@ -5,9 +5,9 @@ ghost use Rattle.mt_tlv.specs.Narrow.{narrow_elements};
 ghost use Rattle.mt_tlv.specs.Tree.{none};
 ghost use Rattle.mt_tlv.specs.View.{elements};
 ghost use Rattle.mt_tlv.specs.declared.value.Value.TheVariants as values;
-ghost use Rattle.mt_model.specs.declared.message.Item.TheVariants as items;
+ghost use Rattle.mt_model.specs.declared.messages.message.Item.TheVariants as items;
 ghost use Rattle.mt_im.specs.Requests.{blocks};
-ghost use Rattle.mt_model.specs.Blocks.{item_block, item_tree};
+ghost use Rattle.mt_model.specs.messages.Blocks.{item_block, item_tree};
 ghost use Rattle.mt_im_out.specs.Chunks.{appended, is_event, split_item, event_items, parts_of, report_payloads};
 ghost use Rattle.mt_im_out.specs.Packing.{optional_bytes, blocks_payload, packed, joins, put, put_all, put_attribute, put_attributes, finished};
 

@@ -4,8 +4,8 @@ ghost use Rattle.std.specs.Prelude.{◌≡◌, ◌++◌, [], ◌∷◌, IfOk, On
 ghost use Rattle.mt_tlv.specs.declared.value.Tag.TheVariants.{Anonymous, Context};
 ghost use Rattle.mt_tlv.specs.Narrow.{narrow, narrow_elements, length_and_value, end_of_container};
 ghost use Rattle.mt_tlv.specs.Tree.{uint, bool, structure, array, none, more};
-ghost use Rattle.mt_model.specs.Blocks.{path_tree, event_path_tree};
-ghost use Rattle.mt_model.specs.declared.message.Request.TheVariants as requests;
+ghost use Rattle.mt_model.specs.messages.Blocks.{path_tree, event_path_tree};
+ghost use Rattle.mt_model.specs.declared.messages.message.Request.TheVariants as requests;
 ghost use Rattle.mt_im.specs.Requests.{blocks, optional_blocks, command_tree, event_filter_tree, event_filters, version_filter_tree, write_tree, revision, request_fields, request_tree};
 
 use crate::blocks::{write_command_data, write_event_path, write_path};

@@ -3,16 +3,16 @@ use Rattle.std.proofs.Common.{◌≡◌, ℕ, Bool, true, false, not, ◌==◌, 
 use Rattle.std.specs.Option.{option_map}
 use Rattle.std.proofs.lemmas.List.{append-nil, map-append}
 use Rattle.std.proofs.lemmas.List.Elements.{filter-append}
-use Rattle.mt_model.specs.Order.{fabrics_ascend}
-use Rattle.mt_model.specs.Seen.{own_entries}
-use Rattle.mt_model.specs.Sight.{seen_by}
-use Rattle.mt_model.specs.declared.access.AclEntry.{AclEntry}
-use Rattle.mt_model.specs.declared.fabric.Fabric.{Fabric}
-use Rattle.mt_model.specs.declared.network.Armed.{Armed}
-use Rattle.mt_model.specs.declared.network.Network.{Network}
-use Rattle.mt_model.specs.declared.place.Row.{Row}
-use Rattle.mt_model.specs.declared.state.NodeSession.{NodeSession}
-use Rattle.mt_model.specs.declared.state.NodeState.{NodeState}
+use Rattle.mt_model.specs.rows.Order.{fabrics_ascend}
+use Rattle.mt_model.specs.rows.Seen.{own_entries}
+use Rattle.mt_model.specs.rows.Sight.{seen_by}
+use Rattle.mt_model.specs.declared.tables.access.AclEntry.{AclEntry}
+use Rattle.mt_model.specs.declared.tables.fabric.Fabric.{Fabric}
+use Rattle.mt_model.specs.declared.tables.network.Armed.{Armed}
+use Rattle.mt_model.specs.declared.tables.network.Network.{Network}
+use Rattle.mt_model.specs.declared.rows.place.Row.{Row}
+use Rattle.mt_model.specs.declared.node.state.NodeSession.{NodeSession}
+use Rattle.mt_model.specs.declared.node.state.NodeState.{NodeState}
 use Rattle.mt_machine.specs.Isolation.{bare_armed, bare_fabric, bare_network, descriptor_of, is_live_for, own, public_view, saved_for, veil, with_saved}
 use Rattle.mt_machine.specs.State.{is_indexed}
 use Rattle.mt_machine.proofs.Entries.{apart, bare_others, own_entries-apart}
@@ -112,7 +112,7 @@ module _ (fabric : ℕ) where
       by_test true = refl
       by_test false = refl
 
-  bare_again : (saved : Option Rattle.mt_model.specs.declared.fabric.Credentials.Credentials) (armed : Option Armed)
+  bare_again : (saved : Option Rattle.mt_model.specs.declared.tables.fabric.Credentials.Credentials) (armed : Option Armed)
       → option_map bare_armed (option_map (with_saved saved) (option_map bare_armed armed)) ≡ option_map bare_armed armed
   bare_again saved None = refl
   bare_again saved (Some armed) = refl

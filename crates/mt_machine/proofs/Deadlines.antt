@@ -4,10 +4,10 @@ use Rattle.std.specs.List.{find}
 use Rattle.std.specs.Option.{option_map}
 use Rattle.std.proofs.lemmas.List.Elements.{filter-append}
 use Rattle.mt_im.specs.declared.fault.ImFault.{ImFault}
-use Rattle.mt_model.specs.declared.access.Actor.{Actor}
-use Rattle.mt_model.specs.declared.action.PlainDeadline.{PlainDeadline}
-use Rattle.mt_model.specs.declared.message.Request.{Request}
-use Rattle.mt_model.specs.declared.message.Request.TheVariants as requests
+use Rattle.mt_model.specs.declared.tables.access.Actor.{Actor}
+use Rattle.mt_model.specs.declared.node.action.PlainDeadline.{PlainDeadline}
+use Rattle.mt_model.specs.declared.messages.message.Request.{Request}
+use Rattle.mt_model.specs.declared.messages.message.Request.TheVariants as requests
 use Rattle.mt_machine.specs.Isolation.{is_deadline_in}
 use Rattle.mt_machine.specs.Lines.{deadline_at, deadline_of, deadlines_after, has_room, is_deadline_of, later_by, with_deadline, without}
 use Rattle.mt_machine.specs.Step.{is_late}

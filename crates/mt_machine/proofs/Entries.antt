@@ -3,13 +3,13 @@ use Rattle.std.proofs.Common.{◌≡◌, ℕ, Bool, true, false, not, ◌&&◌, 
 use Rattle.std.proofs.lemmas.List.Elements.{filter-append}
 use borrow.Author.Tests.{leb-true}
 use Rattle.std.proofs.lemmas.List.{append-nil, map-append}
-use Rattle.mt_model.specs.Config.{ascend_from}
-use Rattle.mt_model.specs.Sight.{seen_by}
-use Rattle.mt_model.specs.declared.access.AclEntry.{AclEntry}
-use Rattle.mt_model.specs.declared.place.Place.{Place}
-use Rattle.mt_model.specs.declared.place.Row.{Row}
+use Rattle.mt_model.specs.texts.Config.{ascend_from}
+use Rattle.mt_model.specs.rows.Sight.{seen_by}
+use Rattle.mt_model.specs.declared.tables.access.AclEntry.{AclEntry}
+use Rattle.mt_model.specs.declared.rows.place.Place.{Place}
+use Rattle.mt_model.specs.declared.rows.place.Row.{Row}
 use Rattle.mt_apps.specs.AccessControl.{entry_row}
-use Rattle.mt_model.specs.Seen.{own_entries}
+use Rattle.mt_model.specs.rows.Seen.{own_entries}
 use Rattle.mt_machine.specs.Isolation.{bare_entry}
 use Rattle.mt_machine.proofs.Rows.{passed, passed-append}
 

@@ -2,10 +2,10 @@
 use Rattle.std.proofs.Common.{◌≡◌, ℕ, suc, Bool, true, false, ◌==◌, ◌<◌, ◌≤◌, nat_lt, List, [], ◌∷◌, None, length, refl, ap, ◌∙◌, filter, map, if◌then◌else◌, arith, unwrap_or}
 use Rattle.std.specs.List.{find, list_any}
 use borrow.Author.Tests.{ltb-true}
-use Rattle.mt_model.specs.Order.{rise_above}
-use Rattle.mt_model.specs.Sight.{seen_by}
-use Rattle.mt_model.specs.declared.fabric.Fabric.{Fabric}
-use Rattle.mt_model.specs.declared.place.Place.{Place}
+use Rattle.mt_model.specs.rows.Order.{rise_above}
+use Rattle.mt_model.specs.rows.Sight.{seen_by}
+use Rattle.mt_model.specs.declared.tables.fabric.Fabric.{Fabric}
+use Rattle.mt_model.specs.declared.rows.place.Place.{Place}
 use Rattle.mt_apps.specs.OperationalCredentials.{fabric_row, noc_row}
 use Rattle.mt_machine.specs.Isolation.{bare_fabric, descriptor_of, own_or_bare}
 use Rattle.mt_machine.specs.State.{is_indexed}

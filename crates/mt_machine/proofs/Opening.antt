@@ -9,15 +9,15 @@ use lib.Utf8.{encode}
 use Rattle.mt_meta.specs.Places.{all_places}
 use Rattle.mt_meta.specs.Stored.{first_rows, is_stored}
 use Rattle.mt_meta.specs.Table.{attributes_of, clusters_of, endpoints, extensions_of, globals}
-use Rattle.mt_model.specs.Config.{are_entries, are_fabrics, are_numbered_from, ascend_from, is_of, none_alike}
-use Rattle.mt_model.specs.Order.{are_ascending, fabrics_ascend, rise_above}
-use Rattle.mt_model.specs.declared.access.AclEntry.{AclEntry}
-use Rattle.mt_model.specs.declared.access.Auth.{Auth}
-use Rattle.mt_model.specs.declared.access.Auth.TheVariants.{Pase, Case, Group}
-use Rattle.mt_model.specs.declared.config.SessionRow.{SessionRow}
-use Rattle.mt_model.specs.declared.fabric.Fabric.{Fabric}
+use Rattle.mt_model.specs.texts.Config.{are_entries, are_fabrics, are_numbered_from, ascend_from, is_of, none_alike, has_identity}
+use Rattle.mt_model.specs.rows.Order.{are_ascending, fabrics_ascend, rise_above}
+use Rattle.mt_model.specs.declared.tables.access.AclEntry.{AclEntry}
+use Rattle.mt_model.specs.declared.tables.access.Auth.{Auth}
+use Rattle.mt_model.specs.declared.tables.access.Auth.TheVariants.{Pase, Case, Group}
+use Rattle.mt_model.specs.declared.texts.config.SessionRow.{SessionRow}
+use Rattle.mt_model.specs.declared.tables.fabric.Fabric.{Fabric}
 use Rattle.mt_machine.specs.Opened.{live_or_waits, opened_with, session_of, sessions_of, standing_of, with_root, with_roots_of}
-use Rattle.mt_machine.specs.State.{IsValid, has_identity, has_index_up_to, has_one_row, is_owned, is_root_of, is_row, is_session, is_used, stands_once, stands_rightly}
+use Rattle.mt_machine.specs.State.{IsValid, has_index_up_to, has_one_row, is_owned, is_root_of, is_row, is_session, is_used, stands_once, stands_rightly}
 
 -- Fabrics.
 

@@ -3,21 +3,21 @@ use Rattle.std.proofs.Common.{◌≡◌, ℕ, Bool, true, false, ◌&&◌, ◌==
 use Rattle.std.specs.List.{list_all, list_any}
 use borrow.Author.Tests.{ltb-true}
 use Rattle.mt_tlv.specs.declared.value.Value.{Value}
-use Rattle.mt_model.specs.Config.{are_entries, are_fabrics, are_numbered_from, ascend_from, is_of}
-use Rattle.mt_model.specs.Order.{are_ascending, entry_rows, fabric_rows, fabrics_ascend, in_order}
-use Rattle.mt_model.specs.Sight.{is_acl, is_nocs, stands_at}
-use Rattle.mt_model.specs.declared.access.AclEntry.{AclEntry}
-use Rattle.mt_model.specs.declared.fabric.Fabric.{Fabric}
-use Rattle.mt_model.specs.declared.place.Place.{Place}
-use Rattle.mt_model.specs.declared.place.Row.{Row}
-use Rattle.mt_model.specs.declared.config.SessionRow.{SessionRow}
+use Rattle.mt_model.specs.texts.Config.{are_entries, are_fabrics, are_numbered_from, ascend_from, is_of}
+use Rattle.mt_model.specs.rows.Order.{are_ascending, entry_rows, fabric_rows, fabrics_ascend, in_order}
+use Rattle.mt_model.specs.rows.Sight.{is_acl, is_nocs, stands_at}
+use Rattle.mt_model.specs.declared.tables.access.AclEntry.{AclEntry}
+use Rattle.mt_model.specs.declared.tables.fabric.Fabric.{Fabric}
+use Rattle.mt_model.specs.declared.rows.place.Place.{Place}
+use Rattle.mt_model.specs.declared.rows.place.Row.{Row}
+use Rattle.mt_model.specs.declared.texts.config.SessionRow.{SessionRow}
 use Rattle.mt_apps.specs.Computed.{computed_rows, computed_value, value_rows}
 use Rattle.mt_apps.specs.OperationalCredentials.{fabric_value, is_fabrics, noc_value}
-use Rattle.mt_model.specs.Entries.{entry_value}
+use Rattle.mt_model.specs.tables.Entries.{entry_value}
 use Rattle.mt_meta.specs.Stored.{is_stored}
 use Rattle.mt_machine.specs.Opened.{opened_with}
-use Rattle.mt_model.specs.Seen.{seen_as}
-use Rattle.mt_model.specs.declared.state.NodeState.{NodeState}
+use Rattle.mt_model.specs.rows.Seen.{seen_as}
+use Rattle.mt_model.specs.declared.node.state.NodeState.{NodeState}
 use Rattle.mt_machine.specs.Observation.{observation}
 use Rattle.mt_machine.specs.State.{IsValid, parts, rows_of}
 use Rattle.mt_machine.proofs.Entries.{both_true}

@@ -6,9 +6,9 @@ use Rattle.std.proofs.lemmas.List.Elements.{filter-append}
 use Rattle.mt_tlv.specs.Tree.{Elements, none, more}
 use Rattle.mt_tlv.specs.declared.value.Value.{Value}
 use Rattle.mt_tlv.specs.declared.value.Value.TheVariants as values
-use Rattle.mt_model.specs.Sight.{bare_elements, bare_value, is_sensitive, same_place, seen_by, stands_at}
-use Rattle.mt_model.specs.declared.place.Place.{Place}
-use Rattle.mt_model.specs.declared.place.Row.{Row}
+use Rattle.mt_model.specs.rows.Sight.{bare_elements, bare_value, is_sensitive, same_place, seen_by, stands_at}
+use Rattle.mt_model.specs.declared.rows.place.Place.{Place}
+use Rattle.mt_model.specs.declared.rows.place.Row.{Row}
 
 -- What is seen once is seen so again.
 

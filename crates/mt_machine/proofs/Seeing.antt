@@ -3,13 +3,13 @@ use Rattle.std.proofs.Common.{◌≡◌, ℕ, Bool, true, false, ◌&&◌, ◌==
 use Rattle.std.specs.List.{list_any}
 use Rattle.std.proofs.lemmas.List.{map-append}
 use Rattle.mt_tlv.specs.Tree.{Elements}
-use Rattle.mt_model.specs.Config.{ascend_from}
-use Rattle.mt_model.specs.Order.{are_ascending, fabrics_ascend, in_order}
-use Rattle.mt_model.specs.Sight.{is_acl, is_nocs, seen_by, stands_at, version_in}
-use Rattle.mt_model.specs.declared.fabric.Fabric.{Fabric}
-use Rattle.mt_model.specs.declared.network.Network.{Network}
-use Rattle.mt_model.specs.declared.place.Place.{Place}
-use Rattle.mt_model.specs.declared.place.Row.{Row}
+use Rattle.mt_model.specs.texts.Config.{ascend_from}
+use Rattle.mt_model.specs.rows.Order.{are_ascending, fabrics_ascend, in_order}
+use Rattle.mt_model.specs.rows.Sight.{is_acl, is_nocs, seen_by, stands_at, version_in}
+use Rattle.mt_model.specs.declared.tables.fabric.Fabric.{Fabric}
+use Rattle.mt_model.specs.declared.tables.network.Network.{Network}
+use Rattle.mt_model.specs.declared.rows.place.Place.{Place}
+use Rattle.mt_model.specs.declared.rows.place.Row.{Row}
 use Rattle.mt_apps.specs.AccessControl.{entry_row}
 use Rattle.mt_apps.specs.Computed.{computed_rows, computed_value, value_rows}
 use Rattle.mt_apps.specs.NetworkCommissioning.{network_tree}
@@ -17,7 +17,7 @@ use Rattle.mt_apps.specs.OperationalCredentials.{fabric_row, is_fabrics, noc_row
 use Rattle.mt_apps.specs.Parts.{Parts}
 use Rattle.mt_meta.specs.Stored.{is_stored}
 use Rattle.mt_model.specs.Trees.{untagged}
-use Rattle.mt_model.specs.declared.state.NodeState.{NodeState}
+use Rattle.mt_model.specs.declared.node.state.NodeState.{NodeState}
 use Rattle.mt_machine.specs.Isolation.{bare_network, has_fabric, veil}
 use Rattle.mt_machine.specs.Observation.{observation}
 use Rattle.mt_machine.specs.State.{IsValid, is_indexed, parts, rows_of}

@@ -3,17 +3,17 @@ use Rattle.std.proofs.Common.{◌≡◌, ◌≢◌, ℕ, ◌==◌, ◌&&◌, not
 use Rattle.std.specs.Option.{option_map}
 use Rattle.mt_im.specs.Reading.{request_in}
 use Rattle.mt_im.specs.declared.fault.ImFault.{ImFault}
-use Rattle.mt_model.specs.Seen.{Observation}
-use Rattle.mt_model.specs.Status.{code_of}
-use Rattle.mt_model.specs.declared.access.Actor.{Actor}
-use Rattle.mt_model.specs.declared.action.PlainDeadline.{PlainDeadline}
-use Rattle.mt_model.specs.declared.message.Reply.{Reply}
-use Rattle.mt_model.specs.declared.message.Request.{Request}
-use Rattle.mt_model.specs.declared.recording.Event.{Event}
-use Rattle.mt_model.specs.declared.recording.Event.TheVariants as events
-use Rattle.mt_model.specs.declared.recording.Sent.{Sent}
-use Rattle.mt_model.specs.declared.state.NodeState.{NodeState}
-use Rattle.mt_model.specs.declared.status.Status.TheVariants.{Busy, Timeout}
+use Rattle.mt_model.specs.rows.Seen.{Observation}
+use Rattle.mt_model.specs.messages.Status.{code_of}
+use Rattle.mt_model.specs.declared.tables.access.Actor.{Actor}
+use Rattle.mt_model.specs.declared.node.action.PlainDeadline.{PlainDeadline}
+use Rattle.mt_model.specs.declared.messages.message.Reply.{Reply}
+use Rattle.mt_model.specs.declared.messages.message.Request.{Request}
+use Rattle.mt_model.specs.declared.texts.recording.Event.{Event}
+use Rattle.mt_model.specs.declared.texts.recording.Event.TheVariants as events
+use Rattle.mt_model.specs.declared.texts.recording.Sent.{Sent}
+use Rattle.mt_model.specs.declared.node.state.NodeState.{NodeState}
+use Rattle.mt_model.specs.declared.messages.status.Status.TheVariants.{Busy, Timeout}
 use Rattle.mt_machine.specs.Isolation.{has_fabric, own, own_of_whole, veil, veil_of_whole}
 use Rattle.mt_machine.specs.Lines.{action_of, deadline_for, deadline_of, deadlines_after, fabric_of, has_room, is_refused, is_timed, line_actor, line_reply, next, sent, sent_as, sent_for, sent_to}
 use Rattle.mt_machine.specs.Observation.{observation}

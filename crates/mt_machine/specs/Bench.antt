@@ -2,16 +2,16 @@
 use lib.Utf8.{encode}
 use Rattle.std.specs.Prelude.{ℕ, ◌+◌, ◌*◌, List, [], ◌∷◌, Some, None, codes, replicate, IsTrue, refl}
 use Rattle.std.specs.Str.{is_utf8, chars}
-use Rattle.mt_model.specs.Config.{are_fabrics, are_entries, are_sessions, are_roots, are_csrs, are_joins, are_network_ids}
-use Rattle.mt_model.specs.declared.access.AclEntry.{AclEntry}
-use Rattle.mt_model.specs.declared.access.Auth.TheVariants.{Pase, Case}
-use Rattle.mt_model.specs.declared.access.Privilege.TheVariants.{View, Administer}
-use Rattle.mt_model.specs.declared.config.Config.{Config}
-use Rattle.mt_model.specs.declared.config.CsrRow.{CsrRow}
-use Rattle.mt_model.specs.declared.config.JoinRow.{JoinRow}
-use Rattle.mt_model.specs.declared.config.RootRow.{RootRow}
-use Rattle.mt_model.specs.declared.config.SessionRow.{SessionRow}
-use Rattle.mt_model.specs.declared.fabric.Fabric.{Fabric}
+use Rattle.mt_model.specs.texts.Config.{are_fabrics, are_entries, are_sessions, are_roots, are_csrs, are_joins, are_network_ids}
+use Rattle.mt_model.specs.declared.tables.access.AclEntry.{AclEntry}
+use Rattle.mt_model.specs.declared.tables.access.Auth.TheVariants.{Pase, Case}
+use Rattle.mt_model.specs.declared.tables.access.Privilege.TheVariants.{View, Administer}
+use Rattle.mt_model.specs.declared.texts.config.Config.{Config}
+use Rattle.mt_model.specs.declared.texts.config.CsrRow.{CsrRow}
+use Rattle.mt_model.specs.declared.texts.config.JoinRow.{JoinRow}
+use Rattle.mt_model.specs.declared.texts.config.RootRow.{RootRow}
+use Rattle.mt_model.specs.declared.texts.config.SessionRow.{SessionRow}
+use Rattle.mt_model.specs.declared.tables.fabric.Fabric.{Fabric}
 
 -- a public key that is 4 and then one byte throughout
 abbrev pub public_key : ℕ → List ℕ

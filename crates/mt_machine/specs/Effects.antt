@@ -2,16 +2,16 @@
 use Rattle.std.specs.Prelude.{ℕ, ◌==◌, ◌&&◌, ◌||◌, not, nat_lt, Bool, false, List, [], ◌∷◌, ◌++◌, Option, bytes_eq, drop, filter, map, take, if◌then◌else◌}
 use Rattle.std.specs.List.{list_any}
 use Rattle.mt_tlv.specs.declared.value.Value.{Value}
-use Rattle.mt_model.specs.Order.{row_at, stands_before}
-use Rattle.mt_model.specs.Sight.{same_place}
-use Rattle.mt_model.specs.declared.access.AclEntry.{AclEntry}
-use Rattle.mt_model.specs.declared.access.Actor.{Actor}
-use Rattle.mt_model.specs.declared.action.NodeStep.{NodeStep}
-use Rattle.mt_model.specs.declared.action.NodeStep.TheVariants.{SetRow, SetEntries, PutNetwork, RemoveNetwork, ConnectNetwork, MoveNetwork}
-use Rattle.mt_model.specs.declared.network.Network.{Network}
-use Rattle.mt_model.specs.declared.place.Place.{Place}
-use Rattle.mt_model.specs.declared.place.Row.{Row}
-use Rattle.mt_model.specs.declared.state.NodeState.{NodeState}
+use Rattle.mt_model.specs.rows.Order.{row_at, stands_before}
+use Rattle.mt_model.specs.rows.Sight.{same_place}
+use Rattle.mt_model.specs.declared.tables.access.AclEntry.{AclEntry}
+use Rattle.mt_model.specs.declared.tables.access.Actor.{Actor}
+use Rattle.mt_model.specs.declared.node.action.NodeStep.{NodeStep}
+use Rattle.mt_model.specs.declared.node.action.NodeStep.TheVariants.{SetRow, SetEntries, PutNetwork, RemoveNetwork, ConnectNetwork, MoveNetwork}
+use Rattle.mt_model.specs.declared.tables.network.Network.{Network}
+use Rattle.mt_model.specs.declared.rows.place.Place.{Place}
+use Rattle.mt_model.specs.declared.rows.place.Row.{Row}
+use Rattle.mt_model.specs.declared.node.state.NodeState.{NodeState}
 
 -- Rows and entries: those of lower places or fabrics, the new ones, those of higher ones.
 

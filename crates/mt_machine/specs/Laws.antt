@@ -1,18 +1,18 @@
 -- Laws of the written machine.
 use Rattle.std.specs.Prelude.{◌≡◌, ◌≢◌, ℕ, List, [], None, Option, Some, true}
-use Rattle.mt_model.specs.Config.{are_entries, are_fabrics}
-use Rattle.mt_model.specs.Seen.{Observation, seen_as}
-use Rattle.mt_model.specs.declared.access.Actor.{Actor}
-use Rattle.mt_model.specs.declared.message.Request.{Request}
-use Rattle.mt_model.specs.declared.access.AclEntry.{AclEntry}
-use Rattle.mt_model.specs.declared.config.SessionRow.{SessionRow}
-use Rattle.mt_model.specs.declared.fabric.Credentials.{Credentials}
-use Rattle.mt_model.specs.declared.fabric.Fabric.{Fabric}
-use Rattle.mt_model.specs.declared.network.Armed.{Armed}
-use Rattle.mt_model.specs.declared.network.Network.{Network}
-use Rattle.mt_model.specs.declared.recording.Event.{Event}
-use Rattle.mt_model.specs.declared.state.NodeState.{NodeState}
-use Rattle.mt_model.specs.declared.action.Action.{Action}
+use Rattle.mt_model.specs.texts.Config.{are_entries, are_fabrics}
+use Rattle.mt_model.specs.rows.Seen.{Observation, seen_as}
+use Rattle.mt_model.specs.declared.tables.access.Actor.{Actor}
+use Rattle.mt_model.specs.declared.messages.message.Request.{Request}
+use Rattle.mt_model.specs.declared.tables.access.AclEntry.{AclEntry}
+use Rattle.mt_model.specs.declared.texts.config.SessionRow.{SessionRow}
+use Rattle.mt_model.specs.declared.tables.fabric.Credentials.{Credentials}
+use Rattle.mt_model.specs.declared.tables.fabric.Fabric.{Fabric}
+use Rattle.mt_model.specs.declared.tables.network.Armed.{Armed}
+use Rattle.mt_model.specs.declared.tables.network.Network.{Network}
+use Rattle.mt_model.specs.declared.texts.recording.Event.{Event}
+use Rattle.mt_model.specs.declared.node.state.NodeState.{NodeState}
+use Rattle.mt_model.specs.declared.node.action.Action.{Action}
 use Rattle.mt_machine.specs.Isolation.{own, own_of_whole, public_view, veil, veil_of_whole}
 use Rattle.mt_machine.specs.Lines.{fabric_of, is_built, next, sent}
 use Rattle.mt_machine.specs.Observation.{observation}

@@ -6,21 +6,21 @@ use Rattle.mt_im.specs.Reading.{request_in}
 use Rattle.mt_im.specs.declared.fault.ImFault.{ImFault}
 use Rattle.mt_im.specs.declared.fault.ImFault.TheVariants as faults
 use Rattle.mt_im_out.specs.Chunks.{chunks_of}
-use Rattle.mt_model.specs.Status.{code_of}
-use Rattle.mt_model.specs.declared.access.Actor.{Actor}
-use Rattle.mt_model.specs.declared.action.Action.{Action}
-use Rattle.mt_model.specs.declared.action.Action.TheVariants as actions
-use Rattle.mt_model.specs.declared.action.PlainDeadline.{PlainDeadline}
-use Rattle.mt_model.specs.declared.message.Payload.{Payload}
-use Rattle.mt_model.specs.declared.message.Reply.{Reply}
-use Rattle.mt_model.specs.declared.message.Request.{Request}
-use Rattle.mt_model.specs.declared.message.Request.TheVariants as requests
-use Rattle.mt_model.specs.declared.recording.Event.{Event}
-use Rattle.mt_model.specs.declared.recording.Event.TheVariants as events
-use Rattle.mt_model.specs.declared.recording.Sent.{Sent}
-use Rattle.mt_model.specs.declared.recording.To.TheVariants.{Plain}
-use Rattle.mt_model.specs.declared.state.NodeState.{NodeState}
-use Rattle.mt_model.specs.declared.status.Status.TheVariants.{Busy, InvalidAction, PathsExhausted}
+use Rattle.mt_model.specs.messages.Status.{code_of}
+use Rattle.mt_model.specs.declared.tables.access.Actor.{Actor}
+use Rattle.mt_model.specs.declared.node.action.Action.{Action}
+use Rattle.mt_model.specs.declared.node.action.Action.TheVariants as actions
+use Rattle.mt_model.specs.declared.node.action.PlainDeadline.{PlainDeadline}
+use Rattle.mt_model.specs.declared.messages.message.Payload.{Payload}
+use Rattle.mt_model.specs.declared.messages.message.Reply.{Reply}
+use Rattle.mt_model.specs.declared.messages.message.Request.{Request}
+use Rattle.mt_model.specs.declared.messages.message.Request.TheVariants as requests
+use Rattle.mt_model.specs.declared.texts.recording.Event.{Event}
+use Rattle.mt_model.specs.declared.texts.recording.Event.TheVariants as events
+use Rattle.mt_model.specs.declared.texts.recording.Sent.{Sent}
+use Rattle.mt_model.specs.declared.texts.recording.To.TheVariants.{Plain}
+use Rattle.mt_model.specs.declared.node.state.NodeState.{NodeState}
+use Rattle.mt_model.specs.declared.messages.status.Status.TheVariants.{Busy, InvalidAction, PathsExhausted}
 use Rattle.mt_machine.specs.Isolation.{is_deadline_in}
 use Rattle.mt_machine.specs.State.{State}
 use Rattle.mt_machine.specs.Step.{after_action, asker, case_actor, is_built_request, is_late, pase_actor, refusal, reply_of}

@@ -1,8 +1,8 @@
 -- What a fabric observes of a state: all that an answer to it is made of.
 use Rattle.std.specs.Prelude.{ℕ}
-use Rattle.mt_model.specs.Order.{in_order}
-use Rattle.mt_model.specs.Seen.{Observation, seen_as}
-use Rattle.mt_model.specs.declared.state.NodeState.{NodeState}
+use Rattle.mt_model.specs.rows.Order.{in_order}
+use Rattle.mt_model.specs.rows.Seen.{Observation, seen_as}
+use Rattle.mt_model.specs.declared.node.state.NodeState.{NodeState}
 use Rattle.mt_machine.specs.Isolation.{has_fabric}
 use Rattle.mt_machine.specs.State.{is_member, rows_of}
 

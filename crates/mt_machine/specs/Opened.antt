@@ -4,18 +4,19 @@ use Rattle.std.specs.List.{find, flat_map, list_any}
 use Rattle.mt_meta.specs.Stored.{first_rows}
 use Rattle.mt_meta.specs.Table.{clusters_of, endpoints}
 use Rattle.mt_model.specs.declared.limits.TheConstants.{VERSIONS_OF_BOOT}
-use Rattle.mt_model.specs.declared.access.AclEntry.{AclEntry}
-use Rattle.mt_model.specs.declared.access.Auth.{Auth}
-use Rattle.mt_model.specs.declared.access.Auth.TheVariants.{Pase}
-use Rattle.mt_model.specs.declared.config.Config.{Config}
-use Rattle.mt_model.specs.declared.config.SessionRow.{SessionRow}
-use Rattle.mt_model.specs.declared.fabric.Fabric.{Fabric}
-use Rattle.mt_model.specs.declared.state.NodeSession.{NodeSession}
-use Rattle.mt_model.specs.declared.state.Standing.{Standing}
-use Rattle.mt_model.specs.declared.state.Standing.TheVariants.{Waits, Live}
-use Rattle.mt_model.specs.declared.state.Version.{Version}
-use Rattle.mt_model.specs.declared.state.NodeState.{NodeState}
-use Rattle.mt_machine.specs.State.{State, has_identity}
+use Rattle.mt_model.specs.declared.tables.access.AclEntry.{AclEntry}
+use Rattle.mt_model.specs.declared.tables.access.Auth.{Auth}
+use Rattle.mt_model.specs.declared.tables.access.Auth.TheVariants.{Pase}
+use Rattle.mt_model.specs.declared.texts.config.Config.{Config}
+use Rattle.mt_model.specs.declared.texts.config.SessionRow.{SessionRow}
+use Rattle.mt_model.specs.declared.tables.fabric.Fabric.{Fabric}
+use Rattle.mt_model.specs.declared.node.state.NodeSession.{NodeSession}
+use Rattle.mt_model.specs.declared.node.state.Standing.{Standing}
+use Rattle.mt_model.specs.declared.node.state.Standing.TheVariants.{Waits, Live}
+use Rattle.mt_model.specs.declared.node.state.Version.{Version}
+use Rattle.mt_model.specs.declared.node.state.NodeState.{NodeState}
+use Rattle.mt_machine.specs.State.{State}
+use Rattle.mt_model.specs.texts.Config.{has_identity}
 
 -- The version with which every cluster begins in a boot.
 abbrev pub first_version : ℕ → ℕ

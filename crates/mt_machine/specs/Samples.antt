@@ -4,8 +4,8 @@ use Rattle.std.specs.Prelude.{ℕ, List, [], ◌∷◌, map}
 use Rattle.mt_machine.specs.Bench.{bench_of}
 use Rattle.mt_machine.specs.Lines.{sent}
 use Rattle.mt_machine.specs.Opened.{opened_whole}
-use Rattle.mt_model.specs.declared.recording.Event.TheVariants.{Ask}
-use Rattle.mt_model.specs.declared.recording.Sent.{Sent}
+use Rattle.mt_model.specs.declared.texts.recording.Event.TheVariants.{Ask}
+use Rattle.mt_model.specs.declared.texts.recording.Sent.{Sent}
 
 -- the payloads that a new bench node sends to a node of a fabric, with one CAT or 0, for a ReadRequest
 abbrev pub sent_to_reader : ℕ → ℕ → ℕ → List ℕ → List (List ℕ)

@@ -6,25 +6,25 @@ use Rattle.mt_meta.specs.Forms.{has_form}
 use Rattle.mt_meta.specs.Places.{all_places}
 use Rattle.mt_meta.specs.Stored.{is_stored}
 use Rattle.mt_meta.specs.declared.meta.Meta.{Meta}
-use Rattle.mt_model.specs.Config.{ascend_from, has_up_to, have_one_identity, have_one_label, is_entry, is_fabric, is_of, none_alike}
-use Rattle.mt_model.specs.Order.{are_ascending, fabrics_ascend}
-use Rattle.mt_model.specs.Sight.{stands_at}
-use Rattle.mt_model.specs.declared.access.AclEntry.{AclEntry}
-use Rattle.mt_model.specs.declared.access.Auth.{Auth}
-use Rattle.mt_model.specs.declared.access.Auth.TheVariants.{Pase, Case, Group}
-use Rattle.mt_model.specs.declared.action.PlainDeadline.{PlainDeadline}
-use Rattle.mt_model.specs.declared.fabric.Credentials.{Credentials}
-use Rattle.mt_model.specs.declared.fabric.Fabric.{Fabric}
-use Rattle.mt_model.specs.declared.network.Armed.{Armed}
-use Rattle.mt_model.specs.declared.network.Network.{Network}
-use Rattle.mt_model.specs.declared.place.Place.{Place}
-use Rattle.mt_model.specs.declared.place.Row.{Row}
-use Rattle.mt_model.specs.declared.state.ChangeNumber.{ChangeNumber}
-use Rattle.mt_model.specs.declared.state.NodeSession.{NodeSession}
-use Rattle.mt_model.specs.declared.state.NodeState.{NodeState}
-use Rattle.mt_model.specs.declared.state.Standing.{Standing}
-use Rattle.mt_model.specs.declared.state.Standing.TheVariants.{Waits, Live, Ended}
-use Rattle.mt_model.specs.declared.status.Status.{Status}
+use Rattle.mt_model.specs.texts.Config.{ascend_from, has_identity, has_up_to, have_one_identity, have_one_label, is_entry, is_fabric, is_of, none_alike}
+use Rattle.mt_model.specs.rows.Order.{are_ascending, fabrics_ascend}
+use Rattle.mt_model.specs.rows.Sight.{stands_at}
+use Rattle.mt_model.specs.declared.tables.access.AclEntry.{AclEntry}
+use Rattle.mt_model.specs.declared.tables.access.Auth.{Auth}
+use Rattle.mt_model.specs.declared.tables.access.Auth.TheVariants.{Pase, Case, Group}
+use Rattle.mt_model.specs.declared.node.action.PlainDeadline.{PlainDeadline}
+use Rattle.mt_model.specs.declared.tables.fabric.Credentials.{Credentials}
+use Rattle.mt_model.specs.declared.tables.fabric.Fabric.{Fabric}
+use Rattle.mt_model.specs.declared.tables.network.Armed.{Armed}
+use Rattle.mt_model.specs.declared.tables.network.Network.{Network}
+use Rattle.mt_model.specs.declared.rows.place.Place.{Place}
+use Rattle.mt_model.specs.declared.rows.place.Row.{Row}
+use Rattle.mt_model.specs.declared.node.state.ChangeNumber.{ChangeNumber}
+use Rattle.mt_model.specs.declared.node.state.NodeSession.{NodeSession}
+use Rattle.mt_model.specs.declared.node.state.NodeState.{NodeState}
+use Rattle.mt_model.specs.declared.node.state.Standing.{Standing}
+use Rattle.mt_model.specs.declared.node.state.Standing.TheVariants.{Waits, Live, Ended}
+use Rattle.mt_model.specs.declared.messages.status.Status.{Status}
 use Rattle.mt_apps.specs.Computed.{computed_rows}
 use Rattle.mt_apps.specs.Parts.{Parts}
 
@@ -51,10 +51,6 @@ is_among fabrics index = list_any (is_indexed index) fabrics
 
 abbrev pub is_member : ℕ → NodeState → Bool
 is_member fabric s = is_among s.fabrics fabric
-
--- the identity of a fabric: the public key of its root, and its id
-abbrev pub has_identity : List ℕ → ℕ → Fabric → Bool
-has_identity root_key fabric_id fabric = bytes_eq fabric.credentials.root_key root_key && fabric.credentials.fabric_id == fabric_id
 
 -- What holds of a state's parts.
 

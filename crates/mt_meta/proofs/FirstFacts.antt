@@ -2,7 +2,7 @@
 use Rattle.std.proofs.Common.{refl}
 use Rattle.std.specs.Prelude.{IsTrue}
 use Rattle.std.specs.List.{list_all}
-use Rattle.mt_model.specs.Order.{are_ascending}
+use Rattle.mt_model.specs.rows.Order.{are_ascending}
 use Rattle.mt_meta.specs.Places.{all_places}
 use Rattle.mt_meta.specs.Stored.{begins_rightly, first_rows, is_stored}
 use Rattle.mt_meta.specs.Table.{attributes_of, clusters_of, endpoints, extensions_of, globals}

@@ -3,8 +3,8 @@ use Rattle.std.proofs.Common.{ℕ, ◌≡◌, ◌==◌, ◌&&◌, ◌||◌, ◌+
 use Rattle.std.specs.List.{list_all}
 use Rattle.std.proofs.lemmas.Bool.{eq-eqb, and_from, and_parts}
 use Rattle.std.proofs.lemmas.Bool.Decides.{eqb_tells}
-use Rattle.mt_model.specs.Sight.{is_sensitive_field}
-use Rattle.mt_model.specs.declared.place.Place.{Place}
+use Rattle.mt_model.specs.rows.Sight.{is_sensitive_field}
+use Rattle.mt_model.specs.declared.rows.place.Place.{Place}
 use Rattle.mt_meta.specs.declared.rows.AttributeRow.{AttributeRow}
 use Rattle.mt_meta.specs.declared.rows.Sensitive.{Sensitive}
 use Rattle.mt_meta.specs.declared.rows.Sensitive.TheVariants.{Nothing, OneField, TwoFields, AllButFabric}

@@ -8,11 +8,11 @@ use Rattle.std.proofs.lemmas.Bool.Decides.{eqb_tells}
 use Rattle.std.proofs.lemmas.List.Folds.{list_any-append, list_any_at}
 use Rattle.std.proofs.lemmas.List.Elements.{All-filter}
 use Rattle.std.proofs.Math.ListN.{get_or}
-use Rattle.mt_model.specs.declared.message.Path.{Path}
-use Rattle.mt_model.specs.Devices.{device_of}
-use Rattle.mt_model.specs.declared.place.Place.{Place}
-use Rattle.mt_model.specs.declared.status.Status.{Status}
-use Rattle.mt_model.specs.declared.status.Status.TheVariants.{UnsupportedEndpoint, UnsupportedCluster, UnsupportedAttribute}
+use Rattle.mt_model.specs.declared.messages.message.Path.{Path}
+use Rattle.mt_model.specs.rows.Devices.{device_of}
+use Rattle.mt_model.specs.declared.rows.place.Place.{Place}
+use Rattle.mt_model.specs.declared.messages.status.Status.{Status}
+use Rattle.mt_model.specs.declared.messages.status.Status.TheVariants.{UnsupportedEndpoint, UnsupportedCluster, UnsupportedAttribute}
 use Rattle.mt_meta.specs.declared.rows.AttributeRow.{AttributeRow}
 use Rattle.mt_meta.specs.Table.{all_attributes_of, attributes_of, clusters_of, endpoints, extensions_of, globals}
 use Rattle.mt_meta.specs.Places.{all_places, ascend, is_named, place_of, places, places_of_cluster, places_of_endpoint, is_at}

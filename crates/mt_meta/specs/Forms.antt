@@ -6,10 +6,10 @@ use Rattle.mt_tlv.specs.Tree.{Tree, uint, text, octets, structure, Elements, non
 use Rattle.mt_tlv.specs.declared.value.Tag.TheVariants.{Anonymous}
 use Rattle.mt_tlv.specs.declared.value.Value.{Value}
 use Rattle.mt_tlv.specs.declared.value.Value.TheVariants as values
-use Rattle.mt_model.specs.Config.{has_up_to, is_entry}
-use Rattle.mt_model.specs.Entries.{entry_in}
+use Rattle.mt_model.specs.texts.Config.{has_up_to, is_entry}
+use Rattle.mt_model.specs.tables.Entries.{entry_in}
 use Rattle.mt_model.specs.Trees.{field_in}
-use Rattle.mt_model.specs.declared.access.AclEntry.{AclEntry}
+use Rattle.mt_model.specs.declared.tables.access.AclEntry.{AclEntry}
 use Rattle.mt_meta.specs.declared.meta.Kind.{Kind}
 use Rattle.mt_meta.specs.declared.meta.Kind.TheVariants as kinds
 

@@ -1,8 +1,10 @@
 -- The places of attributes, and those that a path names (Matter Core Specification, section 8.2.1, Path).
 use Rattle.std.specs.Prelude.{ℕ, ◌==◌, nat_lt, ◌&&◌, ◌||◌, not, Bool, true, false, is_none, List, [], ◌∷◌, Option, Some, None, map, filter}
 use Rattle.std.specs.List.{flat_map, list_any}
-use Rattle.mt_model.specs.declared.message.Path.{Path}
-use Rattle.mt_model.specs.declared.place.Place.{Place}
+use Rattle.mt_model.specs.rows.Order.{stands_before}
+use Rattle.mt_model.specs.rows.Sight.{same_place}
+use Rattle.mt_model.specs.declared.messages.message.Path.{Path}
+use Rattle.mt_model.specs.declared.rows.place.Place.{Place}
 use Rattle.mt_meta.specs.declared.rows.AttributeRow.{AttributeRow}
 use Rattle.mt_meta.specs.Table.{all_attributes_of, clusters_of, endpoints, globals}
 
@@ -48,9 +50,6 @@ is_not_global path = is_none path.cluster && is_particular path.leaf
 
 -- Order.
 
-abbrev pub stands_before : Place → Place → Bool
-stands_before p q = nat_lt p.endpoint q.endpoint || p.endpoint == q.endpoint && (nat_lt p.cluster q.cluster || p.cluster == q.cluster && nat_lt p.leaf q.leaf)
-
 -- whether each place stands before the next
 abbrev pub ascend_from : Place → List Place → Bool
 ascend_from p [] = true
@@ -61,4 +60,4 @@ ascend [] = true
 ascend (p ∷ places) = ascend_from p places
 
 abbrev pub is_at : Place → Place → Bool
-is_at place listed = listed.endpoint == place.endpoint && (listed.cluster == place.cluster && listed.leaf == place.leaf)
+is_at place listed = same_place listed place

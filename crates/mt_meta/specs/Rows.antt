@@ -1,7 +1,7 @@
 -- Rows of the table, of which specs/clusters/ makes those of each cluster.
 use Rattle.std.specs.Prelude.{ℕ, true, false, Some, None}
-use Rattle.mt_model.specs.declared.access.Privilege.{Privilege}
-use Rattle.mt_model.specs.declared.access.Privilege.TheVariants.{View}
+use Rattle.mt_model.specs.declared.tables.access.Privilege.{Privilege}
+use Rattle.mt_model.specs.declared.tables.access.Privilege.TheVariants.{View}
 use Rattle.mt_meta.specs.declared.meta.Kind.{Kind}
 use Rattle.mt_meta.specs.declared.rows.AttributeRow.{AttributeRow}
 use Rattle.mt_meta.specs.declared.rows.CommandRow.{CommandRow}

@@ -5,9 +5,9 @@ use Rattle.std.specs.Option.{option_map}
 use Rattle.mt_tlv.specs.Tree.{none}
 use Rattle.mt_tlv.specs.declared.value.Value.{Value}
 use Rattle.mt_tlv.specs.declared.value.Value.TheVariants as values
-use Rattle.mt_model.specs.Sight.{stands_at}
-use Rattle.mt_model.specs.declared.place.Place.{Place}
-use Rattle.mt_model.specs.declared.place.Row.{Row}
+use Rattle.mt_model.specs.rows.Sight.{stands_at}
+use Rattle.mt_model.specs.declared.rows.place.Place.{Place}
+use Rattle.mt_model.specs.declared.rows.place.Row.{Row}
 use Rattle.mt_meta.specs.declared.rows.AttributeRow.{AttributeRow}
 use Rattle.mt_meta.specs.declared.rows.FirstValue.{FirstValue}
 use Rattle.mt_meta.specs.declared.rows.FirstValue.TheVariants as first

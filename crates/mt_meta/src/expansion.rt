@@ -42,7 +42,8 @@ pub fn is_global(attribute: u32) -> bool
     globals().iter().any(|row| row.number == attribute)
 }
 
-fn is_not_global(path: &Path) -> bool
+/// Whether the path asks every cluster for an attribute that not every cluster has.
+pub fn is_not_global(path: &Path) -> bool
     ensures { result ≡ is_not_global path.now }
 {
     match (path.cluster, path.leaf) {

@@ -3,7 +3,7 @@
 ghost use Rattle.std.specs.Prelude.{◌≡◌, ◌↔◌, ◌==◌, ◌++◌, if◌then◌else◌, Some, None, not, option_copied, IsFalse, IsTrue, IsOkAnd};
 ghost use Rattle.std.specs.List.{find, list_any};
 ghost use Rattle.std.specs.Option.{option_map};
-ghost use Rattle.mt_model.specs.declared.status.Status.TheVariants.{UnsupportedEndpoint, UnsupportedCluster};
+ghost use Rattle.mt_model.specs.declared.messages.status.Status.TheVariants.{UnsupportedEndpoint, UnsupportedCluster};
 ghost use Rattle.mt_meta.specs.Stored.{is_stored, is_stored_origin, origin_of};
 ghost use Rattle.mt_meta.specs.Finding.{attribute_of, command_of, event_of, find_command_of, find_event_of, find_of, has_cluster, is_endpoint, missing_of, privilege_found, privilege_of};
 

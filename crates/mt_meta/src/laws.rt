@@ -2,12 +2,12 @@
 
 ghost use Rattle.std.specs.Prelude.{◌≡◌, ℕ, IsTrue, is_ok, is_some};
 ghost use Rattle.std.specs.List.{list_all, list_any};
-ghost use Rattle.mt_model.specs.Devices.{device_of};
-ghost use Rattle.mt_model.specs.declared.place.Place.{Place};
+ghost use Rattle.mt_model.specs.rows.Devices.{device_of};
+ghost use Rattle.mt_model.specs.declared.rows.place.Place.{Place};
 ghost use Rattle.mt_meta.specs.Finding.{find_of, is_endpoint};
 ghost use Rattle.mt_meta.specs.Places.{all_places, ascend, is_at};
 ghost use Rattle.mt_meta.specs.Stored.{begins_rightly, is_sensitive_by_table};
-ghost use Rattle.mt_model.specs.Sight.{is_sensitive_field};
+ghost use Rattle.mt_model.specs.rows.Sight.{is_sensitive_field};
 
 /// The places of all attributes ascend, so that none stands twice.
 pub fn places_ascend()

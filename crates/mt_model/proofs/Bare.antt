@@ -4,8 +4,8 @@ use Rattle.mt_tlv.specs.Tree.{Elements, more}
 use Rattle.mt_tlv.specs.View.{elements, tree}
 use Rattle.mt_tlv.specs.declared.value.Tag.{Tag}
 use Rattle.mt_tlv.specs.declared.value.Value.{Value}
-use Rattle.mt_model.specs.Sight.{bare_elements, is_sensitive}
-use Rattle.mt_model.specs.declared.place.Place.{Place}
+use Rattle.mt_model.specs.rows.Sight.{bare_elements, is_sensitive}
+use Rattle.mt_model.specs.declared.rows.place.Place.{Place}
 
 abbrev pub is_kept : Place → Tag × Value → Bool
 is_kept place m = not (is_sensitive place m.0)

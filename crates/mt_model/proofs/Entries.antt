@@ -1,14 +1,14 @@
 -- An entry's value is read as the entry.
 use Rattle.std.proofs.Common.{◌≡◌, ℕ, List, [], ◌∷◌, Option, Some, None, refl, ap}
 use Rattle.mt_tlv.specs.Tree.{uint}
-use Rattle.mt_model.specs.Entries.{each_in, entry_in, entry_value, entry_with, list_in, mode_number, mode_numbered, number_in, one_more, optional_in, privilege_number, privilege_numbered, subjects_tree, target_in, target_tree, target_with, targets_tree}
+use Rattle.mt_model.specs.tables.Entries.{each_in, entry_in, entry_value, entry_with, list_in, mode_number, mode_numbered, number_in, one_more, optional_in, privilege_number, privilege_numbered, subjects_tree, target_in, target_tree, target_with, targets_tree}
 use Rattle.mt_model.specs.Trees.{nullable, untagged}
-use Rattle.mt_model.specs.declared.access.AclEntry.{AclEntry}
-use Rattle.mt_model.specs.declared.access.Auth.{Auth}
-use Rattle.mt_model.specs.declared.access.Auth.TheVariants.{Pase, Case, Group}
-use Rattle.mt_model.specs.declared.access.Privilege.{Privilege}
-use Rattle.mt_model.specs.declared.access.Privilege.TheVariants.{View, ProxyView, Operate, Manage, Administer}
-use Rattle.mt_model.specs.declared.access.Target.{Target}
+use Rattle.mt_model.specs.declared.tables.access.AclEntry.{AclEntry}
+use Rattle.mt_model.specs.declared.tables.access.Auth.{Auth}
+use Rattle.mt_model.specs.declared.tables.access.Auth.TheVariants.{Pase, Case, Group}
+use Rattle.mt_model.specs.declared.tables.access.Privilege.{Privilege}
+use Rattle.mt_model.specs.declared.tables.access.Privilege.TheVariants.{View, ProxyView, Operate, Manage, Administer}
+use Rattle.mt_model.specs.declared.tables.access.Target.{Target}
 
 privilege_again : (p : Privilege) → privilege_numbered (privilege_number p) ≡ Some p
 privilege_again View = refl

@@ -4,13 +4,13 @@ use Rattle.std.proofs.lemmas.Bool.{and_parts, and_from, cases_Bool, cases_order,
 use Rattle.std.proofs.lemmas.List.{map-append}
 use Rattle.mt_tlv.specs.declared.value.Value.{Value}
 use Rattle.mt_model.proofs.Order.{follow_cases, follow_same, may_follow-trans, ascending-tail, same_place-refl, same_place-sym, same_place-trans, same_not_before}
-use Rattle.mt_model.specs.Config.{ascend_from, are_numbered_from}
-use Rattle.mt_model.specs.Order.{may_follow, ascend_after, are_ascending, rise_above, fabrics_ascend, in_order, is_lower, is_own, is_higher, row_at, entry_rows, fabric_rows}
-use Rattle.mt_model.specs.Sight.{stands_at, seen_by}
-use Rattle.mt_model.specs.declared.access.AclEntry.{AclEntry}
-use Rattle.mt_model.specs.declared.fabric.Fabric.{Fabric}
-use Rattle.mt_model.specs.declared.place.Place.{Place}
-use Rattle.mt_model.specs.declared.place.Row.{Row}
+use Rattle.mt_model.specs.texts.Config.{ascend_from, are_numbered_from}
+use Rattle.mt_model.specs.rows.Order.{may_follow, ascend_after, are_ascending, rise_above, fabrics_ascend, in_order, is_lower, is_own, is_higher, row_at, entry_rows, fabric_rows}
+use Rattle.mt_model.specs.rows.Sight.{stands_at, seen_by}
+use Rattle.mt_model.specs.declared.tables.access.AclEntry.{AclEntry}
+use Rattle.mt_model.specs.declared.tables.fabric.Fabric.{Fabric}
+use Rattle.mt_model.specs.declared.rows.place.Place.{Place}
+use Rattle.mt_model.specs.declared.rows.place.Row.{Row}
 
 -- whether the fabrics of the rows do not fall, from this on
 pub Rises : ℕ → List Row → Type 0

@@ -4,10 +4,10 @@ use Rattle.std.specs.List.{AllWithin}
 use Rattle.std.specs.List.Sorted.{IsPartitionedBy, IsPartitionPoint}
 use Rattle.std.proofs.lemmas.Bool.{cases_order, false_from_ne_true, both_ways, not-true, not-false, not_from_false}
 use Rattle.mt_model.proofs.Order.{ascending_pairs, before_back, after_on, before_not_same, after_not_same, neither_same}
-use Rattle.mt_model.specs.Order.{stands_before, are_ascending}
-use Rattle.mt_model.specs.Sight.{stands_at}
-use Rattle.mt_model.specs.declared.place.Place.{Place}
-use Rattle.mt_model.specs.declared.place.Row.{Row}
+use Rattle.mt_model.specs.rows.Order.{stands_before, are_ascending}
+use Rattle.mt_model.specs.rows.Sight.{stands_at}
+use Rattle.mt_model.specs.declared.rows.place.Place.{Place}
+use Rattle.mt_model.specs.declared.rows.place.Row.{Row}
 
 -- whether a row's place is before this one, and whether it is not behind
 abbrev pub is_before : Place → Row → Bool

@@ -7,10 +7,10 @@ use Rattle.mt_tlv.specs.View.{elements, tree}
 use Rattle.mt_tlv.specs.declared.value.Tag.{Tag}
 use Rattle.mt_tlv.specs.declared.value.Tag.TheVariants.{Context}
 use Rattle.mt_tlv.specs.declared.value.Value.{Value}
-use Rattle.mt_model.specs.Blocks.{optional_number, index_field, path_tree, event_path_tree}
-use Rattle.mt_model.specs.declared.message.Index.{Index}
-use Rattle.mt_model.specs.declared.message.Index.TheVariants.{At}
-use Rattle.mt_model.specs.declared.message.Path.{Path}
+use Rattle.mt_model.specs.messages.Blocks.{optional_number, index_field, path_tree, event_path_tree}
+use Rattle.mt_model.specs.declared.messages.message.Index.{Index}
+use Rattle.mt_model.specs.declared.messages.message.Index.TheVariants.{At}
+use Rattle.mt_model.specs.declared.messages.message.Path.{Path}
 
 -- a value is smaller than the members that it stands among
 member_smaller : (ms : List (Tag × Value)) (i : ℕ) (d : Tag × Value) → i < length ms → tree_size (tree (get_or ms i d).1) < elements_size (elements ms)

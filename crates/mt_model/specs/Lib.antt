@@ -1,13 +1,5 @@
-pub mod Access
-pub mod Blocks
-pub mod Config
-pub mod Contents
-pub mod Devices
-pub mod Entries
-pub mod Events
-pub mod Order
-pub mod Seen
-pub mod Sight
-pub mod Status
 pub mod Trees
-pub mod Verdicts
+pub mod messages
+pub mod rows
+pub mod tables
+pub mod texts

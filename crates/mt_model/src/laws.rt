@@ -3,14 +3,14 @@
 
 ghost use Rattle.std.specs.Prelude.{◌≡◌, ℕ, IsTrue, List, Some, filter, map};
 ghost use Rattle.mt_tlv.specs.declared.value.Value.{Value};
-ghost use Rattle.mt_model.specs.Config.{are_numbered_from, ascend_from};
-ghost use Rattle.mt_model.specs.Entries.{entry_in, entry_value};
-ghost use Rattle.mt_model.specs.Order.{are_ascending, entry_rows, fabric_rows, fabrics_ascend, in_order};
-ghost use Rattle.mt_model.specs.Sight.{seen_by, stands_at};
-ghost use Rattle.mt_model.specs.declared.access.AclEntry.{AclEntry};
-ghost use Rattle.mt_model.specs.declared.fabric.Fabric.{Fabric};
-ghost use Rattle.mt_model.specs.declared.place.Place.{Place};
-ghost use Rattle.mt_model.specs.declared.place.Row.{Row};
+ghost use Rattle.mt_model.specs.texts.Config.{are_numbered_from, ascend_from};
+ghost use Rattle.mt_model.specs.tables.Entries.{entry_in, entry_value};
+ghost use Rattle.mt_model.specs.rows.Order.{are_ascending, entry_rows, fabric_rows, fabrics_ascend, in_order};
+ghost use Rattle.mt_model.specs.rows.Sight.{seen_by, stands_at};
+ghost use Rattle.mt_model.specs.declared.tables.access.AclEntry.{AclEntry};
+ghost use Rattle.mt_model.specs.declared.tables.fabric.Fabric.{Fabric};
+ghost use Rattle.mt_model.specs.declared.rows.place.Place.{Place};
+ghost use Rattle.mt_model.specs.declared.rows.place.Row.{Row};
 
 /// The rows of a place, in rows that ascend, are in order for every fabric.
 pub fn rows_of_a_place_are_in_order()

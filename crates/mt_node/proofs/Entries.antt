@@ -3,8 +3,8 @@ use Rattle.std.proofs.Common.{◌≡◌, ℕ, zero, suc, ◌+◌, ◌<◌, ◌�
 use Rattle.std.specs.List.{AllWithin}
 use Rattle.std.specs.List.Sorted.{IsPartitionedBy, IsPartitionPoint}
 use Rattle.std.proofs.lemmas.Bool.{and_from, and_parts, leb-true, le-leb}
-use Rattle.mt_model.specs.Config.{ascend_from}
-use Rattle.mt_model.specs.declared.access.AclEntry.{AclEntry}
+use Rattle.mt_model.specs.texts.Config.{ascend_from}
+use Rattle.mt_model.specs.declared.tables.access.AclEntry.{AclEntry}
 
 -- whether an entry's fabric is lower than this, is this, and is not higher
 abbrev pub is_lower : ℕ → AclEntry → Bool

@@ -1,7 +1,7 @@
 -- Entries that ascend from 1 on ascend from 0 on.
 use Rattle.std.proofs.Common.{◌≡◌, true}
-use Rattle.mt_model.specs.Config.{ascend_from}
-use Rattle.mt_model.specs.declared.state.NodeState.{NodeState}
+use Rattle.mt_model.specs.texts.Config.{ascend_from}
+use Rattle.mt_model.specs.declared.node.state.NodeState.{NodeState}
 use Rattle.mt_machine.specs.State.{IsValid}
 use Rattle.mt_node.proofs.Entries.{ascending-drop}
 

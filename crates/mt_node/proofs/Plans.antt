@@ -1,11 +1,11 @@
 -- Plans where no step is made: an outcome that sets the time alone is the plan of an action with its reply.
 use Rattle.std.proofs.Common.{◌≡◌, ℕ, Bool, true, false, List, [], Option, None, Result, Ok, Err, IfOk, refl, ap, sym, ◌∙◌, if◌then◌else◌}
-use Rattle.mt_model.specs.declared.access.Actor.{Actor}
-use Rattle.mt_model.specs.declared.action.Action.{Action}
-use Rattle.mt_model.specs.declared.action.NodeStep.{NodeStep}
-use Rattle.mt_model.specs.declared.message.Reply.{Reply}
-use Rattle.mt_model.specs.declared.message.Request.{Request}
-use Rattle.mt_model.specs.declared.state.NodeState.{NodeState}
+use Rattle.mt_model.specs.declared.tables.access.Actor.{Actor}
+use Rattle.mt_model.specs.declared.node.action.Action.{Action}
+use Rattle.mt_model.specs.declared.node.action.NodeStep.{NodeStep}
+use Rattle.mt_model.specs.declared.messages.message.Reply.{Reply}
+use Rattle.mt_model.specs.declared.messages.message.Request.{Request}
+use Rattle.mt_model.specs.declared.node.state.NodeState.{NodeState}
 use Rattle.mt_machine.specs.Laws.{EndsNothing, MakesNoStep, SetsTheTime}
 use Rattle.mt_machine.specs.Observation.{observation}
 use Rattle.mt_machine.specs.Step.{is_late, reply_of, reply_to, session_asking, steps_in_time, steps_to}

@@ -2,11 +2,11 @@
 use Rattle.std.proofs.Common.{◌≡◌, ◌↔◌, ◌==◌, ℕ, false, Option, Some, None, refl}
 use Rattle.std.specs.List.{find}
 use Rattle.std.specs.Option.{option_and_then}
-use Rattle.mt_model.specs.declared.state.NodeSession.{NodeSession}
-use Rattle.mt_model.specs.declared.state.Standing.{Standing}
-use Rattle.mt_model.specs.declared.state.Standing.TheVariants.{Waits, Live, Ended}
+use Rattle.mt_model.specs.declared.node.state.NodeSession.{NodeSession}
+use Rattle.mt_model.specs.declared.node.state.Standing.{Standing}
+use Rattle.mt_model.specs.declared.node.state.Standing.TheVariants.{Waits, Live, Ended}
 use Rattle.mt_machine.specs.Step.{is_live, live_actor, session_actor}
-use Rattle.mt_model.specs.declared.state.NodeState.{NodeState}
+use Rattle.mt_model.specs.declared.node.state.NodeState.{NodeState}
 use Rattle.mt_node.specs.Sessions.{is_live_session, is_there_and_live}
 
 none_of : (session : NodeSession) (standing : Standing) → (live_actor session standing ≡ None) ↔ (is_live standing ≡ false)

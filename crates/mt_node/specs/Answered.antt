@@ -1,8 +1,8 @@
 -- What an answer is made of.
 use Rattle.std.specs.Prelude.{◌≡◌, ℕ, Option}
-use Rattle.mt_model.specs.declared.access.Actor.{Actor}
-use Rattle.mt_model.specs.declared.message.Request.{Request}
-use Rattle.mt_model.specs.declared.state.NodeState.{NodeState}
+use Rattle.mt_model.specs.declared.tables.access.Actor.{Actor}
+use Rattle.mt_model.specs.declared.messages.message.Request.{Request}
+use Rattle.mt_model.specs.declared.node.state.NodeState.{NodeState}
 use Rattle.mt_machine.specs.Observation.{observation}
 use Rattle.mt_machine.specs.Step.{reply_in_time, reply_to, steps_in_time, steps_to}
 use Rattle.mt_node.specs.declared.outcome.Answered.{Answered}

@@ -1,7 +1,7 @@
 -- What contracts see of a node.
-use Rattle.mt_model.specs.Contents.{Contents, contents_of}
-use Rattle.mt_model.specs.declared.config.Config.{Config}
-use Rattle.mt_model.specs.declared.state.NodeState.{NodeState}
+use Rattle.mt_model.specs.texts.Contents.{Contents, contents_of}
+use Rattle.mt_model.specs.declared.texts.config.Config.{Config}
+use Rattle.mt_model.specs.declared.node.state.NodeState.{NodeState}
 use Rattle.mt_machine.specs.Opened.{opened}
 
 -- Its state, and the configuration with which it was started. The configuration has all keys, and so it is no part of

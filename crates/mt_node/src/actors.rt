@@ -5,7 +5,7 @@ ghost use Rattle.std.specs.List.{find};
 ghost use Rattle.std.specs.Option.{option_and_then, option_map};
 ghost use Rattle.mt_machine.specs.Step.{asker, live_actor, pase_actor, plain_asker, session_actor};
 ghost use Rattle.mt_machine.specs.State.{is_among, is_member};
-ghost use Rattle.mt_model.specs.declared.state.NodeSession.{NodeSession};
+ghost use Rattle.mt_model.specs.declared.node.state.NodeSession.{NodeSession};
 ghost use Rattle.mt_node.specs.Sessions.{is_live_session};
 
 use mt_model::{Actor, Auth, Fabric, NodeSession, NodeState, Standing};

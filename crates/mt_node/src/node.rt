@@ -26,7 +26,7 @@ pub struct Node {
 }
 
 impl Model for Node {
-    ghost use Rattle.mt_model.specs.Contents.{contents_of};
+    ghost use Rattle.mt_model.specs.texts.Contents.{contents_of};
     ghost use Rattle.mt_machine.specs.State.{IsValid};
     ghost use Rattle.mt_node.specs.Kept.{Kept};
     ghost use Rattle.mt_tlv.specs.contracts.value.Value as values;

@@ -3,7 +3,7 @@
 ghost use Rattle.std.specs.Prelude.{◌≡◌, ◌==◌, ◌++◌, [], bytes_eq, IfOk, OnOk};
 ghost use Rattle.std.specs.List.{find, list_any};
 ghost use Rattle.mt_machine.specs.Opened.{first_version, live_or_waits, opened, session_of, sessions_of, standing_of, versions_at, versions_of_endpoint, with_root, with_roots_of};
-ghost use Rattle.mt_machine.specs.State.{has_identity};
+ghost use Rattle.mt_model.specs.texts.Config.{has_identity};
 
 use mt_meta::{clusters_of, endpoints, first_rows};
 use mt_model::{

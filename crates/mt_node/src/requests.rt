@@ -1,8 +1,8 @@
 //! The table of requests: which area answers each.
 
 ghost use Rattle.std.specs.Prelude.{◌≡◌, [], true, IfOk};
-ghost use Rattle.mt_model.specs.Status.{code_of};
-ghost use Rattle.mt_model.specs.declared.message.Reply.TheVariants.{Nothing};
+ghost use Rattle.mt_model.specs.messages.Status.{code_of};
+ghost use Rattle.mt_model.specs.declared.messages.message.Reply.TheVariants.{Nothing};
 ghost use Rattle.mt_machine.specs.Step.{is_built_request, refusal};
 ghost use Rattle.mt_node.specs.Answered.{IsAnswer};
 

@@ -1,10 +1,10 @@
 //! What of the node answers are made of.
 
 ghost use Rattle.std.specs.Prelude.{◌≡◌, ◌==◌, not, nat_le, nat_lt, filter, IfOk, IsTrue};
-ghost use Rattle.mt_model.specs.Config.{ascend_from};
-ghost use Rattle.mt_model.specs.Order.{are_ascending};
-ghost use Rattle.mt_model.specs.Sight.{stands_at, version_in};
-ghost use Rattle.mt_model.specs.declared.access.AclEntry.{AclEntry};
+ghost use Rattle.mt_model.specs.texts.Config.{ascend_from};
+ghost use Rattle.mt_model.specs.rows.Order.{are_ascending};
+ghost use Rattle.mt_model.specs.rows.Sight.{stands_at, version_in};
+ghost use Rattle.mt_model.specs.declared.tables.access.AclEntry.{AclEntry};
 ghost use Rattle.mt_apps.specs.Computed.{computed_rows};
 ghost use Rattle.mt_machine.specs.State.{parts, rows_of};
 

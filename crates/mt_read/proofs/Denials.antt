@@ -6,18 +6,18 @@ use Rattle.mt_acl.specs.Access.{implicit_grants, own_entry_grants}
 use Rattle.mt_meta.specs.Finding.{attribute_of, find_of, found, has_cluster, is_endpoint, of_found, privilege_of}
 use Rattle.mt_meta.specs.declared.finding.Asked.TheVariants.{Read}
 use Rattle.mt_meta.specs.declared.meta.Meta.{Meta}
-use Rattle.mt_model.specs.Blocks.{path_of}
-use Rattle.mt_model.specs.Seen.{Seen}
-use Rattle.mt_model.specs.Status.{code_of}
-use Rattle.mt_model.specs.declared.access.Actor.{Actor}
-use Rattle.mt_model.specs.declared.access.Privilege.{Privilege}
-use Rattle.mt_model.specs.declared.access.Privilege.TheVariants.{View}
-use Rattle.mt_model.specs.declared.message.Item.{Item}
-use Rattle.mt_model.specs.declared.message.Item.TheVariants.{Attribute, Refused, Event, EventRefused}
-use Rattle.mt_model.specs.declared.place.Place.{Place}
-use Rattle.mt_model.specs.declared.state.Version.{Version}
-use Rattle.mt_model.specs.declared.status.Status.{Status}
-use Rattle.mt_model.specs.declared.status.Status.TheVariants.{UnsupportedAccess, UnsupportedAttribute, UnsupportedCluster, UnsupportedEndpoint}
+use Rattle.mt_model.specs.messages.Blocks.{path_of}
+use Rattle.mt_model.specs.rows.Seen.{Seen}
+use Rattle.mt_model.specs.messages.Status.{code_of}
+use Rattle.mt_model.specs.declared.tables.access.Actor.{Actor}
+use Rattle.mt_model.specs.declared.tables.access.Privilege.{Privilege}
+use Rattle.mt_model.specs.declared.tables.access.Privilege.TheVariants.{View}
+use Rattle.mt_model.specs.declared.messages.message.Item.{Item}
+use Rattle.mt_model.specs.declared.messages.message.Item.TheVariants.{Attribute, Refused, Event, EventRefused}
+use Rattle.mt_model.specs.declared.rows.place.Place.{Place}
+use Rattle.mt_model.specs.declared.node.state.Version.{Version}
+use Rattle.mt_model.specs.declared.messages.status.Status.{Status}
+use Rattle.mt_model.specs.declared.messages.status.Status.TheVariants.{UnsupportedAccess, UnsupportedAttribute, UnsupportedCluster, UnsupportedEndpoint}
 use Rattle.mt_read.specs.Denials.{DeniesExactly, IsDenied, LeavesOutExactly}
 use Rattle.mt_read.specs.Reading.{concrete_items, data_items, found_items, granted_items, is_allowed, is_known, may_read, value_of, wildcard_items}
 

@@ -6,9 +6,9 @@ use Rattle.mt_tlv.specs.declared.value.Tag.{Tag}
 use Rattle.mt_tlv.specs.declared.value.Tag.TheVariants.{Anonymous}
 use Rattle.mt_tlv.specs.declared.value.Value.{Value}
 use Rattle.mt_read.specs.Reading.{items_of, wanted_rows}
-use Rattle.mt_model.specs.Sight.{bare_value, seen_by}
-use Rattle.mt_model.specs.declared.access.Actor.{Actor}
-use Rattle.mt_model.specs.declared.place.Row.{Row}
+use Rattle.mt_model.specs.rows.Sight.{bare_value, seen_by}
+use Rattle.mt_model.specs.declared.tables.access.Actor.{Actor}
+use Rattle.mt_model.specs.declared.rows.place.Row.{Row}
 
 fabric-seen : (fabric : ℕ) (row : Row) → (seen_by fabric row).fabric ≡ row.fabric
 fabric-seen fabric row = elim (row.fabric == fabric || row.fabric == 0) as (λ known. (if known then row else record row { value = bare_value row.place row.value }).fabric ≡ row.fabric) [ true ↦ refl | false ↦ refl ]

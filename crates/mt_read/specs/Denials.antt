@@ -5,13 +5,13 @@ use Rattle.mt_acl.specs.Access.{implicit_grants, own_entry_grants}
 use Rattle.mt_meta.specs.Finding.{find_of, privilege_of}
 use Rattle.mt_meta.specs.declared.finding.Asked.TheVariants.{Read}
 use Rattle.mt_meta.specs.declared.meta.Meta.{Meta}
-use Rattle.mt_model.specs.Blocks.{path_of}
-use Rattle.mt_model.specs.Seen.{Seen}
-use Rattle.mt_model.specs.declared.access.Actor.{Actor}
-use Rattle.mt_model.specs.declared.access.Privilege.{Privilege}
-use Rattle.mt_model.specs.declared.message.Item.TheVariants.{Refused}
-use Rattle.mt_model.specs.declared.place.Place.{Place}
-use Rattle.mt_model.specs.declared.state.Version.{Version}
+use Rattle.mt_model.specs.messages.Blocks.{path_of}
+use Rattle.mt_model.specs.rows.Seen.{Seen}
+use Rattle.mt_model.specs.declared.tables.access.Actor.{Actor}
+use Rattle.mt_model.specs.declared.tables.access.Privilege.{Privilege}
+use Rattle.mt_model.specs.declared.messages.message.Item.TheVariants.{Refused}
+use Rattle.mt_model.specs.declared.rows.place.Place.{Place}
+use Rattle.mt_model.specs.declared.node.state.Version.{Version}
 use Rattle.mt_read.specs.Reading.{concrete_items, is_known, wildcard_items}
 
 -- Neither the implicit entry nor an entry of the reader's own fabric grants what is asked of whoever reads there.

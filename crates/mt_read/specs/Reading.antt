@@ -13,19 +13,19 @@ use Rattle.mt_meta.specs.Places.{is_not_global, places}
 use Rattle.mt_meta.specs.declared.clusters.TheConstants.{OPERATIONAL_CREDENTIALS}
 use Rattle.mt_meta.specs.declared.finding.Asked.TheVariants.{Read}
 use Rattle.mt_meta.specs.declared.meta.Meta.{Meta}
-use Rattle.mt_model.specs.Blocks.{path_of}
-use Rattle.mt_model.specs.Seen.{Seen}
-use Rattle.mt_model.specs.Status.{code_of}
-use Rattle.mt_model.specs.declared.access.Actor.{Actor}
-use Rattle.mt_model.specs.declared.access.Privilege.{Privilege}
-use Rattle.mt_model.specs.declared.message.Item.{Item}
-use Rattle.mt_model.specs.declared.message.Item.TheVariants.{Attribute, Refused}
-use Rattle.mt_model.specs.declared.message.Path.{Path}
-use Rattle.mt_model.specs.declared.place.Place.{Place}
-use Rattle.mt_model.specs.declared.place.Row.{Row}
-use Rattle.mt_model.specs.declared.state.Version.{Version}
-use Rattle.mt_model.specs.declared.status.Status.{Status}
-use Rattle.mt_model.specs.declared.status.Status.TheVariants.{UnsupportedAccess}
+use Rattle.mt_model.specs.messages.Blocks.{path_of}
+use Rattle.mt_model.specs.rows.Seen.{Seen}
+use Rattle.mt_model.specs.messages.Status.{code_of}
+use Rattle.mt_model.specs.declared.tables.access.Actor.{Actor}
+use Rattle.mt_model.specs.declared.tables.access.Privilege.{Privilege}
+use Rattle.mt_model.specs.declared.messages.message.Item.{Item}
+use Rattle.mt_model.specs.declared.messages.message.Item.TheVariants.{Attribute, Refused}
+use Rattle.mt_model.specs.declared.messages.message.Path.{Path}
+use Rattle.mt_model.specs.declared.rows.place.Place.{Place}
+use Rattle.mt_model.specs.declared.rows.place.Row.{Row}
+use Rattle.mt_model.specs.declared.node.state.Version.{Version}
+use Rattle.mt_model.specs.declared.messages.status.Status.{Status}
+use Rattle.mt_model.specs.declared.messages.status.Status.TheVariants.{UnsupportedAccess}
 
 -- Access.
 

@@ -3,7 +3,7 @@
 ghost use Rattle.std.specs.Prelude.{◌≡◌, ◌↔◌, ◌++◌, None, Some, IfOk, OnOk, option_to_list};
 ghost use Rattle.std.specs.List.{flat_map, list_any};
 ghost use Rattle.mt_read.specs.Reading.{path_items, place_named, read_answer, wildcard_items};
-ghost use Rattle.mt_model.specs.Seen.{seen_as};
+ghost use Rattle.mt_model.specs.rows.Seen.{seen_as};
 ghost use Rattle.mt_meta.specs.Places.{is_not_global, places};
 
 use crate::items::{concrete_item, wildcard_item};

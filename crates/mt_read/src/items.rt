@@ -3,10 +3,10 @@
 ghost use Rattle.std.specs.Prelude.{◌≡◌, ◌==◌, ◌&&◌, IfOk, option_to_list};
 ghost use Rattle.std.specs.List.{list_any};
 ghost use Rattle.mt_read.specs.Reading.{concrete_items, data_items, may_read, wildcard_items};
-ghost use Rattle.mt_model.specs.Seen.{seen_as};
-ghost use Rattle.mt_model.specs.Blocks.{path_of};
-ghost use Rattle.mt_model.specs.Status.{code_of};
-ghost use Rattle.mt_model.specs.declared.state.Version.{Version};
+ghost use Rattle.mt_model.specs.rows.Seen.{seen_as};
+ghost use Rattle.mt_model.specs.messages.Blocks.{path_of};
+ghost use Rattle.mt_model.specs.messages.Status.{code_of};
+ghost use Rattle.mt_model.specs.declared.node.state.Version.{Version};
 
 use crate::values::value_at;
 use mt_acl::grants;

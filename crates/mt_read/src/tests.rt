@@ -19,7 +19,7 @@ struct Kept {
 
 impl Sight for Kept {
     ghost use Rattle.std.specs.Prelude.{[], ◌∷◌, filter};
-    ghost use Rattle.mt_model.specs.Sight.{stands_at};
+    ghost use Rattle.mt_model.specs.rows.Sight.{stands_at};
 
     ghost rows_of = { λ kept place. filter (stands_at place) kept.rows.items };
 
@@ -56,7 +56,7 @@ impl Sight for Kept {
 }
 
 ghost use Rattle.std.specs.Prelude.{◌≡◌};
-ghost use Rattle.mt_model.specs.Sight.{stands_at};
+ghost use Rattle.mt_model.specs.rows.Sight.{stands_at};
 
 fn stands_at(row: &Row, place: &Place) -> bool
     ensures { result ≡ stands_at place.now row.now }

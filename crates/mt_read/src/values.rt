@@ -2,9 +2,9 @@
 
 ghost use Rattle.std.specs.Prelude.{◌≡◌, ◌==◌, IfOk, filter, map};
 ghost use Rattle.mt_read.specs.Reading.{first_value, is_current_fabric, items_of, value_of, wanted_rows};
-ghost use Rattle.mt_model.specs.Seen.{seen_as};
-ghost use Rattle.mt_model.specs.Sight.{seen_by};
-ghost use Rattle.mt_model.specs.declared.place.Row.{Row};
+ghost use Rattle.mt_model.specs.rows.Seen.{seen_as};
+ghost use Rattle.mt_model.specs.rows.Sight.{seen_by};
+ghost use Rattle.mt_model.specs.declared.rows.place.Row.{Row};
 
 use mt_meta::Meta;
 use mt_meta::clusters::OPERATIONAL_CREDENTIALS;

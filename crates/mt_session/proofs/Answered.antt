@@ -10,7 +10,7 @@ use Rattle.mt_window.specs.Standing.{StandsFor}
 use Rattle.mt_window.specs.declared.window.Window.{Window}
 use Rattle.mt_window.specs.declared.window.Seen.{Seen}
 use Rattle.mt_window.specs.declared.window.Seen.TheVariants.{Fresh}
-use Rattle.mt_model.specs.declared.config.SessionRow.{SessionRow}
+use Rattle.mt_model.specs.declared.texts.config.SessionRow.{SessionRow}
 use Rattle.mt_session.specs.declared.opening.Dropped.TheVariants.{NotSealed, OtherSession, Source}
 use Rattle.mt_session.specs.Opening.{Arrival, addressed, framed, is_foreign, received, under_seal, unsealed, windowed}
 use Rattle.mt_session.specs.Sessions.{counters}

@@ -6,9 +6,9 @@ use Rattle.mt_ccm.specs.Ccm.{masked, masked_tag}
 use Rattle.mt_frame.specs.declared.header.MessageHeader.{MessageHeader}
 use Rattle.mt_frame.specs.declared.header.ProtocolHeader.{ProtocolHeader}
 use Rattle.mt_frame.specs.Writing.{message_bytes, protocol_bytes}
-use Rattle.mt_model.specs.declared.access.Auth.{Auth}
-use Rattle.mt_model.specs.declared.access.Auth.TheVariants.{Pase, Case, Group}
-use Rattle.mt_model.specs.declared.config.SessionRow.{SessionRow}
+use Rattle.mt_model.specs.declared.tables.access.Auth.{Auth}
+use Rattle.mt_model.specs.declared.tables.access.Auth.TheVariants.{Pase, Case, Group}
+use Rattle.mt_model.specs.declared.texts.config.SessionRow.{SessionRow}
 
 -- the node id that a nonce names: on CASE the sender's operational id, and on PASE none, which is 0
 abbrev pub nonce_node : Auth → ℕ → ℕ

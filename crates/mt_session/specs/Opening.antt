@@ -8,7 +8,7 @@ use Rattle.mt_frame.specs.Reading.{message_at, protocol_at}
 use Rattle.mt_window.specs.Counters.{seen}
 use Rattle.mt_window.specs.declared.window.Seen.{Seen}
 use Rattle.mt_window.specs.declared.window.Seen.TheVariants as window
-use Rattle.mt_model.specs.declared.config.SessionRow.{SessionRow}
+use Rattle.mt_model.specs.declared.texts.config.SessionRow.{SessionRow}
 use Rattle.mt_session.specs.declared.opening.Dropped.{Dropped}
 use Rattle.mt_session.specs.declared.opening.Dropped.TheVariants.{Frame, OtherSession, Source, NotSealed, Duplicate, Old}
 use Rattle.mt_session.specs.declared.opening.Opened.{Opened}

@@ -4,7 +4,7 @@ ghost use Rattle.std.specs.Prelude.{◌≡◌, ◌↔◌, ℕ, List, length, Som
 ghost use Rattle.mt_ccm.specs.Ccm.{Sealed};
 ghost use Rattle.mt_frame.specs.declared.header.ProtocolHeader.{ProtocolHeader};
 ghost use Rattle.mt_frame.specs.Writing.{IsMessage, IsProtocol};
-ghost use Rattle.mt_model.specs.declared.config.SessionRow.{SessionRow};
+ghost use Rattle.mt_model.specs.declared.texts.config.SessionRow.{SessionRow};
 ghost use Rattle.mt_window.specs.Counters.{seen};
 ghost use Rattle.mt_window.specs.declared.window.Seen.TheVariants.{Fresh};
 ghost use Rattle.mt_session.specs.Datagrams.{datagram, datagram_length, mirror, opened, sent_header};

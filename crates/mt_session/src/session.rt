@@ -1,8 +1,8 @@
 //! How a session begins, and its messages in and out.
 
 ghost use Rattle.std.specs.Prelude.{◌≡◌, ◌≢◌, ◌↔◌, ◌+◌, ◌^◌, ◌<◌, ◌≤◌, ℕ, List, [], ◌∷◌, ◌++◌, length, IfOk, IfErr, OnOk, IfSome, IfNone, OnErr};
-ghost use Rattle.mt_model.specs.declared.access.Auth.TheVariants.{Group};
-ghost use Rattle.mt_model.specs.declared.config.SessionRow.{SessionRow};
+ghost use Rattle.mt_model.specs.declared.tables.access.Auth.TheVariants.{Group};
+ghost use Rattle.mt_model.specs.declared.texts.config.SessionRow.{SessionRow};
 ghost use Rattle.mt_frame.specs.Reading.{protocol_at};
 ghost use Rattle.mt_session.specs.declared.fault.SealFault.TheVariants.{Memory};
 ghost use Rattle.mt_session.specs.Opening.{Arrival, arrived, received, framed as framed_as, is_foreign as is_foreign_to, is_other as is_other_than};

@@ -1,5 +1,5 @@
 ghost use Rattle.std.specs.Prelude.{◌≡◌, ◌≢◌, IfOk};
-ghost use Rattle.mt_model.specs.declared.access.Auth.TheVariants.{Group};
+ghost use Rattle.mt_model.specs.declared.tables.access.Auth.TheVariants.{Group};
 
 use super::*;
 use mt_frame::{FrameFault, ProtocolHeader};

@@ -5,9 +5,9 @@ use Rattle.std.proofs.lemmas.Bool.{lt-ltb}
 use Rattle.std.proofs.lemmas.List.{append-nil}
 use Rattle.mt_outside.specs.Laws.{StreamLaws}
 use Rattle.mt_outside.specs.Stream.{IsPrefix, ReadToEnd, Rose, Took, TookPart}
-use Rattle.mt_model.specs.declared.config.Config.{Config}
+use Rattle.mt_model.specs.declared.texts.config.Config.{Config}
 use Rattle.mt_model.specs.declared.limits.TheConstants.{CONFIGURATION_BYTES, RECORDING_BYTES}
-use Rattle.mt_model.specs.declared.recording.Event.{Event}
+use Rattle.mt_model.specs.declared.texts.recording.Event.{Event}
 use Rattle.mt_config.specs.Configuration.{IsConfiguration, configuration}
 use Rattle.mt_files.specs.Recording.{events_behind_head, recording_of}
 use Rattle.mt_files.specs.Lines.{lines_of}

@@ -4,11 +4,11 @@ use Rattle.std.specs.List.{list_any}
 use Rattle.std.specs.Global.{Vec}
 use Rattle.std.specs.Option.{option_map}
 use Rattle.mt_outside.specs.Stream.{IsPrefix, ReadToEnd, Rose, Took, TookPart}
-use Rattle.mt_model.specs.declared.config.Config.{Config}
+use Rattle.mt_model.specs.declared.texts.config.Config.{Config}
 use Rattle.mt_model.specs.declared.limits.TheConstants.{CONFIGURATION_BYTES, RECORDING_BYTES}
-use Rattle.mt_model.specs.declared.recording.Event.{Event}
+use Rattle.mt_model.specs.declared.texts.recording.Event.{Event}
 use Rattle.mt_config.specs.Configuration.{IsConfiguration, configuration}
-use Rattle.mt_model.specs.Contents.{Contents}
+use Rattle.mt_model.specs.texts.Contents.{Contents}
 use Rattle.mt_files.specs.Output.{output_text}
 use Rattle.mt_files.specs.Recording.{recording_of}
 use Rattle.mt_config.specs.declared.configuration.ConfigField.{ConfigField}

@@ -4,15 +4,15 @@ use Rattle.std.specs.List.{list_any}
 use Rattle.mt_im.specs.Reading.{Gives, request_in}
 use Rattle.mt_im.specs.declared.fault.ImFault.{ImFault}
 use Rattle.mt_im.specs.declared.fault.ImFault.TheVariants as faults
-use Rattle.mt_model.specs.Status.{code_of}
-use Rattle.mt_model.specs.declared.access.Actor.{Actor}
-use Rattle.mt_model.specs.declared.action.Action.TheVariants.{Ask, Nothing}
-use Rattle.mt_model.specs.declared.action.PlainDeadline.{PlainDeadline}
-use Rattle.mt_model.specs.declared.message.Reply.{Reply}
-use Rattle.mt_model.specs.declared.message.Request.{Request}
-use Rattle.mt_model.specs.declared.recording.Event.{Event}
-use Rattle.mt_model.specs.declared.recording.Event.TheVariants as events
-use Rattle.mt_model.specs.declared.status.Status.TheVariants.{Busy}
+use Rattle.mt_model.specs.messages.Status.{code_of}
+use Rattle.mt_model.specs.declared.tables.access.Actor.{Actor}
+use Rattle.mt_model.specs.declared.node.action.Action.TheVariants.{Ask, Nothing}
+use Rattle.mt_model.specs.declared.node.action.PlainDeadline.{PlainDeadline}
+use Rattle.mt_model.specs.declared.messages.message.Reply.{Reply}
+use Rattle.mt_model.specs.declared.messages.message.Request.{Request}
+use Rattle.mt_model.specs.declared.texts.recording.Event.{Event}
+use Rattle.mt_model.specs.declared.texts.recording.Event.TheVariants as events
+use Rattle.mt_model.specs.declared.messages.status.Status.TheVariants.{Busy}
 use Rattle.mt_machine.specs.Lines.{action_of, deadline_for, deadline_of, deadlines_after, fault_reply, is_built, is_built_payload, is_deadline_of, is_refused, line_actor, next, next_for, sent, sent_as, sent_for, sent_to, with_deadline, without}
 use Rattle.mt_machine.specs.State.{State}
 use Rattle.mt_machine.specs.Step.{after_action, asked_steps, asker, refusal}

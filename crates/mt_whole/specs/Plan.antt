@@ -2,12 +2,12 @@
 use Rattle.std.specs.Prelude.{◌≡◌, ℕ, Bool, true, false, List, [], Option, Some, None, Result, Ok, Err, filter, length, unwrap_or}
 use Rattle.mt_im.specs.declared.fault.ImFault.{ImFault}
 use Rattle.mt_im.specs.declared.fault.ImFault.TheVariants as faults
-use Rattle.mt_model.specs.declared.access.Actor.{Actor}
-use Rattle.mt_model.specs.declared.action.PlainDeadline.{PlainDeadline}
-use Rattle.mt_model.specs.declared.message.Request.{Request}
-use Rattle.mt_model.specs.declared.recording.Event.{Event}
+use Rattle.mt_model.specs.declared.tables.access.Actor.{Actor}
+use Rattle.mt_model.specs.declared.node.action.PlainDeadline.{PlainDeadline}
+use Rattle.mt_model.specs.declared.messages.message.Request.{Request}
+use Rattle.mt_model.specs.declared.texts.recording.Event.{Event}
 use Rattle.mt_node.specs.Plan.{IsPlan, IsPlanned, applied}
-use Rattle.mt_model.specs.declared.action.Action.TheVariants.{Nothing}
+use Rattle.mt_model.specs.declared.node.action.Action.TheVariants.{Nothing}
 use Rattle.mt_machine.specs.Isolation.{is_deadline_in}
 use Rattle.mt_machine.specs.Lines.{is_built, next, next_for, sent, sent_for, without}
 use Rattle.mt_machine.specs.State.{State}

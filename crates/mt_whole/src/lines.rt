@@ -3,8 +3,8 @@
 ghost use Rattle.std.specs.Prelude.{◌≡◌, Err, Ok, true, IfOk, if◌then◌else◌, unwrap_or};
 ghost use Rattle.mt_machine.specs.Lines.{fault_reply, is_built_payload, is_refused, line_actor, sent_as, with_deadline};
 ghost use Rattle.mt_machine.specs.Step.{is_built_request, refusal};
-ghost use Rattle.mt_model.specs.Status.{code_of};
-ghost use Rattle.mt_model.specs.declared.status.Status.TheVariants.{Busy};
+ghost use Rattle.mt_model.specs.messages.Status.{code_of};
+ghost use Rattle.mt_model.specs.declared.messages.status.Status.TheVariants.{Busy};
 ghost use Rattle.mt_whole.specs.Plan.{IsLine, IsLineFor, IsQuiet};
 
 use crate::deadlines::{deadline_of, is_refused, next_deadlines};

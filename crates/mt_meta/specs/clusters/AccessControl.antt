@@ -1,6 +1,6 @@
 -- Access Control. The entries of the list are a part of the state of their own, from which the list is computed.
 use Rattle.std.specs.Prelude.{ℕ, List, [], ◌∷◌}
-use Rattle.mt_model.specs.declared.access.Privilege.TheVariants.{Administer}
+use Rattle.mt_model.specs.declared.tables.access.Privilege.TheVariants.{Administer}
 use Rattle.mt_model.specs.declared.limits.TheConstants.{ENTRIES}
 use Rattle.mt_meta.specs.declared.meta.Kind.TheVariants as kinds
 use Rattle.mt_meta.specs.declared.rows.AttributeRow.{AttributeRow}

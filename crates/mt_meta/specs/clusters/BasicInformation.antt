@@ -1,6 +1,6 @@
 -- Basic Information: the node's own data.
 use Rattle.std.specs.Prelude.{ℕ, List, [], ◌∷◌}
-use Rattle.mt_model.specs.declared.access.Privilege.TheVariants.{View, Manage, Administer}
+use Rattle.mt_model.specs.declared.tables.access.Privilege.TheVariants.{View, Manage, Administer}
 use Rattle.mt_meta.specs.declared.meta.Kind.TheVariants as kinds
 use Rattle.mt_meta.specs.declared.rows.AttributeRow.{AttributeRow}
 use Rattle.mt_meta.specs.declared.rows.EventRow.{EventRow}

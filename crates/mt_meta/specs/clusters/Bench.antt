@@ -1,6 +1,6 @@
 -- Bench, a cluster of this project: a list in which each fabric has items of its own, and a number.
 use Rattle.std.specs.Prelude.{ℕ, List, [], ◌∷◌}
-use Rattle.mt_model.specs.declared.access.Privilege.TheVariants.{View, Operate}
+use Rattle.mt_model.specs.declared.tables.access.Privilege.TheVariants.{View, Operate}
 use Rattle.mt_model.specs.declared.limits.TheConstants.{LIST_ITEMS}
 use Rattle.mt_meta.specs.declared.meta.Kind.TheVariants as kinds
 use Rattle.mt_meta.specs.declared.rows.AttributeRow.{AttributeRow}

@@ -1,6 +1,6 @@
 -- On/Off.
 use Rattle.std.specs.Prelude.{ℕ, List, [], ◌∷◌, false}
-use Rattle.mt_model.specs.declared.access.Privilege.TheVariants.{Operate}
+use Rattle.mt_model.specs.declared.tables.access.Privilege.TheVariants.{Operate}
 use Rattle.mt_meta.specs.declared.meta.Kind.TheVariants as kinds
 use Rattle.mt_meta.specs.declared.rows.AttributeRow.{AttributeRow}
 use Rattle.mt_meta.specs.declared.rows.CommandRow.{CommandRow}

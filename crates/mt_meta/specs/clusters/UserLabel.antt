@@ -1,6 +1,6 @@
 -- User Label.
 use Rattle.std.specs.Prelude.{ℕ, List, [], ◌∷◌}
-use Rattle.mt_model.specs.declared.access.Privilege.TheVariants.{Manage}
+use Rattle.mt_model.specs.declared.tables.access.Privilege.TheVariants.{Manage}
 use Rattle.mt_model.specs.declared.limits.TheConstants.{LIST_ITEMS}
 use Rattle.mt_meta.specs.declared.meta.Kind.TheVariants as kinds
 use Rattle.mt_meta.specs.declared.rows.AttributeRow.{AttributeRow}

@@ -1,8 +1,8 @@
 use Rattle.std.proofs.Common.{IsTrue, List, map, sym, ap, ◌∙◌, subst}
 use Rattle.mt_apps.specs.AccessControl.{entry_row}
-use Rattle.mt_model.specs.Entries.{entry_value}
-use Rattle.mt_model.specs.Order.{are_ascending}
-use Rattle.mt_model.specs.declared.place.Row.{Row}
+use Rattle.mt_model.specs.tables.Entries.{entry_value}
+use Rattle.mt_model.specs.rows.Order.{are_ascending}
+use Rattle.mt_model.specs.declared.rows.place.Row.{Row}
 use Rattle.mt_apps.proofs.access_control.acl_rows.Goals as goal
 
 pub from_vec-requires : goal.from_vec-requires

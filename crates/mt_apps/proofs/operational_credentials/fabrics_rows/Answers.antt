@@ -1,7 +1,7 @@
 use Rattle.std.proofs.Common.{IsTrue, List, map, sym, ap, ◌∙◌, subst}
 use Rattle.mt_apps.specs.OperationalCredentials.{fabric_row, fabric_value}
-use Rattle.mt_model.specs.Order.{are_ascending}
-use Rattle.mt_model.specs.declared.place.Row.{Row}
+use Rattle.mt_model.specs.rows.Order.{are_ascending}
+use Rattle.mt_model.specs.declared.rows.place.Row.{Row}
 use Rattle.mt_apps.proofs.operational_credentials.fabrics_rows.Goals as goal
 
 pub from_vec-requires : goal.from_vec-requires

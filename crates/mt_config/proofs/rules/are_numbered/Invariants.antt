@@ -1,5 +1,5 @@
 use Rattle.std.proofs.Common.{◌≡◌, ◌+◌, drop}
-use Rattle.mt_model.specs.Config.{are_numbered_from}
+use Rattle.mt_model.specs.texts.Config.{are_numbered_from}
 use Rattle.mt_config.proofs.rules.are_numbered.Given as goal
 
 abbrev pub invariant-loop-place : goal.invariant-loop-place

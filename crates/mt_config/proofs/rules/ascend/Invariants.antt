@@ -1,5 +1,5 @@
 use Rattle.std.proofs.Common.{◌≡◌, drop}
-use Rattle.mt_model.specs.Config.{ascend_from}
+use Rattle.mt_model.specs.texts.Config.{ascend_from}
 use Rattle.mt_config.proofs.rules.ascend.Given as goal
 
 abbrev pub invariant-loop-entry : goal.invariant-loop-entry

@@ -1,5 +1,5 @@
 use Rattle.std.proofs.Common.{◌≡◌, drop}
-use Rattle.mt_model.specs.Config.{have_one_label, none_alike}
+use Rattle.mt_model.specs.texts.Config.{have_one_label, none_alike}
 use Rattle.mt_config.proofs.rules.labels_differ.Given as goal
 
 abbrev pub invariant-loop-place : goal.invariant-loop-place

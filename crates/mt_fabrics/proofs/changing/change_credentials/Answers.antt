@@ -1,5 +1,5 @@
 use Rattle.std.proofs.Common.{ap, ◌∙◌, get_or, slice_set}
-use Rattle.mt_model.specs.declared.fabric.Credentials.{Credentials}
+use Rattle.mt_model.specs.declared.tables.fabric.Credentials.{Credentials}
 use Rattle.mt_fabrics.specs.Table.{with_credentials}
 use Rattle.mt_fabrics.proofs.changing.change_credentials.Goals as goal
 

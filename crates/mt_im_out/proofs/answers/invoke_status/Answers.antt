@@ -3,7 +3,7 @@ use Rattle.std.proofs.lemmas.Grind.{common_steps}
 use Rattle.mt_tlv.specs.declared.value.Tag.TheVariants.{Anonymous, Context}
 use Rattle.mt_tlv.specs.Narrow.{narrow, narrow_elements, length_and_value, opening, end_of_container}
 use Rattle.mt_tlv.specs.Tree.{bool, none, more}
-use Rattle.mt_model.specs.Blocks.{status_tree}
+use Rattle.mt_model.specs.messages.Blocks.{status_tree}
 use Rattle.mt_im.specs.Requests.{revision, command_path_tree}
 use Rattle.mt_im_out.specs.declared.opcodes.TheConstants.{INVOKE_RESPONSE}
 use Rattle.mt_im_out.specs.Messages.{command_status_tree, invoke_response_tree}

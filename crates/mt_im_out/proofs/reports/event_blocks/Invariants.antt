@@ -1,6 +1,6 @@
 use Rattle.std.proofs.Common.{◌≡◌, ◌++◌, drop}
 use Rattle.mt_tlv.specs.Narrow.{narrow_elements}
-use Rattle.mt_model.specs.Blocks.{item_tree}
+use Rattle.mt_model.specs.messages.Blocks.{item_tree}
 use Rattle.mt_im.specs.Requests.{blocks}
 use Rattle.mt_im_out.specs.Chunks.{event_items}
 use Rattle.mt_im_out.proofs.reports.event_blocks.Given as goal

@@ -1,6 +1,6 @@
 use Rattle.std.proofs.Common.{◌≡◌, List, [], IfOk, subst, ap, ◌∙◌, arith}
 use Rattle.std.proofs.lemmas.Grind.{common_steps}
-use Rattle.mt_model.specs.declared.message.Payload.{Payload}
+use Rattle.mt_model.specs.declared.messages.message.Payload.{Payload}
 use Rattle.mt_im_out.specs.Chunks.{event_items, parts_of, report_payloads}
 use Rattle.mt_im_out.specs.Packing.{packed, put_attributes, finished}
 use Rattle.mt_im_out.proofs.Bodies.{bytes_of}

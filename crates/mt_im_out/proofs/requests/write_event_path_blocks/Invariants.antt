@@ -1,6 +1,6 @@
 use Rattle.std.proofs.Common.{◌≡◌, ◌++◌, drop}
 use Rattle.mt_tlv.specs.Narrow.{narrow_elements}
-use Rattle.mt_model.specs.Blocks.{event_path_tree}
+use Rattle.mt_model.specs.messages.Blocks.{event_path_tree}
 use Rattle.mt_im.specs.Requests.{blocks}
 use Rattle.mt_im_out.proofs.requests.write_event_path_blocks.Given as goal
 

@@ -2,7 +2,7 @@ use Rattle.std.proofs.Common.{◌≡◌, ℕ, List, [], ◌∷◌, ◌++◌, OnO
 use Rattle.mt_tlv.specs.declared.value.Tag.TheVariants.{Context}
 use Rattle.mt_tlv.specs.Narrow.{narrow, narrow_elements, end_of_container}
 use Rattle.mt_tlv.specs.Tree.{bool, none}
-use Rattle.mt_model.specs.Blocks.{path_tree, event_path_tree}
+use Rattle.mt_model.specs.messages.Blocks.{path_tree, event_path_tree}
 use Rattle.mt_im.specs.Requests.{optional_blocks, event_filter_tree, event_filters, version_filter_tree, revision}
 use Rattle.mt_im_out.proofs.Tails.{asked_behind}
 use Rattle.mt_im_out.proofs.requests.write_subscribed.Goals as goal

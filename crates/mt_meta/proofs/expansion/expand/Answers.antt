@@ -1,5 +1,5 @@
 use Rattle.std.proofs.Common.{List, IsOk, All, sym, ◌∙◌, subst}
-use Rattle.mt_model.specs.declared.place.Place.{Place}
+use Rattle.mt_model.specs.declared.rows.place.Place.{Place}
 use Rattle.mt_meta.specs.Finding.{find_of}
 use Rattle.mt_meta.proofs.TableFacts.{named-found}
 use Rattle.mt_meta.proofs.expansion.expand.Goals as goal

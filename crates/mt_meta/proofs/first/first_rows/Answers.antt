@@ -1,6 +1,6 @@
 use Rattle.std.proofs.Common.{sym, subst, IsTrue, List}
-use Rattle.mt_model.specs.Order.{are_ascending}
-use Rattle.mt_model.specs.declared.place.Row.{Row}
+use Rattle.mt_model.specs.rows.Order.{are_ascending}
+use Rattle.mt_model.specs.declared.rows.place.Row.{Row}
 use Rattle.mt_meta.proofs.FirstFacts.{first-ascend}
 use Rattle.mt_meta.proofs.first.first_rows.Goals as goal
 

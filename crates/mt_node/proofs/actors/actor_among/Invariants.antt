@@ -1,6 +1,6 @@
 use Rattle.std.proofs.Common.{◌≡◌, ◌==◌, drop}
 use Rattle.std.specs.List.{find}
-use Rattle.mt_model.specs.declared.state.NodeSession.{NodeSession}
+use Rattle.mt_model.specs.declared.node.state.NodeSession.{NodeSession}
 use Rattle.mt_node.proofs.actors.actor_among.Given as goal
 
 -- the sessions that were looked at have other ids

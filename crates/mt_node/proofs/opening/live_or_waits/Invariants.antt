@@ -1,6 +1,6 @@
 use Rattle.std.proofs.Common.{◌≡◌, drop}
 use Rattle.std.specs.List.{find}
-use Rattle.mt_machine.specs.State.{has_identity}
+use Rattle.mt_model.specs.texts.Config.{has_identity}
 use Rattle.mt_node.proofs.opening.live_or_waits.Given as goal
 
 -- the fabrics that were looked at have other identities

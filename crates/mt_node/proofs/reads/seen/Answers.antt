@@ -1,6 +1,6 @@
 use Rattle.std.proofs.Common.{◌≡◌, Some, subst}
 use Rattle.std.specs.Result.{IfOk}
-use Rattle.mt_model.specs.Seen.{Seen}
+use Rattle.mt_model.specs.rows.Seen.{Seen}
 use Rattle.mt_read.specs.Reading.{read_answer}
 use Rattle.mt_machine.specs.State.{IsValid}
 use Rattle.mt_node.specs.Kept.{Kept}

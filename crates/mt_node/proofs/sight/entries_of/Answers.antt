@@ -1,8 +1,8 @@
 use Rattle.std.proofs.Common.{◌≡◌, ◌-◌, List, true, length, take, drop, sym, subst, length-drop, arith, rules}
 use Rattle.std.proofs.lemmas.List.{take_all}
 use Rattle.std.proofs.lemmas.List.Sorted.{IsPartitionPoint-from_clause}
-use Rattle.mt_model.specs.Config.{ascend_from}
-use Rattle.mt_model.specs.declared.access.AclEntry.{AclEntry}
+use Rattle.mt_model.specs.texts.Config.{ascend_from}
+use Rattle.mt_model.specs.declared.tables.access.AclEntry.{AclEntry}
 use Rattle.mt_node.proofs.Entries.{ascending-drop, fabric_rest, is_lower, is_no_higher, lower_parts, no_higher_parts}
 use Rattle.mt_node.proofs.sight.entries_of.Goals as goal
 

@@ -1,5 +1,5 @@
 use Rattle.std.proofs.Common.{◌≡◌, drop}
-use Rattle.mt_model.specs.Sight.{version_in}
+use Rattle.mt_model.specs.rows.Sight.{version_in}
 use Rattle.mt_node.proofs.sight.version_among.Given as goal
 
 -- the versions that were looked at are of other clusters

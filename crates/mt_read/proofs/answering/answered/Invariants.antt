@@ -1,7 +1,7 @@
 use Rattle.std.proofs.Common.{◌≡◌, ◌++◌, drop}
 use Rattle.std.specs.List.{flat_map}
 use Rattle.mt_read.specs.Reading.{path_items}
-use Rattle.mt_model.specs.Seen.{seen_as}
+use Rattle.mt_model.specs.rows.Seen.{seen_as}
 use Rattle.mt_read.proofs.answering.answered.Given as goal
 
 -- the items so far and those of the paths to come are the items of all paths

@@ -1,6 +1,6 @@
 use Rattle.std.proofs.Common.{◌≡◌, ◌++◌, drop}
 use Rattle.std.specs.List.{flat_map}
-use Rattle.mt_model.specs.Seen.{seen_as}
+use Rattle.mt_model.specs.rows.Seen.{seen_as}
 use Rattle.mt_read.specs.Reading.{wildcard_items}
 use Rattle.mt_read.proofs.answering.push_places.Given as goal
 

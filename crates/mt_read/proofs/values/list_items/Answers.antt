@@ -1,7 +1,7 @@
 use Rattle.std.proofs.Common.{◌≡◌, ◌∙◌, IfOk, List, ap, map, subst}
 use Rattle.mt_read.specs.Reading.{items_of, wanted_rows}
-use Rattle.mt_model.specs.Sight.{seen_by}
-use Rattle.mt_model.specs.declared.place.Row.{Row}
+use Rattle.mt_model.specs.rows.Sight.{seen_by}
+use Rattle.mt_model.specs.declared.rows.place.Row.{Row}
 use Rattle.mt_read.proofs.SeenRows.{wanted-seen}
 use Rattle.mt_read.proofs.values.list_items.Goals as goal
 

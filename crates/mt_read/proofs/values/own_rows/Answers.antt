@@ -1,6 +1,6 @@
 use Rattle.std.proofs.Common.{◌==◌, ◌∙◌, List, ap, filter, rules}
 use Rattle.std.proofs.lemmas.Fn.{filter_same}
-use Rattle.mt_model.specs.declared.place.Row.{Row}
+use Rattle.mt_model.specs.declared.rows.place.Row.{Row}
 use Rattle.mt_read.proofs.values.own_rows.Goals as goal
 
 pub returns : goal.returns

@@ -4,7 +4,7 @@ use Rattle.std.proofs.lemmas.List.{drop_at, take_at}
 use Rattle.mt_frame.specs.declared.header.ProtocolHeader.{ProtocolHeader}
 use Rattle.mt_frame.specs.Reading.{message_at, protocol_at}
 use Rattle.mt_frame.specs.Writing.{message_bytes, protocol_bytes}
-use Rattle.mt_model.specs.declared.config.SessionRow.{SessionRow}
+use Rattle.mt_model.specs.declared.texts.config.SessionRow.{SessionRow}
 use Rattle.mt_window.specs.Counters.{seen}
 use Rattle.mt_window.specs.declared.window.Seen.TheVariants.{Fresh}
 use Rattle.mt_session.specs.Datagrams.{datagram, mirror, nonce, nonce_node, opened, sealed, sent_header}

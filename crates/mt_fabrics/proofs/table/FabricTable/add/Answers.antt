@@ -1,9 +1,10 @@
 use Rattle.std.proofs.Common.{◌≡◌, ◌<◌, List, false, length, subst, sym, rules}
 use Rattle.std.specs.List.{list_any}
-use Rattle.mt_model.specs.declared.fabric.Fabric.{Fabric}
+use Rattle.mt_model.specs.declared.tables.fabric.Fabric.{Fabric}
 use Rattle.mt_fabrics.proofs.Gaps.{is_least}
 use Rattle.mt_fabrics.proofs.Tables.{added_table}
-use Rattle.mt_fabrics.specs.Table.{IsLeastUnused, IsTable, added, has_identity, has_label, least_unused}
+use Rattle.mt_fabrics.specs.Table.{IsLeastUnused, IsTable, added, has_label, least_unused}
+use Rattle.mt_model.specs.texts.Config.{has_identity}
 use Rattle.mt_fabrics.proofs.table.FabricTable.add.Goals as goal
 
 pub invariant_of-self : goal.invariant_of-self

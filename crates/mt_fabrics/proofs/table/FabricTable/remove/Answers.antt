@@ -1,5 +1,5 @@
 use Rattle.std.proofs.Common.{◌≡◌, List, subst, sym, rules}
-use Rattle.mt_model.specs.declared.fabric.Fabric.{Fabric}
+use Rattle.mt_model.specs.declared.tables.fabric.Fabric.{Fabric}
 use Rattle.mt_fabrics.proofs.Tables.{removed_table}
 use Rattle.mt_fabrics.specs.Table.{IsTable, removed}
 use Rattle.mt_fabrics.proofs.table.FabricTable.remove.Goals as goal

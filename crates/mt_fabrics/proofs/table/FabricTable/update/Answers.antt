@@ -1,7 +1,7 @@
 use Rattle.std.proofs.Common.{◌≡◌, List, false, subst, sym, arith, rules}
 use Rattle.std.proofs.lemmas.Grind.{common_steps}
 use Rattle.std.specs.List.{list_any}
-use Rattle.mt_model.specs.declared.fabric.Fabric.{Fabric}
+use Rattle.mt_model.specs.declared.tables.fabric.Fabric.{Fabric}
 use Rattle.mt_fabrics.proofs.Tables.{updated_table}
 use Rattle.mt_fabrics.specs.Table.{IsTable, has_others_identity, updated}
 use Rattle.mt_fabrics.proofs.table.FabricTable.update.Goals as goal

@@ -1,6 +1,6 @@
 use Rattle.std.proofs.Common.{None, refl, ap, ◌∙◌}
-use Rattle.mt_model.specs.declared.action.Action.TheVariants.{Nothing}
-use Rattle.mt_model.specs.declared.message.Reply.TheVariants as replies
+use Rattle.mt_model.specs.declared.node.action.Action.TheVariants.{Nothing}
+use Rattle.mt_model.specs.declared.messages.message.Reply.TheVariants as replies
 use Rattle.mt_node.specs.declared.outcome.Answered.{Answered}
 use Rattle.mt_node.specs.declared.outcome.Outcome.{Outcome}
 use Rattle.mt_node.proofs.Plans.{plan_of}

@@ -1,5 +1,5 @@
 use Rattle.std.proofs.Common.{◌≡◌, ◌++◌, drop, filter}
-use Rattle.mt_model.specs.Sight.{stands_at}
+use Rattle.mt_model.specs.rows.Sight.{stands_at}
 use Rattle.mt_read.proofs.tests.KeptSight.rows_at.Given as goal
 
 -- the rows so far and those to come are all that stand at the place

@@ -1,0 +1,4 @@
+pub mod Devices
+pub mod Order
+pub mod Seen
+pub mod Sight

@@ -1,0 +1,4 @@
+pub mod Config
+pub mod Contents
+pub mod Events
+pub mod Verdicts

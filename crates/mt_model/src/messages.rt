@@ -1,0 +1,5 @@
+//! Requests, replies and their parts, sizes on the way out, statuses.
+
+pub(crate) mod message;
+pub(crate) mod size;
+pub(crate) mod status;

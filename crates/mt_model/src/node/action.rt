@@ -1,0 +1,83 @@
+//! What the node is asked to do, and what an answer makes of it, as data.
+
+ghost use Rattle.std.specs.Prelude.{◌≡◌};
+
+use crate::listed::Listed;
+use crate::messages::message::Request;
+use crate::rows::place::Place;
+use crate::tables::access::{AclEntries, Actor};
+use mt_tlv::{Bytes, Value};
+
+/// Ids of sessions, as the node gave them.
+pub type SessionIds = Listed<u16>;
+
+/// What the node is to do.
+#[derive(Drop)]
+pub enum Action {
+    /// To answer a request.
+    Ask {
+        /// Who asks, as the request's way tells.
+        actor: Actor,
+        request: Request,
+        /// Until when the request must have come, in ms, where a timed request went before it.
+        timed: Option<u64>,
+    },
+    /// To see what time it is.
+    Nothing,
+}
+
+/// The values of rows of one place, in their order.
+pub type Values = Listed<Value>;
+
+/// What an answer makes of the node. A step carries nothing that whoever asks doesn't observe: so the
+/// steps on networks name one network and never the whole list, since secrets are in no observation.
+#[derive(Drop)]
+pub enum NodeStep {
+    /// At this place, the rows of this fabric (0 where the attribute is not scoped) are these.
+    SetRow {
+        place: Place,
+        fabric: u8,
+        values: Values,
+    },
+    /// The access control entries of this fabric are these.
+    SetEntries {
+        fabric: u8,
+        entries: AclEntries,
+    },
+    /// The network of this id has this secret: one that is there keeps its place and whether it is
+    /// connected, a new one stands last.
+    PutNetwork {
+        id: Bytes,
+        secret: Bytes,
+    },
+    /// The network of this id goes.
+    RemoveNetwork {
+        id: Bytes,
+    },
+    /// The network of this id is connected, and no other.
+    ConnectNetwork {
+        id: Bytes,
+    },
+    /// The network of this id stands at this place among the networks, from 0.
+    MoveNetwork {
+        id: Bytes,
+        index: u8,
+    },
+}
+
+/// Steps, in the order in which they are made.
+pub type Steps = Listed<NodeStep>;
+
+/// Until when the next request of a plain actor must come. An actor is a fabric (0 for a PASE session
+/// that has none), a node and its CATs together.
+#[derive(Clone, Copy, Debug, PartialEq, Eq)]
+pub struct PlainDeadline {
+    pub fabric: u8,
+    pub node: u64,
+    pub cats: [u32; 3],
+    /// The latest time, in ms.
+    pub until: u64,
+}
+
+/// The deadlines of plain actors, each actor's once.
+pub type PlainDeadlines = Listed<PlainDeadline>;

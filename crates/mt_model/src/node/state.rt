@@ -1,0 +1,114 @@
+//! What the node keeps.
+
+ghost use Rattle.std.specs.Prelude.{◌≡◌};
+
+use crate::listed::{ExactCopy, Listed};
+use crate::rows::place::{Place, Rows};
+use crate::tables::access::{AclEntries, Auth};
+use crate::tables::fabric::Fabrics;
+use crate::tables::network::{Armed, Networks, Roots};
+use mt_tlv::Bytes;
+use std::alloc::AllocError;
+
+/// The data version of a cluster on an endpoint.
+#[derive(Clone, Copy, Debug, PartialEq, Eq)]
+pub struct Version {
+    pub endpoint: u16,
+    pub cluster: u32,
+    pub version: u32,
+}
+
+impl ExactCopy for Version {
+    fn copy(&self) -> Result<Version, AllocError> {
+        Ok(*self)
+    }
+}
+
+/// The data versions, by ascending endpoint and cluster.
+pub type Versions = Listed<Version>;
+
+/// When an attribute's value last changed, as the count of the node's changes.
+#[derive(Clone, Copy, Debug, PartialEq, Eq)]
+pub struct ChangeNumber {
+    pub place: Place,
+    pub number: u64,
+}
+
+impl ExactCopy for ChangeNumber {
+    fn copy(&self) -> Result<ChangeNumber, AllocError> {
+        Ok(*self)
+    }
+}
+
+/// The change numbers of attributes, in the order of their places. An attribute that never changed
+/// since the start has none.
+pub type ChangeNumbers = Listed<ChangeNumber>;
+
+/// How a session of the present boot stands.
+#[derive(Clone, Copy, Debug, PartialEq, Eq)]
+pub enum Standing {
+    /// No fabric of its identity is in the table yet.
+    Waits,
+    /// It may be used, by this fabric; 0 over PASE that has no fabric yet.
+    Live(u8),
+    /// It has ended, for this boot.
+    Ended,
+}
+
+/// A session of the present boot, as far as the node's answers depend on it.
+#[derive(Drop)]
+pub struct NodeSession {
+    /// The node's id of the session.
+    pub session: u16,
+    pub auth: Auth,
+    /// The identity of the fabric of a CASE session; no bytes and 0 on PASE.
+    pub root_key: Bytes,
+    pub fabric_id: u64,
+    pub peer_node: u64,
+    /// The peer's CATs; 0 stands for none.
+    pub cats: [u32; 3],
+    pub standing: Standing,
+}
+
+impl ExactCopy for NodeSession {
+    fn copy(&self) -> Result<NodeSession, AllocError> {
+        Ok(NodeSession {
+            session: self.session,
+            auth: self.auth,
+            root_key: self.root_key.copy()?,
+            fabric_id: self.fabric_id,
+            peer_node: self.peer_node,
+            cats: self.cats,
+            standing: self.standing,
+        })
+    }
+}
+
+/// The sessions of the present boot.
+pub type NodeSessions = Listed<NodeSession>;
+
+/// What the node keeps, as plain data.
+#[derive(Drop)]
+pub struct NodeState {
+    /// The stored attributes.
+    pub rows: Rows,
+    /// The access control list.
+    pub entries: AclEntries,
+    pub fabrics: Fabrics,
+    /// The trusted root certificates, each once.
+    pub roots: Roots,
+    pub networks: Networks,
+    /// The fail-safe, where it is armed.
+    pub armed: Option<Armed>,
+    pub versions: Versions,
+    pub changes: ChangeNumbers,
+    /// How many actions have changed an attribute since the start.
+    pub changed: u64,
+    pub sessions: NodeSessions,
+    /// The fabric of the plain PASE session, 0 where it has none yet; None once it has ended.
+    pub plain: Option<u8>,
+    /// How often the node was started.
+    pub boot: u32,
+    /// The time of the latest event, in ms.
+    pub clock: u64,
+}

@@ -1,0 +1,4 @@
+//! What a cluster holds: places, rows, and what of them a fabric is shown.
+
+pub(crate) mod place;
+pub(crate) mod sight;

@@ -1,0 +1,105 @@
+//! Who acts on the node, and what a fabric's access control entries are.
+
+ghost use Rattle.std.specs.Prelude.{◌≡◌};
+ghost use Rattle.mt_model.specs.tables.Access.{includes};
+
+use crate::listed::{ExactCopy, Listed};
+use std::alloc::AllocError;
+
+/// A privilege (Matter Core Specification, section 6.6, Access Control). Each has the number that an entry of the
+/// access control list has for it.
+#[derive(Clone, Copy, Debug, PartialEq, Eq)]
+pub enum Privilege {
+    View = 1,
+    ProxyView = 2,
+    Operate = 3,
+    Manage = 4,
+    Administer = 5,
+}
+
+impl Privilege {
+    /// Whether whoever has this privilege has the one asked for. Operate and ProxyView include View,
+    /// Manage includes Operate and View, and Administer includes all.
+    pub fn includes(self, asked: Privilege) -> bool
+        ensures { result ≡ includes self asked }
+    {
+        match self {
+            Privilege::View => asked == Privilege::View,
+            Privilege::ProxyView => asked == Privilege::View || asked == Privilege::ProxyView,
+            Privilege::Operate => asked == Privilege::View || asked == Privilege::Operate,
+            Privilege::Manage => asked != Privilege::ProxyView && asked != Privilege::Administer,
+            Privilege::Administer => true,
+        }
+    }
+}
+
+/// How a session's peer has proved who it is. Each has the number that an entry of the access
+/// control list has for it.
+#[derive(Clone, Copy, Debug, PartialEq, Eq)]
+pub enum Auth {
+    Pase = 1,
+    Case = 2,
+    Group = 3,
+}
+
+/// Who asks: a node of a fabric, or whoever commissions the node (fabric 0).
+#[derive(Clone, Copy, Debug, PartialEq, Eq)]
+pub struct Actor {
+    pub fabric: u8,
+    pub auth: Auth,
+    pub node: u64,
+    /// The CATs of the actor's certificate: an identifier in the upper 16 bits, a version that is
+    /// not 0 in the lower ones. 0 stands for none.
+    pub cats: [u32; 3],
+    /// The session over which it asks, where there is one.
+    pub session: Option<u16>,
+}
+
+/// What an entry reaches (Matter Core Specification, section 9.10, Access Control Cluster): each field that is there
+/// must fit the place.
+#[derive(Clone, Copy, Debug, PartialEq, Eq)]
+pub struct Target {
+    pub cluster: Option<u32>,
+    pub endpoint: Option<u16>,
+    pub device: Option<u32>,
+}
+
+impl ExactCopy for Target {
+    fn copy(&self) -> Result<Target, AllocError> {
+        Ok(*self)
+    }
+}
+
+/// Node ids and CATs, as entries name them.
+pub type Subjects = Listed<u64>;
+
+/// The targets of an entry.
+pub type Targets = Listed<Target>;
+
+/// An entry of the access control list (Matter Core Specification, section 9.10,
+/// Access Control Cluster).
+#[derive(Drop)]
+pub struct AclEntry {
+    pub privilege: Privilege,
+    pub auth: Auth,
+    /// Whom it grants to; none stands for all.
+    pub subjects: Subjects,
+    /// What it grants; none stands for all.
+    pub targets: Targets,
+    pub fabric: u8,
+}
+
+impl ExactCopy for AclEntry {
+    fn copy(&self) -> Result<AclEntry, AllocError> {
+        Ok(AclEntry {
+            privilege: self.privilege,
+            auth: self.auth,
+            subjects: self.subjects.copy()?,
+            targets: self.targets.copy()?,
+            fabric: self.fabric,
+        })
+    }
+}
+
+/// Entries, by ascending fabric and in each fabric's own order.
+pub type AclEntries = Listed<AclEntry>;

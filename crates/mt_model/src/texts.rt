@@ -1,0 +1,5 @@
+//! What the files hold: configurations, the verdicts in them, recordings.
+
+pub(crate) mod config;
+pub(crate) mod recording;
+pub(crate) mod verdicts;
