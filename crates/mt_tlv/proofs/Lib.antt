@@ -9,5 +9,6 @@ pub mod Numbers
 pub mod Runs
 pub mod Same
 pub mod Signed
+pub mod Tags
 pub mod Takes
 pub mod Texts

@@ -5,5 +5,6 @@ pub mod Parts
 pub mod Reading
 pub mod Runs
 pub mod Spelling
+pub mod Tags
 pub mod Tree
 pub mod View

@@ -5,6 +5,7 @@
 //! - `bytes`: a string of bytes that contracts see as a list;
 //! - `value`: tags, values and the members of containers, seen as trees with no place in memory;
 //! - `fault`: what keeps bytes from being an element;
+//! - `tag_set`: the tags of a structure's members;
 //! - `reading`: the first element of some bytes;
 //! - `cursor`: the parts of an element one after the other, in no memory;
 //! - `writing`: an element as bytes;
@@ -16,6 +17,7 @@ mod cursor;
 mod fault;
 mod laws;
 mod reading;
+mod tag_set;
 mod value;
 mod writing;
 

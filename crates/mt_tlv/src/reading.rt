@@ -1,15 +1,17 @@
 //! Reading an element, in any of the widths that the format offers (Matter Core Specification,
 //! Appendix A).
 
-ghost use Rattle.std.specs.Prelude.{◌≡◌, ◌<◌, ◌≤◌, ◌^◌, ◌%◌, [], ℕ, length, take, drop, map, IfOk};
+ghost use Rattle.std.specs.Prelude.{◌≡◌, ◌<◌, ◌≤◌, ◌^◌, ◌%◌, [], ◌∷◌, ◌++◌, ℕ, List, length, take, drop, IfOk, OnOk};
 ghost use Rattle.mt_tlv.specs.declared.value.Tag.{Tag};
 ghost use Rattle.mt_tlv.specs.Tree.{Tree};
 ghost use Rattle.mt_tlv.specs.View.{tree, elements};
-ghost use Rattle.mt_tlv.specs.Limits.{IsElement, is_tag_in};
+ghost use Rattle.mt_tlv.specs.Limits.{IsElement};
+ghost use Rattle.mt_tlv.specs.Tags.{Remembers};
 ghost use Rattle.mt_tlv.specs.Reading.{Exactly, Gives, IsReadAs, cut_at, piece_at, number_of as number_of_bytes, number_at, context_at, profile_number_at, full_at, tag_at, head_at, allowed, is_scalar_type, signed_of as signed_of_number, scalar_length as length_of_scalar, scalar_of as scalar_of_number, scalar_at, string_at, text_of as text_of_bytes, text_at, is_end, kind_of as kind_of_type, container_of as container_of_kind, members_with, body_at, container_at, element_at};
 
 use crate::bytes::Bytes;
 use crate::fault::TlvFault;
+use crate::tag_set::TagSet;
 use crate::value::{Members, Tag, Value};
 use std::alloc::Global;
 
@@ -129,10 +131,11 @@ fn read_members(
     ensures shorter { IfOk result (λ x. length x.1.now ≤ length bytes.now) }
 {
     let mut items = Vec::new(alloc);
+    let mut seen = TagSet::new(alloc);
     let mut rest = bytes;
     'members: while !at_end(rest) {
         let (head, after) = read_head(rest)?;
-        allow(kind, &items, head.tag)?;
+        allow(kind, &mut seen, head.tag)?;
         let (value, after) = read_body(alloc, whole, room, head.element_type, after)?;
         items.push((head.tag, value))?;
         rest = after;
@@ -148,33 +151,24 @@ pub(crate) fn at_end(bytes: &[u8]) -> bool
     matches!(bytes, [0x18, ..])
 }
 
-// Whether a tag may stand behind these members.
-fn allow(kind: Kind, members: &[(Tag, Value)], tag: Tag) -> Result<(), TlvFault>
-    ensures { Exactly (λ _. tt) result (allowed kind (map (λ m. m.0) members.now) tag) }
+// Whether a tag may stand behind the members so far. A structure's tag is put into the set, which has
+// those of its members; of the members of other containers nothing is kept.
+fn allow(kind: Kind, seen: &mut TagSet, tag: Tag) -> Result<(), TlvFault>
+    ensures gives { (tags : List Tag) → Remembers kind seen.old tags → Gives (λ _. tt) result (allowed kind tags tag) }
+    ensures kept { (tags : List Tag) → Remembers kind seen.old tags → OnOk result (Remembers kind seen.new (tags ++ tag ∷ [])) }
 {
     match (kind, tag) {
         (Kind::Struct, Tag::Anonymous) => Err(TlvFault::TagForm),
         (Kind::Struct, _) => {
-            if has_tag(members, tag) {
-                return Err(TlvFault::SameTag);
+            if seen.insert(tag)? {
+                return Ok(());
             }
-            Ok(())
+            Err(TlvFault::SameTag)
         }
         (Kind::Array, Tag::Anonymous) => Ok(()),
         (Kind::Array, _) => Err(TlvFault::TagForm),
         (Kind::List, _) => Ok(()),
     }
-}
-
-fn has_tag(members: &[(Tag, Value)], tag: Tag) -> bool
-    ensures { result ≡ is_tag_in tag (map (λ m. m.0) members.now) }
-{
-    for member in members {
-        if member.0 == tag {
-            return true;
-        }
-    }
-    false
 }
 
 pub(crate) fn kind_of(element_type: u8) -> Kind
