@@ -10,6 +10,7 @@ use Rattle.mt_model.specs.declared.messages.message.Request.TheVariants as reque
 use Rattle.mt_model.specs.declared.messages.message.WriteItem.{WriteItem}
 use Rattle.mt_model.specs.declared.rows.place.Place.{Place}
 use Rattle.mt_model.specs.declared.node.state.Version.{Version}
+use Rattle.mt_model.specs.declared.messages.opcode.TheConstants.{STATUS_RESPONSE, READ_REQUEST, SUBSCRIBE_REQUEST, WRITE_REQUEST, INVOKE_REQUEST, TIMED_REQUEST}
 use Rattle.mt_im.specs.declared.fault.ImFault.{ImFault}
 use Rattle.mt_im.specs.declared.fault.ImFault.TheVariants.{TooManyPaths}
 use Rattle.mt_im.specs.declared.messages.Selection.{Selection}
@@ -117,14 +118,14 @@ revision_found es number h = has_unsigned 255 es number (form_ok 255 _ number h)
 require_revision : (es : Elements) (number : ℕ) → HasField 255 (uint number) es → require (255 ∷ []) es ≡ Ok tt
 require_revision es number h = require_more 255 [] es (uint number) h (require_none es)
 
-pub status_found : (es : Elements) (request : Request) → status_at es ≡ Ok request → IsReadFrom 0x01 request es
+pub status_found : (es : Elements) (request : Request) → status_at es ≡ Ok request → IsReadFrom STATUS_RESPONSE request es
 unfolding status_at
 status_found es request h =
     let needed = bind_ok (require (0 ∷ 255 ∷ []) es) _ request h in
     let code = bind_ok (field_at (number_in 8) 0 es) _ request needed.2 in
     let number = bind_ok (revision_at es) _ request code.2 in
     let same : requests.Status code.0 ≡ request = cc in
-    subst (λ (r : Request). IsReadFrom 0x01 r es) same (record {
+    subst (λ (r : Request). IsReadFrom STATUS_RESPONSE r es) same (record {
       number = number.0;
       revision = revision_found es number.0 number.1;
       code = refl;
@@ -137,7 +138,7 @@ unfolding status_at
 status_only es code number t revision =
     rw (require_more 0 (255 ∷ []) es (uint code) t.status.0 (require_revision es number revision), number_read 8 0 es code t.status, field_only 255 es (uint number) revision) refl
 
-pub read_found : (es : Elements) (request : Request) → read_at es ≡ Ok request → IsReadFrom 0x02 request es
+pub read_found : (es : Elements) (request : Request) → read_at es ≡ Ok request → IsReadFrom READ_REQUEST request es
 unfolding read_at
 read_found es request h =
     let needed = bind_ok (require (3 ∷ 255 ∷ []) es) _ request h in
@@ -146,7 +147,7 @@ read_found es request h =
     let t = selection_found 0 3 es s.0 s.1 in
     let made : Request = requests.Read s.0.paths s.0.events s.0.minimum s.0.filtered s.0.versions in
     let few = within_found (length s.0.paths + length s.0.events) PATHS made request number.2 in
-    subst (λ (r : Request). IsReadFrom 0x02 r es) few.1 (record {
+    subst (λ (r : Request). IsReadFrom READ_REQUEST r es) few.1 (record {
       number = number.0;
       revision = revision_found es number.0 number.1;
       code = refl;
@@ -181,7 +182,7 @@ read_only es paths events minimum filtered versions number t revision few =
       field_only 255 es (uint number) revision,
     ) (within_only (length paths + length events) PATHS _ few)
 
-pub subscribe_found : (es : Elements) (request : Request) → subscribe_at es ≡ Ok request → IsReadFrom 0x03 request es
+pub subscribe_found : (es : Elements) (request : Request) → subscribe_at es ≡ Ok request → IsReadFrom SUBSCRIBE_REQUEST request es
 unfolding subscribe_at
 subscribe_found es request h =
     let needed = bind_ok (require (0 ∷ 1 ∷ 2 ∷ 7 ∷ 255 ∷ []) es) _ request h in
@@ -193,7 +194,7 @@ subscribe_found es request h =
     let t = selection_found 3 7 es s.0 s.1 in
     let made : Request = requests.Subscribe keep.0 floor.0 ceiling.0 s.0.paths s.0.events s.0.minimum s.0.filtered s.0.versions in
     let few = within_found (length s.0.paths + length s.0.events) PATHS made request number.2 in
-    subst (λ (r : Request). IsReadFrom 0x03 r es) few.1 (record {
+    subst (λ (r : Request). IsReadFrom SUBSCRIBE_REQUEST r es) few.1 (record {
       number = number.0;
       revision = revision_found es number.0 number.1;
       code = refl;
@@ -238,7 +239,7 @@ subscribe_only es keep floor ceiling paths events minimum filtered versions numb
       field_only 255 es (uint number) revision,
     ) (within_only (length paths + length events) PATHS _ few)
 
-pub write_found : (es : Elements) (request : Request) → write_at es ≡ Ok request → IsReadFrom 0x06 request es
+pub write_found : (es : Elements) (request : Request) → write_at es ≡ Ok request → IsReadFrom WRITE_REQUEST request es
 unfolding write_at
 write_found es request h =
     let needed = bind_ok (require (1 ∷ 2 ∷ 255 ∷ []) es) _ request h in
@@ -248,7 +249,7 @@ write_found es request h =
     let chunks = bind_ok (form 3 (not_true (optional_truth_at 3 es))) _ request items.2 in
     let number = bind_ok (revision_at es) _ request chunks.2 in
     let few = within_found (length items.0) WRITE_ITEMS (requests.Write suppress.0 timed.0 items.0) request number.2 in
-    subst (λ (r : Request). IsReadFrom 0x06 r es) few.1 (record {
+    subst (λ (r : Request). IsReadFrom WRITE_REQUEST r es) few.1 (record {
       number = number.0;
       revision = revision_found es number.0 number.1;
       code = refl;
@@ -298,7 +299,7 @@ command_among_only (more tag v (more other w es)) command h = absurd h.1
 command_only : (es : Elements) (command : Place × Value) → HasBlocks 2 CommandDataSpells (command ∷ []) es → required_at command_in 2 es ≡ Some command
 command_only es command h = required_only command_in 2 es (array h.0) h.1 ∙ command_among_only h.0 command h.2
 
-pub invoke_found : (es : Elements) (request : Request) → invoke_at es ≡ Ok request → IsReadFrom 0x08 request es
+pub invoke_found : (es : Elements) (request : Request) → invoke_at es ≡ Ok request → IsReadFrom INVOKE_REQUEST request es
 unfolding invoke_at
 invoke_found es request h =
     let needed = bind_ok (require (0 ∷ 1 ∷ 2 ∷ 255 ∷ []) es) _ request h in
@@ -307,7 +308,7 @@ invoke_found es request h =
     let command = bind_ok (field_at command_in 2 es) _ request timed.2 in
     let number = bind_ok (revision_at es) _ request command.2 in
     let same : requests.Invoke suppress.0 timed.0 command.0.0 command.0.1 ≡ request = cc in
-    subst (λ (r : Request). IsReadFrom 0x08 r es) same (record {
+    subst (λ (r : Request). IsReadFrom INVOKE_REQUEST r es) same (record {
       number = number.0;
       revision = revision_found es number.0 number.1;
       code = refl;
@@ -333,14 +334,14 @@ invoke_only es suppress timed command fields number t revision =
       field_only 255 es (uint number) revision,
     ) refl
 
-pub timed_found : (es : Elements) (request : Request) → timed_at es ≡ Ok request → IsReadFrom 0x0a request es
+pub timed_found : (es : Elements) (request : Request) → timed_at es ≡ Ok request → IsReadFrom TIMED_REQUEST request es
 unfolding timed_at
 timed_found es request h =
     let needed = bind_ok (require (0 ∷ 255 ∷ []) es) _ request h in
     let ms = bind_ok (field_at (number_in 16) 0 es) _ request needed.2 in
     let number = bind_ok (revision_at es) _ request ms.2 in
     let same : requests.Timed ms.0 ≡ request = cc in
-    subst (λ (r : Request). IsReadFrom 0x0a r es) same (record {
+    subst (λ (r : Request). IsReadFrom TIMED_REQUEST r es) same (record {
       number = number.0;
       revision = revision_found es number.0 number.1;
       code = refl;

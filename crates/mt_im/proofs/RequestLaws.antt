@@ -8,6 +8,7 @@ use Rattle.mt_tlv.specs.Reading.{element_at}
 use Rattle.mt_tlv.specs.Tree.{Tree, uint, structure, Elements}
 use Rattle.mt_model.specs.declared.messages.message.Request.{Request}
 use Rattle.mt_model.specs.declared.messages.message.Request.TheVariants as requests
+use Rattle.mt_model.specs.declared.messages.opcode.TheConstants.{STATUS_RESPONSE, READ_REQUEST, SUBSCRIBE_REQUEST, WRITE_REQUEST, INVOKE_REQUEST, TIMED_REQUEST}
 use Rattle.mt_im.specs.declared.fault.ImFault.{ImFault}
 use Rattle.mt_im.specs.declared.messages.Kind.{Kind}
 use Rattle.mt_im.specs.declared.messages.Kind.TheVariants as kinds
@@ -22,12 +23,12 @@ use Rattle.mt_im.proofs.MessageLaws.{bind_ok, form_ok, IsReadFrom, status_found,
 
 -- the opcode of a kind of requests
 abbrev code_of_kind : Kind → ℕ
-code_of_kind kinds.Status = 0x01
-code_of_kind kinds.Read = 0x02
-code_of_kind kinds.Subscribe = 0x03
-code_of_kind kinds.Write = 0x06
-code_of_kind kinds.Invoke = 0x08
-code_of_kind kinds.Timed = 0x0a
+code_of_kind kinds.Status = STATUS_RESPONSE
+code_of_kind kinds.Read = READ_REQUEST
+code_of_kind kinds.Subscribe = SUBSCRIBE_REQUEST
+code_of_kind kinds.Write = WRITE_REQUEST
+code_of_kind kinds.Invoke = INVOKE_REQUEST
+code_of_kind kinds.Timed = TIMED_REQUEST
 
 choice : (opcode : ℕ) (made kind : Kind) (rest : Result Kind ImFault) (b : Bool) → opcode == code_of_kind made ≡ b → (if b then Ok made else rest) ≡ Ok kind
     → (rest ≡ Ok kind → opcode ≡ code_of_kind kind) → opcode ≡ code_of_kind kind
@@ -37,12 +38,12 @@ choice opcode made kind rest false e h others = others h
 kind_found : (opcode : ℕ) (kind : Kind) → kind_of opcode ≡ Ok kind → opcode ≡ code_of_kind kind
 unfolding kind_of
 kind_found opcode kind h =
-    choice opcode kinds.Status kind _ (opcode == 0x01) refl h (λ h1.
-    choice opcode kinds.Read kind _ (opcode == 0x02) refl h1 (λ h2.
-    choice opcode kinds.Subscribe kind _ (opcode == 0x03) refl h2 (λ h3.
-    choice opcode kinds.Write kind _ (opcode == 0x06) refl h3 (λ h4.
-    choice opcode kinds.Invoke kind _ (opcode == 0x08) refl h4 (λ h5.
-    choice opcode kinds.Timed kind _ (opcode == 0x0a) refl h5 (λ h6. absurd cc))))))
+    choice opcode kinds.Status kind _ (opcode == STATUS_RESPONSE) refl h (λ h1.
+    choice opcode kinds.Read kind _ (opcode == READ_REQUEST) refl h1 (λ h2.
+    choice opcode kinds.Subscribe kind _ (opcode == SUBSCRIBE_REQUEST) refl h2 (λ h3.
+    choice opcode kinds.Write kind _ (opcode == WRITE_REQUEST) refl h3 (λ h4.
+    choice opcode kinds.Invoke kind _ (opcode == INVOKE_REQUEST) refl h4 (λ h5.
+    choice opcode kinds.Timed kind _ (opcode == TIMED_REQUEST) refl h5 (λ h6. absurd cc))))))
 
 -- what is read from the fields of a message of this kind
 pub fields_found : (opcode : ℕ) (kind : Kind) (es : Elements) (request : Request) → kind_of opcode ≡ Ok kind → fields_at kind es ≡ Ok request → IsReadFrom opcode request es

@@ -9,6 +9,7 @@ use Rattle.mt_tlv.specs.Tree.{Tree, Elements}
 use Rattle.mt_model.specs.declared.limits.TheConstants.{PATHS, WRITE_ITEMS}
 use Rattle.mt_model.specs.declared.messages.message.Request.{Request}
 use Rattle.mt_model.specs.declared.messages.message.Request.TheVariants as requests
+use Rattle.mt_model.specs.declared.messages.opcode.TheConstants.{STATUS_RESPONSE, READ_REQUEST, SUBSCRIBE_REQUEST, WRITE_REQUEST, INVOKE_REQUEST, TIMED_REQUEST}
 use Rattle.mt_im.specs.declared.fault.ImFault.{ImFault}
 use Rattle.mt_im.specs.declared.fault.ImFault.TheVariants.{Tlv, Missing, Form, Opcode, TooManyPaths, Memory}
 use Rattle.mt_im.specs.declared.messages.Kind.{Kind}
@@ -130,12 +131,12 @@ timed_at es =
 -- the kind of request that an opcode announces
 unfoldable pub kind_of : ℕ → Result Kind ImFault
 kind_of opcode =
-    if opcode == 0x01 then Ok kinds.Status
-    else if opcode == 0x02 then Ok kinds.Read
-    else if opcode == 0x03 then Ok kinds.Subscribe
-    else if opcode == 0x06 then Ok kinds.Write
-    else if opcode == 0x08 then Ok kinds.Invoke
-    else if opcode == 0x0a then Ok kinds.Timed
+    if opcode == STATUS_RESPONSE then Ok kinds.Status
+    else if opcode == READ_REQUEST then Ok kinds.Read
+    else if opcode == SUBSCRIBE_REQUEST then Ok kinds.Subscribe
+    else if opcode == WRITE_REQUEST then Ok kinds.Write
+    else if opcode == INVOKE_REQUEST then Ok kinds.Invoke
+    else if opcode == TIMED_REQUEST then Ok kinds.Timed
     else Err Opcode
 
 -- the request of this kind that stands in the fields

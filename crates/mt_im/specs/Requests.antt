@@ -11,17 +11,18 @@ use Rattle.mt_model.specs.messages.Blocks.{optional_number, path_tree, event_pat
 use Rattle.mt_model.specs.declared.messages.message.Request.{Request}
 use Rattle.mt_model.specs.declared.messages.message.Request.TheVariants as requests
 use Rattle.mt_model.specs.declared.messages.message.WriteItem.{WriteItem}
+use Rattle.mt_model.specs.declared.messages.opcode.TheConstants.{STATUS_RESPONSE, READ_REQUEST, SUBSCRIBE_REQUEST, WRITE_REQUEST, INVOKE_REQUEST, TIMED_REQUEST}
 use Rattle.mt_model.specs.declared.rows.place.Place.{Place}
 use Rattle.mt_model.specs.declared.node.state.Version.{Version}
 
 -- the opcode of a request
 abbrev pub opcode_of : Request → ℕ
-opcode_of (requests.Status code) = 0x01
-opcode_of (requests.Read paths events minimum filtered versions) = 0x02
-opcode_of (requests.Subscribe keep floor ceiling paths events minimum filtered versions) = 0x03
-opcode_of (requests.Write suppress timed items) = 0x06
-opcode_of (requests.Invoke suppress timed command fields) = 0x08
-opcode_of (requests.Timed ms) = 0x0a
+opcode_of (requests.Status code) = STATUS_RESPONSE
+opcode_of (requests.Read paths events minimum filtered versions) = READ_REQUEST
+opcode_of (requests.Subscribe keep floor ceiling paths events minimum filtered versions) = SUBSCRIBE_REQUEST
+opcode_of (requests.Write suppress timed items) = WRITE_REQUEST
+opcode_of (requests.Invoke suppress timed command fields) = INVOKE_REQUEST
+opcode_of (requests.Timed ms) = TIMED_REQUEST
 
 -- the field that ends every message: 255 is the revision, which is 1
 abbrev pub revision : Elements

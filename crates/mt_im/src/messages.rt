@@ -14,6 +14,9 @@ use crate::fields::{
     optional_truth, require, revision, take_field, truth_field, u8_field, u16_field,
 };
 use mt_model::limits::{PATHS, WRITE_ITEMS};
+use mt_model::opcode::{
+    INVOKE_REQUEST, READ_REQUEST, STATUS_RESPONSE, SUBSCRIBE_REQUEST, TIMED_REQUEST, WRITE_REQUEST,
+};
 use mt_model::{Paths, Place, Request, Versions, Writes};
 use mt_tlv::{Tag, Value};
 use std::alloc::Global;
@@ -46,12 +49,12 @@ pub(crate) fn kind_of(opcode: u8) -> Result<Kind, ImFault>
     ensures fault { IfErr result (λ fault. fault ≡ Opcode) }
 {
     match opcode {
-        0x01 => Ok(Kind::Status),
-        0x02 => Ok(Kind::Read),
-        0x03 => Ok(Kind::Subscribe),
-        0x06 => Ok(Kind::Write),
-        0x08 => Ok(Kind::Invoke),
-        0x0a => Ok(Kind::Timed),
+        STATUS_RESPONSE => Ok(Kind::Status),
+        READ_REQUEST => Ok(Kind::Read),
+        SUBSCRIBE_REQUEST => Ok(Kind::Subscribe),
+        WRITE_REQUEST => Ok(Kind::Write),
+        INVOKE_REQUEST => Ok(Kind::Invoke),
+        TIMED_REQUEST => Ok(Kind::Timed),
         _ => Err(ImFault::Opcode),
     }
 }

@@ -4,7 +4,7 @@ use Rattle.std.specs.List.{flat_map}
 use Rattle.mt_model.specs.messages.Blocks.{item_block}
 use Rattle.mt_model.specs.declared.messages.message.Item.{Item}
 use Rattle.mt_model.specs.declared.messages.message.Payload.{Payload}
-use Rattle.mt_im_out.specs.declared.opcodes.TheConstants.{REPORT_DATA}
+use Rattle.mt_model.specs.declared.messages.opcode.TheConstants.{REPORT_DATA}
 use Rattle.mt_im_out.specs.Chunks.{fit, greedy_from, greedy, is_event, attribute_items, split_item, split_items, attribute_part, event_parts, at_least_one, parts_of, event_items, report_payload, report_payloads}
 use Rattle.mt_im_out.specs.Packing.{Packed, blocks_payload, put, put_all, put_attributes, finished}
 use Rattle.mt_im_out.proofs.Bodies.{bytes_of, bytes_one, bytes_more, joins_fit, report_is}

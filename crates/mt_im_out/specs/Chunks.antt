@@ -17,7 +17,7 @@ use Rattle.mt_model.specs.declared.messages.message.Reply.{Reply}
 use Rattle.mt_model.specs.declared.messages.message.Reply.TheVariants as replies
 use Rattle.mt_model.specs.messages.Blocks.{item_tree}
 use Rattle.mt_im.specs.Requests.{blocks, command_tree}
-use Rattle.mt_im_out.specs.declared.opcodes.TheConstants.{STATUS_RESPONSE, SUBSCRIBE_RESPONSE, REPORT_DATA, WRITE_RESPONSE, INVOKE_RESPONSE}
+use Rattle.mt_model.specs.declared.messages.opcode.TheConstants.{STATUS_RESPONSE, SUBSCRIBE_RESPONSE, REPORT_DATA, WRITE_RESPONSE, INVOKE_RESPONSE}
 use Rattle.mt_im_out.specs.Messages.{status_response_tree, subscribe_response_tree, write_response_tree, command_status_tree, invoke_response_tree, report_tree}
 
 -- A list that is too long.

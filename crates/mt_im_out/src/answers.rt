@@ -12,7 +12,7 @@ use crate::blocks::{write_attribute_status, write_command_data, write_command_pa
 use crate::fields::{
     ARRAY, LIST, STRUCTURE, close, end_message, open, open_field, write_bool, write_number,
 };
-use crate::opcodes::{INVOKE_RESPONSE, STATUS_RESPONSE, SUBSCRIBE_RESPONSE, WRITE_RESPONSE};
+use mt_model::opcode::{INVOKE_RESPONSE, STATUS_RESPONSE, SUBSCRIBE_RESPONSE, WRITE_RESPONSE};
 use mt_model::{Item, Payload, Payloads, Place};
 use mt_tlv::{Bytes, Value};
 use std::alloc::{AllocError, Global};

@@ -1,7 +1,6 @@
 //! Messages of the interaction model as bytes (Matter Core Specification, chapter 10, Interaction Model
 //! Encoding): the payloads of a reply, into which the items of a report are put greedily, and requests.
 //!
-//! - `opcodes`: the opcodes of the messages that answer;
 //! - `fields`: the fields of messages, appended to bytes;
 //! - `blocks`: paths, statuses and items;
 //! - `answers`: the replies that are one message;
@@ -17,7 +16,6 @@ mod answers;
 mod blocks;
 mod fields;
 mod laws;
-pub mod opcodes;
 mod reports;
 mod requests;
 

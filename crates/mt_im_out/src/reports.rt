@@ -15,8 +15,8 @@ use crate::blocks::{write_attribute, write_item};
 use crate::fields::{
     ARRAY, STRUCTURE, close, end_message, open, open_field, write_optional, write_truth,
 };
-use crate::opcodes::REPORT_DATA;
 use mt_model::limits::ITEM_BYTES;
+use mt_model::opcode::REPORT_DATA;
 use mt_model::{Index, Item, Path, Payload, Payloads};
 use mt_tlv::{Bytes, Members, Tag, Value};
 use std::alloc::{AllocError, Global};

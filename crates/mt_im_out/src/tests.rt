@@ -1,9 +1,9 @@
 //! Messages whose bytes were worked out outside this repository.
 
-use crate::opcodes::{
+use crate::{chunks, encode_request};
+use mt_model::opcode::{
     INVOKE_RESPONSE, REPORT_DATA, STATUS_RESPONSE, SUBSCRIBE_RESPONSE, WRITE_RESPONSE,
 };
-use crate::{chunks, encode_request};
 use mt_model::{
     Happened, Index, Item, Items, Path, Paths, Place, Reply, Request, Version, Versions, WriteItem,
     Writes,

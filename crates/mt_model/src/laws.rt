@@ -1,5 +1,5 @@
-//! Laws of the order of rows and of the form of access control entries, over the definitions alone. Each
-//! is the contract of a function that does nothing.
+//! Laws of the order of rows and of the form of access control entries, over the definitions alone, and the
+//! numbers of the opcodes and limits. Each is the contract of a function that does nothing.
 
 ghost use Rattle.std.specs.Prelude.{◌≡◌, ℕ, IsTrue, List, Some, filter, map};
 ghost use Rattle.mt_tlv.specs.declared.value.Value.{Value};
@@ -9,6 +9,8 @@ ghost use Rattle.mt_model.specs.rows.Order.{are_ascending, entry_rows, fabric_ro
 ghost use Rattle.mt_model.specs.rows.Sight.{seen_by, stands_at};
 ghost use Rattle.mt_model.specs.declared.tables.access.AclEntry.{AclEntry};
 ghost use Rattle.mt_model.specs.declared.tables.fabric.Fabric.{Fabric};
+ghost use Rattle.mt_model.specs.declared.limits.TheConstants.{FABRICS, ENTRIES, SUBJECTS, TARGETS, CATS, SUBSCRIPTIONS, CASE_SESSIONS, PASE_SESSIONS, EXCHANGES, PLAIN_DEADLINES, PATHS, WRITE_ITEMS, PRIVATE_EVENTS, SHARED_EVENTS, CERTIFICATE_BYTES, ROOT_KEY_BYTES, IPK_BYTES, LABEL_BYTES, NETWORKS, LIST_ITEMS, SENT_BYTES, RECEIVED_BYTES, PAYLOAD_BYTES, ITEM_BYTES, RECORDING_LINES, RECORDING_BYTES, LINE_BYTES, CONFIGURATION_BYTES, CHANGE_BYTES, LAST_TIME, LAST_OPERATIONAL_NODE, VERSIONS_OF_BOOT, SESSIONS, VERDICTS, NONCE_BYTES, ELEMENTS_BYTES, SIGNATURE_BYTES, NETWORK_ID_BYTES, LAST_GROUP};
+ghost use Rattle.mt_model.specs.declared.messages.opcode.TheConstants.{STATUS_RESPONSE, READ_REQUEST, SUBSCRIBE_REQUEST, SUBSCRIBE_RESPONSE, REPORT_DATA, WRITE_REQUEST, WRITE_RESPONSE, INVOKE_REQUEST, INVOKE_RESPONSE, TIMED_REQUEST};
 ghost use Rattle.mt_model.specs.declared.rows.place.Place.{Place};
 ghost use Rattle.mt_model.specs.declared.rows.place.Row.{Row};
 
@@ -49,4 +51,61 @@ pub fn in_order_sees()
 /// The value that an access control entry is written as is read as that entry.
 pub fn entries_are_read_again()
     ensures { (entry : AclEntry) → entry_in (entry_value entry) ≡ Some entry }
+{}
+
+/// The opcodes of the interaction model are the numbers that the standard gives them.
+pub fn opcodes_are_those_of_the_standard()
+    ensures status_response { STATUS_RESPONSE ≡ 0x01 }
+    ensures read_request { READ_REQUEST ≡ 0x02 }
+    ensures subscribe_request { SUBSCRIBE_REQUEST ≡ 0x03 }
+    ensures subscribe_response { SUBSCRIBE_RESPONSE ≡ 0x04 }
+    ensures report_data { REPORT_DATA ≡ 0x05 }
+    ensures write_request { WRITE_REQUEST ≡ 0x06 }
+    ensures write_response { WRITE_RESPONSE ≡ 0x07 }
+    ensures invoke_request { INVOKE_REQUEST ≡ 0x08 }
+    ensures invoke_response { INVOKE_RESPONSE ≡ 0x09 }
+    ensures timed_request { TIMED_REQUEST ≡ 0x0a }
+{}
+
+/// The limits are these numbers.
+pub fn limits_are_these()
+    ensures fabrics { FABRICS ≡ 16 }
+    ensures entries { ENTRIES ≡ 4 }
+    ensures subjects { SUBJECTS ≡ 4 }
+    ensures targets { TARGETS ≡ 3 }
+    ensures cats { CATS ≡ 3 }
+    ensures subscriptions { SUBSCRIPTIONS ≡ 3 }
+    ensures case_sessions { CASE_SESSIONS ≡ 3 }
+    ensures pase_sessions { PASE_SESSIONS ≡ 4 }
+    ensures exchanges { EXCHANGES ≡ 4 }
+    ensures plain_deadlines { PLAIN_DEADLINES ≡ 4 }
+    ensures paths { PATHS ≡ 16 }
+    ensures write_items { WRITE_ITEMS ≡ 16 }
+    ensures private_events { PRIVATE_EVENTS ≡ 32 }
+    ensures shared_events { SHARED_EVENTS ≡ 128 }
+    ensures certificate_bytes { CERTIFICATE_BYTES ≡ 400 }
+    ensures root_key_bytes { ROOT_KEY_BYTES ≡ 65 }
+    ensures ipk_bytes { IPK_BYTES ≡ 16 }
+    ensures label_bytes { LABEL_BYTES ≡ 32 }
+    ensures networks { NETWORKS ≡ 4 }
+    ensures list_items { LIST_ITEMS ≡ 8 }
+    ensures sent_bytes { SENT_BYTES ≡ 1232 }
+    ensures received_bytes { RECEIVED_BYTES ≡ 1280 }
+    ensures payload_bytes { PAYLOAD_BYTES ≡ 1280 }
+    ensures item_bytes { ITEM_BYTES ≡ 1176 }
+    ensures recording_lines { RECORDING_LINES ≡ 1048576 }
+    ensures recording_bytes { RECORDING_BYTES ≡ 67108864 }
+    ensures line_bytes { LINE_BYTES ≡ 4096 }
+    ensures configuration_bytes { CONFIGURATION_BYTES ≡ 1048576 }
+    ensures change_bytes { CHANGE_BYTES ≡ 65536 }
+    ensures last_time { LAST_TIME ≡ 281474976710655 }
+    ensures last_operational_node { LAST_OPERATIONAL_NODE ≡ 0xffffffefffffffff }
+    ensures versions_of_boot { VERSIONS_OF_BOOT ≡ 1048576 }
+    ensures sessions { SESSIONS ≡ 64 }
+    ensures verdicts { VERDICTS ≡ 16 }
+    ensures nonce_bytes { NONCE_BYTES ≡ 32 }
+    ensures elements_bytes { ELEMENTS_BYTES ≡ 400 }
+    ensures signature_bytes { SIGNATURE_BYTES ≡ 64 }
+    ensures network_id_bytes { NETWORK_ID_BYTES ≡ 32 }
+    ensures last_group { LAST_GROUP ≡ 65535 }
 {}

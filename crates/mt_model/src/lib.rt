@@ -13,13 +13,15 @@ mod texts;
 
 pub use laws::{
     entries_are_in_order, entries_are_read_again, fabrics_are_in_order, in_order_sees,
-    numbered_fabrics_ascend, rows_of_a_place_are_in_order,
+    limits_are_these, numbered_fabrics_ascend, opcodes_are_those_of_the_standard,
+    rows_of_a_place_are_in_order,
 };
 pub use listed::{ExactCopy, Listed};
 pub use messages::message::{
     Happened, Index, Item, Items, Path, Paths, Payload, Payloads, Places, Reply, Request,
     WriteItem, Writes,
 };
+pub use messages::opcode;
 pub use messages::size::item_size;
 pub use messages::status::Status;
 pub use node::action::{

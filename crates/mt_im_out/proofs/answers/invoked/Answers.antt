@@ -5,7 +5,7 @@ use Rattle.mt_tlv.specs.Narrow.{narrow, narrow_elements, length_and_value, openi
 use Rattle.mt_tlv.specs.Tree.{bool, none, more}
 use Rattle.mt_tlv.specs.View.{tree}
 use Rattle.mt_im.specs.Requests.{revision, command_path_tree, command_tree}
-use Rattle.mt_im_out.specs.declared.opcodes.TheConstants.{INVOKE_RESPONSE}
+use Rattle.mt_model.specs.declared.messages.opcode.TheConstants.{INVOKE_RESPONSE}
 use Rattle.mt_im_out.specs.Messages.{invoke_response_tree}
 use Rattle.mt_im_out.proofs.Tails.{invoke_is}
 use Rattle.mt_im_out.proofs.answers.invoked.Goals as goal
