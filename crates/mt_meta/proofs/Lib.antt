@@ -1,3 +1,4 @@
 pub mod TableFacts
 pub mod FirstFacts
 pub mod SensitiveFacts
+pub mod WritableFacts

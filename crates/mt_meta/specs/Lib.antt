@@ -5,3 +5,4 @@ pub mod Places
 pub mod Rows
 pub mod Stored
 pub mod Table
+pub mod Writable

@@ -8,8 +8,12 @@ use Rattle.mt_meta.specs.declared.rows.CommandRow.{CommandRow}
 use Rattle.mt_meta.specs.declared.rows.EventRow.{EventRow}
 use Rattle.mt_meta.specs.declared.rows.FirstValue.{FirstValue}
 use Rattle.mt_meta.specs.declared.rows.Origin.TheVariants.{Computed, Stored, StoredItems}
+use Rattle.mt_meta.specs.declared.rows.Field.{Field}
+use Rattle.mt_meta.specs.declared.rows.Form.{Form}
+use Rattle.mt_meta.specs.declared.rows.Form.TheVariants.{FabricIndex}
 use Rattle.mt_meta.specs.declared.rows.Sensitive.{Sensitive}
 use Rattle.mt_meta.specs.declared.rows.Sensitive.TheVariants.{Nothing}
+use Rattle.mt_meta.specs.declared.rows.Takes.TheVariants as takes
 
 -- Attributes. Most are plain: everyone may read them, nobody may write them, they are not kept over a restart, they are
 -- computed, and they have no items of which something is sensitive.
@@ -18,6 +22,7 @@ abbrev pub plain : ℕ → Kind → AttributeRow
 plain number kind = record {
   number = number;
   meta = record { kind = kind; read = View; write = None; scoped = false; timed = false; kept = false; limit = 0 };
+  takes = takes.Nothing;
   origin = Computed;
   sensitive = Nothing;
 }
@@ -28,6 +33,14 @@ read_by privilege row = record row { meta = record row.meta { read = privilege }
 -- with the most bytes or items, where it is a text or a list, and 0 where it is not
 abbrev pub written_by : Privilege → ℕ → AttributeRow → AttributeRow
 written_by privilege limit row = record row { meta = record row.meta { write = Some privilege; limit = limit } }
+
+-- a value of this form
+abbrev pub taking : Form → AttributeRow → AttributeRow
+taking form row = record row { takes = takes.Value form }
+
+-- items, structures with the fields of its kind
+abbrev pub taking_items : AttributeRow → AttributeRow
+taking_items row = record row { takes = takes.Items }
 
 abbrev pub scoped : AttributeRow → AttributeRow
 scoped row = record row { meta = record row.meta { scoped = true } }
@@ -49,6 +62,18 @@ stored_items row = record row { origin = StoredItems }
 -- with the sensitive fields of an item
 abbrev pub hiding : Sensitive → AttributeRow → AttributeRow
 hiding fields row = record row { sensitive = fields }
+
+-- Fields of items.
+
+abbrev pub needed : ℕ → Form → Field
+needed number form = record { number = number; needed = true; form = form }
+
+abbrev pub optional : ℕ → Form → Field
+optional number form = record { number = number; needed = false; form = form }
+
+-- which fabric's it is: any number, which may be missing
+abbrev pub fabric_field : Field
+fabric_field = optional 254 FabricIndex
 
 -- Commands, and events.
 

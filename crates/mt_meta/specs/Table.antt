@@ -10,10 +10,12 @@ use Rattle.mt_meta.specs.clusters.NetworkCommissioning as network_commissioning
 use Rattle.mt_meta.specs.clusters.OnOff as on_off
 use Rattle.mt_meta.specs.clusters.OperationalCredentials as operational_credentials
 use Rattle.mt_meta.specs.clusters.UserLabel as user_label
+use Rattle.mt_meta.specs.declared.meta.Kind.{Kind}
 use Rattle.mt_meta.specs.declared.meta.Kind.TheVariants as kinds
 use Rattle.mt_meta.specs.declared.rows.AttributeRow.{AttributeRow}
 use Rattle.mt_meta.specs.declared.rows.CommandRow.{CommandRow}
 use Rattle.mt_meta.specs.declared.rows.EventRow.{EventRow}
+use Rattle.mt_meta.specs.declared.rows.Field.{Field}
 use Rattle.mt_meta.specs.Rows.{plain}
 
 unfoldable pub endpoints : List ℕ
@@ -78,3 +80,11 @@ events_of cluster = if cluster == access_control.cluster then access_control.eve
     else if cluster == basic_information.cluster then basic_information.events
     else if cluster == bench.cluster then bench.events
     else []
+
+-- the fields of an item of a list that is written, by the kind of the list
+unfoldable pub fields_of : Kind → List Field
+fields_of kinds.Binding = binding.fields
+fields_of kinds.Acl = access_control.fields
+fields_of kinds.Labels = user_label.fields
+fields_of kinds.Bench = bench.fields
+fields_of kind = []

@@ -5,10 +5,11 @@ ghost use Rattle.std.specs.List.{find, list_any};
 ghost use Rattle.std.specs.Option.{option_map};
 ghost use Rattle.mt_model.specs.declared.messages.status.Status.TheVariants.{UnsupportedEndpoint, UnsupportedCluster};
 ghost use Rattle.mt_meta.specs.Stored.{is_stored, is_stored_origin, origin_of};
+ghost use Rattle.mt_meta.specs.Writable.{takes_of};
 ghost use Rattle.mt_meta.specs.Finding.{attribute_of, command_of, event_of, find_command_of, find_event_of, find_of, has_cluster, is_endpoint, missing_of, privilege_found, privilege_of};
 
 use crate::meta::{CommandMeta, EventMeta, Meta};
-use crate::rows::Origin;
+use crate::rows::{Origin, Takes};
 use crate::table::{
     attributes_of, clusters_of, commands_of, endpoints, events_of, extensions_of, globals,
 };
@@ -56,6 +57,17 @@ pub fn is_stored(place: &Place) -> bool
         Some(Origin::Stored(_)) | Some(Origin::StoredItems) => true,
         Some(Origin::Computed) | None => false,
     }
+}
+
+/// What the attribute of a place takes when it is written; None where its cluster has no such attribute.
+pub fn takes(place: &Place) -> Option<Takes>
+    ensures { result ≡ takes_of place.now }
+{
+    let mut rows = attributes_of(place.cluster).iter().chain(
+        globals().iter().chain(extensions_of(place.cluster).iter()),
+    );
+    let row = rows.find(|row| row.number == place.leaf)?;
+    Some(row.takes)
 }
 
 /// What an actor wants of a place.

@@ -7,6 +7,7 @@ ghost use Rattle.mt_model.specs.declared.rows.place.Place.{Place};
 ghost use Rattle.mt_meta.specs.Finding.{find_of, is_endpoint};
 ghost use Rattle.mt_meta.specs.Places.{all_places, ascend, is_at};
 ghost use Rattle.mt_meta.specs.Stored.{begins_rightly, is_sensitive_by_table};
+ghost use Rattle.mt_meta.specs.Writable.{takes_rightly};
 ghost use Rattle.mt_model.specs.rows.Sight.{is_sensitive_field};
 
 /// The places of all attributes ascend, so that none stands twice.
@@ -33,4 +34,9 @@ pub fn sensitive_fields_are_those_of_sight()
 /// any.
 pub fn stored_places_begin()
     ensures { IsTrue (list_all begins_rightly all_places) }
+{}
+
+/// An attribute takes something exactly where it has a privilege to write it.
+pub fn writable_attributes_take_something()
+    ensures { IsTrue (list_all takes_rightly all_places) }
 {}

@@ -22,18 +22,20 @@ mod table;
 
 pub use clusters::basic_information::{LOCATION_BYTES, NODE_LABEL_BYTES};
 pub use expansion::{ExpandFault, expand, is_global};
-pub use finding::{Asked, find, find_command, find_event, is_stored, privilege_asked};
+pub use finding::{Asked, find, find_command, find_event, is_stored, privilege_asked, takes};
 pub use first::first_rows;
 pub use laws::{
     endpoints_have_devices, places_are_found, places_ascend, sensitive_fields_are_those_of_sight,
-    stored_places_begin,
+    stored_places_begin, writable_attributes_take_something,
 };
 pub use meta::{CommandMeta, EventMeta, Kind, Meta};
-pub use rows::{AttributeRow, CommandRow, EventRow, FirstValue, Origin, Sensitive};
+pub use rows::{
+    AttributeRow, CommandRow, EventRow, Field, FirstValue, Form, Origin, Sensitive, Takes,
+};
 pub use table::{
     ACCEPTED_COMMAND_LIST, ATTRIBUTE_LIST, CLUSTER_REVISION, FEATURE_MAP, GENERATED_COMMAND_LIST,
-    attributes_of, clusters_of, commands_of, endpoints, events_of, extensions_of, globals,
-    responses_of,
+    attributes_of, clusters_of, commands_of, endpoints, events_of, extensions_of, fields_of,
+    globals, responses_of,
 };
 
 #[cfg(test)]

@@ -36,11 +36,49 @@ pub enum Sensitive {
     AllButFabric,
 }
 
+/// The form of a value that is written, or of a field of an item that is.
+#[derive(Clone, Copy, Debug, PartialEq, Eq)]
+pub enum Form {
+    Bool,
+    /// A number of at most this size.
+    Uint { greatest: u64 },
+    /// A text of so many bytes.
+    Text { least: u16, most: u16 },
+    Octets { most: u16 },
+    /// Null, or an array of numbers of 64 bits: whom an entry names.
+    Subjects,
+    /// Null, or an array of targets: what an entry reaches.
+    Targets,
+    /// A number, in whose place the writer's fabric is kept.
+    FabricIndex,
+}
+
+/// A field of an item of a list that is written.
+#[derive(Clone, Copy, Debug, PartialEq, Eq)]
+pub struct Field {
+    pub number: u8,
+    /// Whether it must be there.
+    pub needed: bool,
+    pub form: Form,
+}
+
+/// What an attribute takes when it is written.
+#[derive(Clone, Copy, Debug, PartialEq, Eq)]
+pub enum Takes {
+    /// Nobody may write it.
+    Nothing,
+    /// A value of this form.
+    Value(Form),
+    /// Items of a list, structures with the fields of its kind (`fields_of`).
+    Items,
+}
+
 /// An attribute of a cluster.
 #[derive(Clone, Copy, Debug, PartialEq, Eq)]
 pub struct AttributeRow {
     pub number: u32,
     pub meta: Meta,
+    pub takes: Takes,
     pub origin: Origin,
     pub sensitive: Sensitive,
 }
@@ -58,6 +96,13 @@ pub struct EventRow {
     pub number: u32,
     pub meta: EventMeta,
 }
+
+/// The field of an item that names its fabric.
+pub(crate) const FABRIC_FIELD: Field = Field {
+    number: 254,
+    needed: false,
+    form: Form::FabricIndex,
+};
 
 /// What most attributes are: everyone may read them and nobody may write them, and they are not kept.
 pub(crate) const PLAIN: Meta = Meta {
@@ -84,8 +129,20 @@ macro_rules! computed {
                 read: mt_model::Privilege::$read,
                 ..$crate::rows::PLAIN
             },
+            takes: $crate::rows::Takes::Nothing,
             origin: $crate::rows::Origin::Computed,
             sensitive: $crate::rows::Sensitive::Nothing,
+        }
+    };
+}
+
+// A field of an item: number, whether it must be there, and its form.
+macro_rules! field {
+    ($number:expr, $needed:literal, $form:expr) => {
+        $crate::rows::Field {
+            number: $number,
+            needed: $needed,
+            form: $form,
         }
     };
 }
@@ -120,3 +177,4 @@ macro_rules! event {
 pub(crate) use command;
 pub(crate) use computed;
 pub(crate) use event;
+pub(crate) use field;

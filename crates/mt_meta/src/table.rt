@@ -2,7 +2,7 @@
 //! proved to be that of `specs/Table.antt`, and its rows to be those of `specs/clusters/`.
 
 ghost use Rattle.std.specs.Prelude.{◌≡◌};
-ghost use Rattle.mt_meta.specs.Table.{attributes_of, clusters_of, commands_of, endpoints, events_of, extensions_of, globals, responses_of};
+ghost use Rattle.mt_meta.specs.Table.{attributes_of, clusters_of, commands_of, endpoints, events_of, extensions_of, fields_of, globals, responses_of};
 
 use crate::clusters::{
     ACCESS_CONTROL, BASIC_INFORMATION, BENCH, BINDING, DESCRIPTOR, GENERAL_COMMISSIONING,
@@ -10,7 +10,8 @@ use crate::clusters::{
     basic_information, bench, binding, descriptor, general_commissioning, network_commissioning,
     on_off, operational_credentials, user_label,
 };
-use crate::rows::{AttributeRow, CommandRow, EventRow, computed};
+use crate::meta::Kind;
+use crate::rows::{AttributeRow, CommandRow, EventRow, Field, computed};
 
 /// The commands with which a cluster answers.
 pub const GENERATED_COMMAND_LIST: u32 = 0xfff8;
@@ -146,6 +147,21 @@ pub fn events_of(cluster: u32) -> &'static [EventRow]
         ACCESS_CONTROL => &access_control::EVENTS,
         BASIC_INFORMATION => &basic_information::EVENTS,
         BENCH => &bench::EVENTS,
+        _ => &[],
+    }
+}
+
+/// The fields of an item of a list that is written, ascending, by the kind of the list; none for every
+/// other kind.
+#[tactic(auto, unfolding(crate::specs::Table::fields_of))]
+pub fn fields_of(kind: Kind) -> &'static [Field]
+    ensures { result.now ≡ fields_of kind }
+{
+    match kind {
+        Kind::Binding => &binding::FIELDS,
+        Kind::Acl => &access_control::FIELDS,
+        Kind::Labels => &user_label::FIELDS,
+        Kind::Bench => &bench::FIELDS,
         _ => &[],
     }
 }

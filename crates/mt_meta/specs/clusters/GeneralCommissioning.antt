@@ -5,14 +5,15 @@ use Rattle.mt_meta.specs.declared.meta.Kind.TheVariants as kinds
 use Rattle.mt_meta.specs.declared.rows.AttributeRow.{AttributeRow}
 use Rattle.mt_meta.specs.declared.rows.CommandRow.{CommandRow}
 use Rattle.mt_meta.specs.declared.rows.FirstValue.TheVariants as first
-use Rattle.mt_meta.specs.Rows.{plain, written_by, kept, stored, invoked_by, scoped_command}
+use Rattle.mt_meta.specs.declared.rows.Form.TheVariants as forms
+use Rattle.mt_meta.specs.Rows.{plain, written_by, taking, kept, stored, invoked_by, scoped_command}
 
 abbrev pub cluster : ℕ
 cluster = 0x30
 
 abbrev pub attributes : List AttributeRow
 attributes =
-    stored (first.Uint 0) (written_by Administer 0 (plain 0 kinds.Uint))  -- Breadcrumb
+    stored (first.Uint 0) (taking (forms.Uint 0xffffffffffffffff) (written_by Administer 0 (plain 0 kinds.Uint)))  -- Breadcrumb
     ∷ plain 1 kinds.Structure  -- BasicCommissioningInfo
     ∷ stored (first.Uint 2) (kept (plain 2 kinds.Uint))  -- RegulatoryConfig
     ∷ plain 3 kinds.Uint  -- LocationCapability

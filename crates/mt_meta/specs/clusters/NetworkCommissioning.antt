@@ -5,7 +5,8 @@ use Rattle.mt_meta.specs.declared.meta.Kind.TheVariants as kinds
 use Rattle.mt_meta.specs.declared.rows.AttributeRow.{AttributeRow}
 use Rattle.mt_meta.specs.declared.rows.CommandRow.{CommandRow}
 use Rattle.mt_meta.specs.declared.rows.FirstValue.TheVariants as first
-use Rattle.mt_meta.specs.Rows.{plain, read_by, written_by, kept, stored, invoked_by}
+use Rattle.mt_meta.specs.declared.rows.Form.TheVariants as forms
+use Rattle.mt_meta.specs.Rows.{plain, read_by, written_by, taking, kept, stored, invoked_by}
 
 abbrev pub cluster : ℕ
 cluster = 0x31
@@ -16,7 +17,7 @@ attributes =
     ∷ read_by Administer (plain 1 kinds.Networks)  -- Networks
     ∷ plain 2 kinds.Uint  -- ScanMaxTimeSeconds
     ∷ plain 3 kinds.Uint  -- ConnectMaxTimeSeconds
-    ∷ stored (first.Bool true) (kept (written_by Administer 0 (plain 4 kinds.Bool)))  -- InterfaceEnabled
+    ∷ stored (first.Bool true) (kept (taking forms.Bool (written_by Administer 0 (plain 4 kinds.Bool))))  -- InterfaceEnabled
     ∷ stored first.Null (read_by Administer (plain 5 kinds.NullableUint))  -- LastNetworkingStatus
     ∷ stored first.Null (read_by Administer (plain 6 kinds.NullableOctets))  -- LastNetworkID
     ∷ read_by Administer (plain 7 kinds.Null)  -- LastConnectErrorValue

@@ -2,7 +2,10 @@
 //! list is computed.
 
 use crate::meta::{Kind, Meta};
-use crate::rows::{AttributeRow, EventRow, Origin, PLAIN, Sensitive, computed, event};
+use crate::rows::{
+    AttributeRow, EventRow, FABRIC_FIELD, Field, Form, Origin, PLAIN, Sensitive, Takes, computed,
+    event, field,
+};
 use mt_model::Privilege;
 use mt_model::limits::ENTRIES;
 
@@ -23,6 +26,18 @@ pub const TARGETS_PER_ACCESS_CONTROL_ENTRY: u32 = 3;
 /// The most entries of a fabric.
 pub const ACCESS_CONTROL_ENTRIES_PER_FABRIC: u32 = 4;
 
+// Fields of an entry.
+
+/// The number of a privilege.
+pub const PRIVILEGE: u8 = 1;
+
+/// The number of a mode.
+pub const AUTH_MODE: u8 = 2;
+
+pub const SUBJECTS: u8 = 3;
+
+pub const TARGETS: u8 = 4;
+
 // Events.
 
 pub const ACCESS_CONTROL_ENTRY_CHANGED: u32 = 0;
@@ -41,12 +56,21 @@ pub(crate) static ATTRIBUTES: [AttributeRow; 4] = [
             limit: ENTRIES as u16,
             ..PLAIN
         },
+        takes: Takes::Items,
         origin: Origin::Computed,
         sensitive: Sensitive::AllButFabric,
     },
     computed!(SUBJECTS_PER_ACCESS_CONTROL_ENTRY, Uint),
     computed!(TARGETS_PER_ACCESS_CONTROL_ENTRY, Uint),
     computed!(ACCESS_CONTROL_ENTRIES_PER_FABRIC, Uint),
+];
+
+pub(crate) static FIELDS: [Field; 5] = [
+    field!(PRIVILEGE, true, Form::Uint { greatest: u64::MAX }),
+    field!(AUTH_MODE, true, Form::Uint { greatest: u64::MAX }),
+    field!(SUBJECTS, true, Form::Subjects),
+    field!(TARGETS, true, Form::Targets),
+    FABRIC_FIELD,
 ];
 
 pub(crate) static EVENTS: [EventRow; 1] = [event!(ACCESS_CONTROL_ENTRY_CHANGED, Administer, 1)];

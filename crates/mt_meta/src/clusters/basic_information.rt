@@ -1,7 +1,9 @@
 //! Basic Information: the node's own data.
 
 use crate::meta::{Kind, Meta};
-use crate::rows::{AttributeRow, EventRow, FirstValue, Origin, PLAIN, Sensitive, computed, event};
+use crate::rows::{
+    AttributeRow, EventRow, FirstValue, Form, Origin, PLAIN, Sensitive, Takes, computed, event,
+};
 use mt_model::Privilege;
 
 /// The number of the cluster.
@@ -64,6 +66,10 @@ pub(crate) static ATTRIBUTES: [AttributeRow; 12] = [
             limit: NODE_LABEL_BYTES as u16,
             ..PLAIN
         },
+        takes: Takes::Value(Form::Text {
+            least: 0,
+            most: NODE_LABEL_BYTES as u16,
+        }),
         origin: Origin::Stored(FirstValue::EmptyText),
         sensitive: Sensitive::Nothing,
     },
@@ -76,6 +82,10 @@ pub(crate) static ATTRIBUTES: [AttributeRow; 12] = [
             limit: LOCATION_BYTES as u16,
             ..PLAIN
         },
+        takes: Takes::Value(Form::Text {
+            least: LOCATION_BYTES as u16,
+            most: LOCATION_BYTES as u16,
+        }),
         origin: Origin::Stored(FirstValue::Country(b'X', b'X')),
         sensitive: Sensitive::Nothing,
     },

@@ -2,7 +2,8 @@
 
 use crate::meta::{Kind, Meta};
 use crate::rows::{
-    AttributeRow, CommandRow, EventRow, FirstValue, Origin, PLAIN, Sensitive, command, event,
+    AttributeRow, CommandRow, EventRow, FABRIC_FIELD, Field, FirstValue, Form, Origin, PLAIN,
+    Sensitive, Takes, command, event, field,
 };
 use mt_model::Privilege;
 use mt_model::limits::LIST_ITEMS;
@@ -17,6 +18,14 @@ pub const ITEMS: u32 = 0;
 
 /// A number.
 pub const NUMBER: u32 = 1;
+
+// Fields of an item.
+
+/// A text of at most 32 bytes.
+pub const NAME: u8 = 1;
+
+/// At most 64 octets.
+pub const SECRET: u8 = 2;
 
 // Commands that it accepts.
 
@@ -39,6 +48,7 @@ pub(crate) static ATTRIBUTES: [AttributeRow; 2] = [
             limit: LIST_ITEMS as u16,
             ..PLAIN
         },
+        takes: Takes::Items,
         origin: Origin::StoredItems,
         sensitive: Sensitive::OneField(2),
     },
@@ -51,9 +61,18 @@ pub(crate) static ATTRIBUTES: [AttributeRow; 2] = [
             kept: true,
             ..PLAIN
         },
+        takes: Takes::Value(Form::Uint {
+            greatest: u32::MAX as u64,
+        }),
         origin: Origin::Stored(FirstValue::Uint(0)),
         sensitive: Sensitive::Nothing,
     },
+];
+
+pub(crate) static FIELDS: [Field; 3] = [
+    field!(NAME, true, Form::Text { least: 0, most: 32 }),
+    field!(SECRET, true, Form::Octets { most: 64 }),
+    FABRIC_FIELD,
 ];
 
 pub(crate) static COMMANDS: [CommandRow; 1] = [command!(RING, Operate, true, true)];

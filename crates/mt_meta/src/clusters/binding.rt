@@ -1,7 +1,9 @@
 //! Binding.
 
 use crate::meta::{Kind, Meta};
-use crate::rows::{AttributeRow, Origin, PLAIN, Sensitive};
+use crate::rows::{
+    AttributeRow, FABRIC_FIELD, Field, Form, Origin, PLAIN, Sensitive, Takes, field,
+};
 use mt_model::Privilege;
 use mt_model::limits::LIST_ITEMS;
 
@@ -12,6 +14,17 @@ pub const CLUSTER: u32 = 0x1e;
 
 /// The list.
 pub const BINDING: u32 = 0;
+
+// Fields of an item.
+
+/// A node.
+pub const NODE: u8 = 1;
+
+/// An endpoint.
+pub const ENDPOINT: u8 = 3;
+
+/// A cluster.
+pub const TARGET_CLUSTER: u8 = 4;
 
 // The rows, ascending.
 
@@ -25,6 +38,26 @@ pub(crate) static ATTRIBUTES: [AttributeRow; 1] = [AttributeRow {
         limit: LIST_ITEMS as u16,
         ..PLAIN
     },
+    takes: Takes::Items,
     origin: Origin::StoredItems,
     sensitive: Sensitive::Nothing,
 }];
+
+pub(crate) static FIELDS: [Field; 4] = [
+    field!(NODE, false, Form::Uint { greatest: u64::MAX }),
+    field!(
+        ENDPOINT,
+        false,
+        Form::Uint {
+            greatest: u16::MAX as u64
+        }
+    ),
+    field!(
+        TARGET_CLUSTER,
+        false,
+        Form::Uint {
+            greatest: u32::MAX as u64
+        }
+    ),
+    FABRIC_FIELD,
+];

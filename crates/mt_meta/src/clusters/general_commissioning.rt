@@ -2,7 +2,7 @@
 
 use crate::meta::Meta;
 use crate::rows::{
-    AttributeRow, CommandRow, FirstValue, Origin, PLAIN, Sensitive, command, computed,
+    AttributeRow, CommandRow, FirstValue, Form, Origin, PLAIN, Sensitive, Takes, command, computed,
 };
 use mt_model::Privilege;
 
@@ -50,6 +50,7 @@ pub(crate) static ATTRIBUTES: [AttributeRow; 5] = [
             write: Some(Privilege::Administer),
             ..PLAIN
         },
+        takes: Takes::Value(Form::Uint { greatest: u64::MAX }),
         origin: Origin::Stored(FirstValue::Uint(0)),
         sensitive: Sensitive::Nothing,
     },
@@ -60,6 +61,7 @@ pub(crate) static ATTRIBUTES: [AttributeRow; 5] = [
             kept: true,
             ..PLAIN
         },
+        takes: Takes::Nothing,
         origin: Origin::Stored(FirstValue::Uint(2)),
         sensitive: Sensitive::Nothing,
     },

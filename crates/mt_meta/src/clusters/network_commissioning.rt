@@ -2,7 +2,7 @@
 
 use crate::meta::{Kind, Meta};
 use crate::rows::{
-    AttributeRow, CommandRow, FirstValue, Origin, PLAIN, Sensitive, command, computed,
+    AttributeRow, CommandRow, FirstValue, Form, Origin, PLAIN, Sensitive, Takes, command, computed,
 };
 use mt_model::Privilege;
 
@@ -59,6 +59,7 @@ pub(crate) static ATTRIBUTES: [AttributeRow; 8] = [
             kept: true,
             ..PLAIN
         },
+        takes: Takes::Value(Form::Bool),
         origin: Origin::Stored(FirstValue::Bool(true)),
         sensitive: Sensitive::Nothing,
     },
@@ -69,6 +70,7 @@ pub(crate) static ATTRIBUTES: [AttributeRow; 8] = [
             read: Privilege::Administer,
             ..PLAIN
         },
+        takes: Takes::Nothing,
         origin: Origin::Stored(FirstValue::Null),
         sensitive: Sensitive::Nothing,
     },
@@ -79,6 +81,7 @@ pub(crate) static ATTRIBUTES: [AttributeRow; 8] = [
             read: Privilege::Administer,
             ..PLAIN
         },
+        takes: Takes::Nothing,
         origin: Origin::Stored(FirstValue::Null),
         sensitive: Sensitive::Nothing,
     },

@@ -1,7 +1,7 @@
 //! On/Off.
 
 use crate::meta::{Kind, Meta};
-use crate::rows::{AttributeRow, CommandRow, FirstValue, Origin, PLAIN, Sensitive, command};
+use crate::rows::{AttributeRow, CommandRow, FirstValue, Origin, PLAIN, Sensitive, Takes, command};
 
 /// The number of the cluster.
 pub const CLUSTER: u32 = 0x06;
@@ -28,6 +28,7 @@ pub(crate) static ATTRIBUTES: [AttributeRow; 1] = [AttributeRow {
         kept: true,
         ..PLAIN
     },
+    takes: Takes::Nothing,
     origin: Origin::Stored(FirstValue::Bool(false)),
     sensitive: Sensitive::Nothing,
 }];

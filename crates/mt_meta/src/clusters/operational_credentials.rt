@@ -1,7 +1,7 @@
 //! Operational Credentials.
 
 use crate::meta::{Kind, Meta};
-use crate::rows::{AttributeRow, CommandRow, Origin, PLAIN, Sensitive, command, computed};
+use crate::rows::{AttributeRow, CommandRow, Origin, PLAIN, Sensitive, Takes, command, computed};
 use mt_model::Privilege;
 
 /// The number of the cluster.
@@ -55,6 +55,7 @@ pub(crate) static ATTRIBUTES: [AttributeRow; 6] = [
             scoped: true,
             ..PLAIN
         },
+        takes: Takes::Nothing,
         origin: Origin::Computed,
         sensitive: Sensitive::TwoFields(1, 2),
     },
@@ -65,6 +66,7 @@ pub(crate) static ATTRIBUTES: [AttributeRow; 6] = [
             scoped: true,
             ..PLAIN
         },
+        takes: Takes::Nothing,
         origin: Origin::Computed,
         sensitive: Sensitive::Nothing,
     },

@@ -1,7 +1,7 @@
 //! User Label.
 
 use crate::meta::{Kind, Meta};
-use crate::rows::{AttributeRow, FirstValue, Origin, PLAIN, Sensitive};
+use crate::rows::{AttributeRow, Field, FirstValue, Form, Origin, PLAIN, Sensitive, Takes, field};
 use mt_model::Privilege;
 use mt_model::limits::LIST_ITEMS;
 
@@ -12,6 +12,12 @@ pub const CLUSTER: u32 = 0x41;
 
 /// The list.
 pub const LABEL_LIST: u32 = 0;
+
+// Fields of an item, texts of at most 16 bytes.
+
+pub const LABEL: u8 = 0;
+
+pub const VALUE: u8 = 1;
 
 // The rows, ascending.
 
@@ -24,6 +30,12 @@ pub(crate) static ATTRIBUTES: [AttributeRow; 1] = [AttributeRow {
         limit: LIST_ITEMS as u16,
         ..PLAIN
     },
+    takes: Takes::Items,
     origin: Origin::Stored(FirstValue::EmptyArray),
     sensitive: Sensitive::Nothing,
 }];
+
+pub(crate) static FIELDS: [Field; 2] = [
+    field!(LABEL, true, Form::Text { least: 0, most: 16 }),
+    field!(VALUE, true, Form::Text { least: 0, most: 16 }),
+];

@@ -1,0 +1,6 @@
+pub mod Entries
+pub mod Fields
+pub mod Forms
+pub mod Items
+pub mod Latest
+pub mod Writing

@@ -1,0 +1,240 @@
+//! Access control entries as they are written.
+
+ghost use Rattle.std.specs.Prelude.{◌≡◌, IfOk, Some, option_and_then};
+ghost use Rattle.mt_tlv.specs.View.{elements, tree};
+ghost use Rattle.mt_model.specs.tables.Entries.{each_in, list_in, mode_numbered, number_in, privilege_numbered};
+ghost use Rattle.mt_model.specs.Trees.{field_in};
+ghost use Rattle.mt_model.specs.texts.Config.{is_entry};
+ghost use Rattle.mt_write.specs.Entries.{entry_in, kept_entry, nullable_field, nullable_in, target_in, valid_entry};
+
+use crate::fields::{field, structure_of};
+use mt_acl::valid;
+use mt_meta::clusters::access_control::{AUTH_MODE, PRIVILEGE, SUBJECTS, TARGETS};
+use mt_model::{AclEntry, Auth, Privilege, Subjects, Target, Targets};
+use mt_tlv::{Tag, Value};
+use std::alloc::{AllocError, Global};
+
+/// The target that a value is, None where it is none.
+pub(crate) fn target_of(value: &Value) -> Option<Target>
+    ensures { result ≡ target_in (tree value.now) }
+{
+    let members = structure_of(value)?;
+    Some(Target {
+        cluster: u32_or_null(members, 0)?,
+        endpoint: u16_or_null(members, 1)?,
+        device: u32_or_null(members, 2)?,
+    })
+}
+
+// A number of 32 bits, or null.
+fn u32_or_null(members: &[(Tag, Value)], number: u8) -> Option<Option<u32>>
+    ensures { result ≡ nullable_field 0xffffffff (field_in number (elements members.now)) }
+{
+    match field(members, number) {
+        Some(value) => nullable_u32(value),
+        None => Some(None),
+    }
+}
+
+fn nullable_u32(value: &Value) -> Option<Option<u32>>
+    ensures { result ≡ nullable_in 0xffffffff (tree value.now) }
+{
+    match value {
+        Value::Null => Some(None),
+        Value::Uint(number) if *number <= u32::MAX as u64 => Some(Some(*number as u32)),
+        _ => None,
+    }
+}
+
+// A number of 16 bits, or null.
+fn u16_or_null(members: &[(Tag, Value)], number: u8) -> Option<Option<u16>>
+    ensures { result ≡ nullable_field 0xffff (field_in number (elements members.now)) }
+{
+    match field(members, number) {
+        Some(value) => nullable_u16(value),
+        None => Some(None),
+    }
+}
+
+fn nullable_u16(value: &Value) -> Option<Option<u16>>
+    ensures { result ≡ nullable_in 0xffff (tree value.now) }
+{
+    match value {
+        Value::Null => Some(None),
+        Value::Uint(number) if *number <= u16::MAX as u64 => Some(Some(*number as u16)),
+        _ => None,
+    }
+}
+
+/// The entry of this fabric that an item is kept as, None where it breaks a rule.
+pub(crate) fn keep_entry(
+    alloc: Global,
+    fabric: u8,
+    item: &Value,
+) -> Result<Option<AclEntry>, AllocError>
+    ensures { IfOk result (λ kept. kept ≡ kept_entry fabric (tree item.now)) }
+{
+    let Some(members) = structure_of(item) else {
+        return Ok(None);
+    };
+    let Some(entry) = entry_of(alloc, fabric, members)? else {
+        return Ok(None);
+    };
+    Ok(valid_entry(entry))
+}
+
+// The entry, where it keeps the rules on entries.
+fn valid_entry(entry: AclEntry) -> Option<AclEntry>
+    ensures { result ≡ valid_entry (Some entry) }
+{
+    if is_valid(&entry) {
+        return Some(entry);
+    }
+    None
+}
+
+fn is_valid(entry: &AclEntry) -> bool
+    ensures { result ≡ is_entry entry.now }
+{
+    valid(entry).is_ok()
+}
+
+// The entry of this fabric with these fields.
+fn entry_of(
+    alloc: Global,
+    fabric: u8,
+    members: &[(Tag, Value)],
+) -> Result<Option<AclEntry>, AllocError>
+    ensures { IfOk result (λ entry. entry ≡ entry_in fabric (elements members.now)) }
+{
+    let Some(privilege) = privilege_at(members) else {
+        return Ok(None);
+    };
+    let Some(auth) = mode_at(members) else {
+        return Ok(None);
+    };
+    let Some(subjects) = subjects_at(alloc, members)? else {
+        return Ok(None);
+    };
+    let Some(targets) = targets_at(alloc, members)? else {
+        return Ok(None);
+    };
+    Ok(Some(AclEntry {
+        privilege,
+        auth,
+        subjects,
+        targets,
+        fabric,
+    }))
+}
+
+fn privilege_at(members: &[(Tag, Value)]) -> Option<Privilege>
+    ensures { result ≡ option_and_then privilege_numbered (option_and_then number_in (field_in 1 (elements members.now))) }
+{
+    privilege_numbered(number_of(field(members, PRIVILEGE)?)?)
+}
+
+fn mode_at(members: &[(Tag, Value)]) -> Option<Auth>
+    ensures { result ≡ option_and_then mode_numbered (option_and_then number_in (field_in 2 (elements members.now))) }
+{
+    mode_numbered(number_of(field(members, AUTH_MODE)?)?)
+}
+
+fn number_of(value: &Value) -> Option<u64>
+    ensures { result ≡ number_in (tree value.now) }
+{
+    match value {
+        Value::Uint(number) => Some(*number),
+        _ => None,
+    }
+}
+
+fn privilege_numbered(number: u64) -> Option<Privilege>
+    ensures { result ≡ privilege_numbered number }
+{
+    match number {
+        1 => Some(Privilege::View),
+        2 => Some(Privilege::ProxyView),
+        3 => Some(Privilege::Operate),
+        4 => Some(Privilege::Manage),
+        5 => Some(Privilege::Administer),
+        _ => None,
+    }
+}
+
+fn mode_numbered(number: u64) -> Option<Auth>
+    ensures { result ≡ mode_numbered number }
+{
+    match number {
+        1 => Some(Auth::Pase),
+        2 => Some(Auth::Case),
+        3 => Some(Auth::Group),
+        _ => None,
+    }
+}
+
+fn subjects_at(alloc: Global, members: &[(Tag, Value)]) -> Result<Option<Subjects>, AllocError>
+    ensures { IfOk result (λ subjects. subjects ≡ option_and_then (list_in number_in) (field_in 3 (elements members.now))) }
+{
+    match field(members, SUBJECTS) {
+        Some(value) => subjects_of(alloc, value),
+        None => Ok(None),
+    }
+}
+
+// Null is no subjects.
+fn subjects_of(alloc: Global, value: &Value) -> Result<Option<Subjects>, AllocError>
+    ensures { IfOk result (λ subjects. subjects ≡ list_in number_in (tree value.now)) }
+{
+    match value {
+        Value::Null => Ok(Some(Subjects::new(alloc))),
+        Value::Array(members) => each_subject(alloc, members.as_slice()),
+        _ => Ok(None),
+    }
+}
+
+fn each_subject(alloc: Global, members: &[(Tag, Value)]) -> Result<Option<Subjects>, AllocError>
+    ensures { IfOk result (λ subjects. subjects ≡ each_in number_in (elements members.now)) }
+{
+    let mut subjects = Subjects::new(alloc);
+    for member in members {
+        let Some(subject) = number_of(&member.1) else {
+            return Ok(None);
+        };
+        subjects.push(subject)?;
+    }
+    Ok(Some(subjects))
+}
+
+fn targets_at(alloc: Global, members: &[(Tag, Value)]) -> Result<Option<Targets>, AllocError>
+    ensures { IfOk result (λ targets. targets ≡ option_and_then (list_in target_in) (field_in 4 (elements members.now))) }
+{
+    match field(members, TARGETS) {
+        Some(value) => targets_of(alloc, value),
+        None => Ok(None),
+    }
+}
+
+// Null is no targets.
+fn targets_of(alloc: Global, value: &Value) -> Result<Option<Targets>, AllocError>
+    ensures { IfOk result (λ targets. targets ≡ list_in target_in (tree value.now)) }
+{
+    match value {
+        Value::Null => Ok(Some(Targets::new(alloc))),
+        Value::Array(members) => each_target(alloc, members.as_slice()),
+        _ => Ok(None),
+    }
+}
+
+fn each_target(alloc: Global, members: &[(Tag, Value)]) -> Result<Option<Targets>, AllocError>
+    ensures { IfOk result (λ targets. targets ≡ each_in target_in (elements members.now)) }
+{
+    let mut targets = Targets::new(alloc);
+    for member in members {
+        let Some(target) = target_of(&member.1) else {
+            return Ok(None);
+        };
+        targets.push(target)?;
+    }
+    Ok(Some(targets))
+}
