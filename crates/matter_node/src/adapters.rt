@@ -4,7 +4,10 @@
 ghost use Rattle.std.specs.Prelude.{None};
 
 use mt_outside::{Failed, Sink, Source};
-use std::io::{Read, Write};
+use std::io::{ErrorKind, Read, Write};
+
+// How often a call is made that signals interrupt, before it counts as failed: so that it ends.
+const ATTEMPTS: u32 = 1_000;
 
 /// A source over a reader, or over a file that could not be opened, of which each read fails.
 #[derive(Drop)]
@@ -26,7 +29,7 @@ impl<R: Read + Drop> Source for ReaderSource<R> {
 
     fn read(&mut self, into: &mut [u8]) -> Result<usize, Failed> {
         if let Some(reader) = &mut self.reader
-            && let Ok(count) = reader.read(into)
+            && let Some(count) = read_again(reader, into)
         {
             return Ok(count);
         }
@@ -55,7 +58,7 @@ impl<W: Write + Drop> Sink for WriterSink<W> {
     ghost faults = { λ s. s.faults };
 
     fn write(&mut self, from: &[u8]) -> Result<usize, Failed> {
-        if let Ok(count) = self.writer.write(from)
+        if let Some(count) = write_again(&mut self.writer, from)
             && (count > 0 || from.is_empty())
         {
             return Ok(count);
@@ -63,4 +66,28 @@ impl<W: Write + Drop> Sink for WriterSink<W> {
         self.faults = self.faults.saturating_add(1);
         Err(Failed)
     }
+}
+
+// What a reader gives, as soon as no signal interrupts the call; None where it fails otherwise.
+fn read_again<R: Read>(reader: &mut R, into: &mut [u8]) -> Option<usize> {
+    for _ in 0..ATTEMPTS {
+        match reader.read(into) {
+            Ok(count) => return Some(count),
+            Err(error) if error.kind() == ErrorKind::Interrupted => {}
+            Err(_) => return None,
+        }
+    }
+    None
+}
+
+// What a writer takes, as soon as no signal interrupts the call; None where it fails otherwise.
+fn write_again<W: Write>(writer: &mut W, from: &[u8]) -> Option<usize> {
+    for _ in 0..ATTEMPTS {
+        match writer.write(from) {
+            Ok(count) => return Some(count),
+            Err(error) if error.kind() == ErrorKind::Interrupted => {}
+            Err(_) => return None,
+        }
+    }
+    None
 }

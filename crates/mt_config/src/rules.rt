@@ -8,10 +8,12 @@ ghost use Rattle.mt_model.specs.texts.Config.{are_both_pase, are_credentials, ar
 use mt_acl::valid;
 use mt_model::limits::{
     CASE_SESSIONS, CERTIFICATE_BYTES, ELEMENTS_BYTES, ENTRIES, FABRICS, IPK_BYTES, LABEL_BYTES,
-    NETWORK_ID_BYTES, NETWORKS, NONCE_BYTES, PASE_SESSIONS, ROOT_KEY_BYTES,
-    SESSIONS, SIGNATURE_BYTES, VERDICTS,
+    NETWORK_ID_BYTES, NETWORKS, NONCE_BYTES, PASE_SESSIONS, ROOT_KEY_BYTES, SESSIONS,
+    SIGNATURE_BYTES, VERDICTS,
 };
-use mt_model::{AclEntry, Auth, Credentials, CsrRow, Fabric, JoinRow, RootRow, SessionRow, is_operational};
+use mt_model::{
+    AclEntry, Auth, Credentials, CsrRow, Fabric, JoinRow, RootRow, SessionRow, is_operational,
+};
 use mt_tlv::Bytes;
 
 /// Whether these may be the fabrics of a new node.

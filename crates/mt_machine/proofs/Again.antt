@@ -58,7 +58,7 @@ module _ (fabric : ℕ) where
       ∙ map-append (seen_by fabric) (filter is_others (filter is_mine rs)) (filter is_others (others fabric rs))
       ∙ (λ i. others_of_mine rs i ++ others_of_others rs i)
 
--- Whose the others' entries are.
+  -- Whose the others' entries are.
 
   abbrev is_others_entry : AclEntry → Bool
   is_others_entry entry = not (entry.fabric == fabric)
@@ -80,7 +80,7 @@ module _ (fabric : ℕ) where
       ∙ map-append (λ (entry : AclEntry). entry.fabric) (filter is_others_entry (own_entries fabric es)) (filter is_others_entry (bare_others fabric es))
       ∙ (λ i. owners_of_own es i ++ owners_of_others es i)
 
--- Fabrics.
+  -- Fabrics.
 
   own_of_known : (fs : List Fabric) → own_fabrics fabric (map (known_to fabric) fs) ≡ own_fabrics fabric fs
   own_of_known [] = refl
@@ -102,7 +102,7 @@ module _ (fabric : ℕ) where
   all_described [] = refl
   all_described (f ∷ fs) = λ i. described f i ∷ all_described fs i
 
--- The fail-safe, networks and sessions.
+  -- The fail-safe, networks and sessions.
 
   saved_again : (armed : Option Armed) → saved_for fabric (option_map (with_saved (saved_for fabric armed)) (option_map bare_armed armed)) ≡ saved_for fabric armed
   saved_again None = refl

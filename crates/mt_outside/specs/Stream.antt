@@ -1,5 +1,5 @@
 -- What the calls of a source and a sink do, and when they may fail. Where an object cannot tell its bytes, nothing is said of them.
-use Rattle.std.specs.Prelude.{◌≡◌, ◌≤◌, ◌+◌, ◌^◌, ◌-◌, ℕ, List, [], ◌++◌, Option, Some, None, Result, IsErr, min, ⊤}
+use Rattle.std.specs.Prelude.{◌≡◌, ◌≤◌, ◌+◌, ◌^◌, ◌-◌, ℕ, List, [], ◌++◌, Option, Some, None, Result, IsErr, IsOk, min, ⊤}
 
 -- A count of 64 bits after one more, which stays at its last value once it is there.
 abbrev pub one_more : ℕ → ℕ
@@ -9,10 +9,11 @@ one_more count = min (count + 1) (2 ^ 64 - 1)
 abbrev pub Rose : ℕ → ℕ → Type 0
 Rose before now = one_more before ≤ now
 
--- The count of faults never falls, and a call fails only where it rose.
+-- The count of faults never falls; a call fails only where it rose, and where it does not fail it stays.
 pub record HasCause {T E : Type 0} (before now : ℕ) (result : Result T E) : Type 0 where
   pub never_falls : before ≤ now
   pub rose : IsErr result → Rose before now
+  pub stays : IsOk result → now ≡ before
 
 -- of what was left these bytes were given, in order, and the rest is left
 abbrev pub Gave : Option (List ℕ) → Option (List ℕ) → List ℕ → Type 0

@@ -12,7 +12,8 @@ pub trait Source {
     /// The bytes that are left, where the source can tell.
     ghost left: { Self → Option (List ℕ) };
 
-    /// How many calls have failed. The count never falls, and stays at 2^64 - 1 once it is there.
+    /// How many calls have failed. A call that does not fail leaves the count; it never falls, and
+    /// stays at 2^64 - 1 once it is there.
     ghost faults: { Self → ℕ };
 
     /// Reads the next bytes to the front of `into`, and answers how many there are.
@@ -32,7 +33,8 @@ pub trait Sink {
     /// The bytes that were written so far, where the sink can tell.
     ghost written: { Self → Option (List ℕ) };
 
-    /// How many calls have failed. The count never falls, and stays at 2^64 - 1 once it is there.
+    /// How many calls have failed. A call that does not fail leaves the count; it never falls, and
+    /// stays at 2^64 - 1 once it is there.
     ghost faults: { Self → ℕ };
 
     /// Writes bytes from the front of `from`, and answers how many. Of a piece that is not empty it

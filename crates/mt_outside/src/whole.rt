@@ -1,6 +1,6 @@
 //! Reading a source to its end, and writing all of some bytes.
 
-ghost use Rattle.std.specs.Prelude.{◌≡◌, ◌≤◌, ◌<◌, length, vec_len, IfOk, IfSome, OnOk, OnErr};
+ghost use Rattle.std.specs.Prelude.{◌≡◌, ◌≢◌, ◌≤◌, ◌<◌, length, vec_len, IfOk, IfSome, OnOk, OnErr};
 ghost use Rattle.mt_outside.specs.Stream.{GavePart, HasCause, ReadToEnd, Rose, Took, TookPart};
 
 use crate::stream::{Failed, Sink, Source};
@@ -36,6 +36,7 @@ pub fn read_all<A: Source>(
         Rose (A.faults source.old) (A.faults source.new) }
     ensures part { OnErr result (GavePart (A.left source.old) (A.left source.new)) }
     ensures never_falls { A.faults source.old ≤ A.faults source.new }
+    ensures calm { result ≢ Err ReadFault.Failed → A.faults source.new ≡ A.faults source.old }
 {
     let mut all = Vec::new(alloc);
     let mut piece = [0; PIECE];

@@ -6,13 +6,12 @@ ghost use Rattle.mt_read.specs.Reading.{path_items, place_named, read_answer, wi
 ghost use Rattle.mt_model.specs.rows.Seen.{seen_as};
 ghost use Rattle.mt_meta.specs.Places.{is_not_global, places};
 
-use crate::items::{concrete_item, wildcard_item};
-use mt_meta::{expand, is_global};
+use crate::reader::Reader;
+use mt_meta::{expand, is_not_global};
 use mt_model::{Actor, Item, Items, Path, Paths, Place, Sight, Version, Versions};
 use std::alloc::{AllocError, Global};
 
 /// Why a read is not answered.
-#[derive(Clone, Copy, Debug, PartialEq, Eq)]
 pub enum ReadFault {
     /// A path asks every cluster for an attribute that not every cluster has.
     NotGlobal = 1,
@@ -45,7 +44,14 @@ pub fn read<S: Sight>(
     if any_not_global(paths) {
         return Err(ReadFault::NotGlobal);
     }
-    match answered(alloc, sight, actor, paths, filtered, versions.as_slice()) {
+    let reader = Reader {
+        alloc,
+        sight,
+        actor,
+        filtered,
+        versions: versions.as_slice(),
+    };
+    match reader.answered(paths) {
         Ok(items) => Ok(Items::from_vec(items)),
         Err(_) => Err(ReadFault::Memory),
     }
@@ -54,54 +60,54 @@ pub fn read<S: Sight>(
 fn any_not_global(paths: &[Path]) -> bool
     ensures { result ≡ list_any is_not_global paths.now }
 {
-    paths.iter().any(is_not_global)
+    paths.iter().any(|path| is_not_global(path))
 }
 
-fn is_not_global(path: &Path) -> bool
-    ensures { result ≡ is_not_global path.now }
-{
-    match (path.cluster, path.leaf) {
-        (None, Some(attribute)) => !is_global(attribute),
-        _ => false,
-    }
-}
-
-fn answered<S: Sight>(
-    alloc: Global,
-    sight: &S,
-    actor: &Actor,
-    paths: &[Path],
-    filtered: bool,
-    versions: &[Version],
-) -> Result<Vec<Item>, AllocError>
-    ensures { let seen = seen_as actor.now.fabric (S.rows_of sight.now) (S.versions sight.now) (S.all_entries sight.now) in
-        IfOk result (λ items. items.items ≡ flat_map (path_items seen actor.now filtered versions.now) paths.now) }
-{
-    let mut items = Vec::new(alloc);
-    for path in paths {
-        push_path(alloc, sight, actor, path, filtered, versions, &mut items)?;
-    }
-    Ok(items)
-}
-
-fn push_path<S: Sight>(
-    alloc: Global,
-    sight: &S,
-    actor: &Actor,
-    path: &Path,
-    filtered: bool,
-    versions: &[Version],
-    items: &mut Vec<Item>,
-) -> Result<(), AllocError>
-    ensures { let seen = seen_as actor.now.fabric (S.rows_of sight.now) (S.versions sight.now) (S.all_entries sight.now) in
-        OnOk result (items.new.items ≡ items.old.items ++ path_items seen actor.now filtered versions.now path.now) }
-{
-    match place_named(path) {
-        Some(place) => {
-            let item = concrete_item(alloc, sight, actor, &place, filtered, versions)?;
-            push_one(item, items)
+impl<'a, S: Sight> Reader<'a, S> {
+    fn answered(&self, paths: &[Path]) -> Result<Vec<Item>, AllocError>
+        ensures { let seen = seen_as self.now.actor.now.fabric (S.rows_of self.now.sight.now) (S.versions self.now.sight.now) (S.all_entries self.now.sight.now) in
+            IfOk result (λ items. items.items ≡ flat_map (path_items seen self.now.actor.now self.now.filtered self.now.versions.now) paths.now) }
+    {
+        let mut items = Vec::new(self.alloc);
+        for path in paths {
+            self.push_path(path, &mut items)?;
         }
-        None => push_wildcard(alloc, sight, actor, path, filtered, versions, items),
+        Ok(items)
+    }
+
+    fn push_path(&self, path: &Path, items: &mut Vec<Item>) -> Result<(), AllocError>
+        ensures { let seen = seen_as self.now.actor.now.fabric (S.rows_of self.now.sight.now) (S.versions self.now.sight.now) (S.all_entries self.now.sight.now) in
+            OnOk result (items.new.items ≡ items.old.items ++ path_items seen self.now.actor.now self.now.filtered self.now.versions.now path.now) }
+    {
+        match place_named(path) {
+            Some(place) => {
+                let item = self.concrete_item(&place)?;
+                push_one(item, items)
+            }
+            None => self.push_wildcard(path, items),
+        }
+    }
+
+    fn push_wildcard(&self, path: &Path, items: &mut Vec<Item>) -> Result<(), AllocError>
+        ensures { let seen = seen_as self.now.actor.now.fabric (S.rows_of self.now.sight.now) (S.versions self.now.sight.now) (S.all_entries self.now.sight.now) in
+            OnOk result (items.new.items ≡ items.old.items ++ flat_map (wildcard_items seen self.now.actor.now self.now.filtered self.now.versions.now) (places path.now)) }
+    {
+        // No path is left that is not global, so that nothing fails but for want of memory.
+        let Ok(places) = expand(self.alloc, path) else {
+            return Err(AllocError);
+        };
+        self.push_places(places.as_slice(), items)
+    }
+
+    fn push_places(&self, places: &[Place], items: &mut Vec<Item>) -> Result<(), AllocError>
+        ensures { let seen = seen_as self.now.actor.now.fabric (S.rows_of self.now.sight.now) (S.versions self.now.sight.now) (S.all_entries self.now.sight.now) in
+            OnOk result (items.new.items ≡ items.old.items ++ flat_map (wildcard_items seen self.now.actor.now self.now.filtered self.now.versions.now) places.now) }
+    {
+        for place in places {
+            let item = self.wildcard_item(place)?;
+            push_one(item, items)?;
+        }
+        Ok(())
     }
 }
 
@@ -124,52 +130,6 @@ fn push_one(item: Option<Item>, items: &mut Vec<Item>) -> Result<(), AllocError>
 {
     if let Some(item) = item {
         items.push(item)?;
-    }
-    Ok(())
-}
-
-fn push_wildcard<S: Sight>(
-    alloc: Global,
-    sight: &S,
-    actor: &Actor,
-    path: &Path,
-    filtered: bool,
-    versions: &[Version],
-    items: &mut Vec<Item>,
-) -> Result<(), AllocError>
-    ensures { let seen = seen_as actor.now.fabric (S.rows_of sight.now) (S.versions sight.now) (S.all_entries sight.now) in
-        OnOk result (items.new.items ≡ items.old.items ++ flat_map (wildcard_items seen actor.now filtered versions.now) (places path.now)) }
-{
-    // No path is left that is not global, so that nothing fails but for want of memory.
-    let Ok(places) = expand(alloc, path) else {
-        return Err(AllocError);
-    };
-    push_places(
-        alloc,
-        sight,
-        actor,
-        places.as_slice(),
-        filtered,
-        versions,
-        items,
-    )
-}
-
-fn push_places<S: Sight>(
-    alloc: Global,
-    sight: &S,
-    actor: &Actor,
-    places: &[Place],
-    filtered: bool,
-    versions: &[Version],
-    items: &mut Vec<Item>,
-) -> Result<(), AllocError>
-    ensures { let seen = seen_as actor.now.fabric (S.rows_of sight.now) (S.versions sight.now) (S.all_entries sight.now) in
-        OnOk result (items.new.items ≡ items.old.items ++ flat_map (wildcard_items seen actor.now filtered versions.now) places.now) }
-{
-    for place in places {
-        let item = wildcard_item(alloc, sight, actor, place, filtered, versions)?;
-        push_one(item, items)?;
     }
     Ok(())
 }

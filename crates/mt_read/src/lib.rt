@@ -2,14 +2,14 @@
 //! the node.
 //!
 //! - `answering`: the answer to a request, path by path;
-//! - `items`: the answer for one place;
+//! - `reader`: a read, and the answer for one place;
 //! - `values`: the value of an attribute, as the reader's fabric sees it;
 //! - `laws`: when a read is denied.
 #![tactic(auto)]
 
 mod answering;
-mod items;
 mod laws;
+mod reader;
 mod values;
 
 pub use answering::{ReadFault, read};

@@ -1,4 +1,4 @@
-use Rattle.std.proofs.Common.{arith}
+use Rattle.std.proofs.Common.{arith, refl}
 use Rattle.std.proofs.lemmas.Result.{err_from_is_err_and}
 use Rattle.std.proofs.lemmas.Grind.{common_steps}
 use Rattle.mt_outside.proofs.Streams.{Took-next, Took-stopped}
@@ -17,6 +17,6 @@ pieces-preserved g c =
     let i = c.pieces.invariant in
     record {
       took = Took-next (written c.args.sink.now) (written c.pieces.sink) (written c.write.new.self) c.pieces.at c.in_ok-at.field-0 c.args.bytes.now i.took e.took;
-      never_falls = omega (arith, i.never_falls, e.cause.never_falls);
+      calm = grind (arith, i.calm, e.cause.stays refl);
       within = grind (arith, common_steps, e.within, i.within);
     }

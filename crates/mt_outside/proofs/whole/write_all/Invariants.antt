@@ -1,11 +1,11 @@
-use Rattle.std.proofs.Common.{◌≤◌, ◌-◌, length, take}
+use Rattle.std.proofs.Common.{◌≡◌, ◌≤◌, ◌-◌, length, take}
 use Rattle.mt_outside.specs.Stream.{Took}
 use Rattle.mt_outside.proofs.whole.write_all.Given as goal
 
 abbrev pub invariant-pieces : goal.invariant-pieces
 invariant-pieces g l = record {
   took : Took (g.W.Sink.written l.initial.sink) (g.W.Sink.written l.sink) (take l.at l.bytes);
-  never_falls : g.W.Sink.faults l.initial.sink ≤ g.W.Sink.faults l.sink;
+  calm : g.W.Sink.faults l.sink ≡ g.W.Sink.faults l.initial.sink;
   within : l.at ≤ length l.bytes;
 }
 
