@@ -15,27 +15,28 @@ use Rattle.mt_tlv.specs.Limits.{is_anonymous, is_tag_in}
 use Rattle.mt_tlv.specs.Reading.{◌>>=◌, Reads, cut_at, piece_at, number_at, context_at, profile_number_at, full_at, tag_at, head_at, allowed, is_scalar_type, scalar_length, scalar_at, string_at, text_of, text_at, is_end, kind_of, container_of, members_with, body_with, container_at, body_at, element_at}
 use Rattle.mt_tlv.specs.Parts.{Place, Piece, scalar, enter, leave, fits, ends, enter_at, part_at, piece_in, innermost, kinds_after, moved, unless_fault, next_at, start}
 use Rattle.mt_tlv.specs.Parts as parts
-use Rattle.mt_tlv.specs.Runs.{Comes, Faults}
+use Rattle.mt_tlv.specs.Repeats.{IsRepeating}
+use Rattle.mt_tlv.specs.Runs.{parts_of, Comes, Faults}
 use Rattle.mt_tlv.proofs.Cursors.{place}
-use Rattle.mt_tlv.proofs.Runs.{comes_append, cursor_ends}
+use Rattle.mt_tlv.proofs.Runs.{comes_append, cursor_comes, cursor_ends}
 
 -- No more than this many bytes are left behind what was read.
-abbrev Within : {A : Type 0} → ℕ → Result (A × List ℕ) TlvFault → Type 0
+abbrev pub Within : {A : Type 0} → ℕ → Result (A × List ℕ) TlvFault → Type 0
 Within n (Ok x) = length x.1 ≤ n
 Within n (Err e) = Unit {0}
 
-bind_within : {A B : Type 0} (n : ℕ) (r : Result (A × List ℕ) TlvFault) (f : A × List ℕ → Result (B × List ℕ) TlvFault) → Within n r → ((x : A × List ℕ) → length x.1 ≤ n → Within n (f x)) → Within n (r >>= f)
+pub bind_within : {A B : Type 0} (n : ℕ) (r : Result (A × List ℕ) TlvFault) (f : A × List ℕ → Result (B × List ℕ) TlvFault) → Within n r → ((x : A × List ℕ) → length x.1 ≤ n → Within n (f x)) → Within n (r >>= f)
 bind_within n (Ok x) f h k = k x h
 bind_within n (Err e) f h k = tt
 
-cond_within : {A : Type 0} (n : ℕ) (b : Bool) (r s : Result (A × List ℕ) TlvFault) → Within n r → Within n s → Within n (cond b r s)
+pub cond_within : {A : Type 0} (n : ℕ) (b : Bool) (r s : Result (A × List ℕ) TlvFault) → Within n r → Within n s → Within n (cond b r s)
 cond_within n true r s h k = h
 cond_within n false r s h k = k
 
-cut_within : (n k : ℕ) (bytes : List ℕ) → length bytes ≤ n → Within n (cut_at k bytes)
+pub cut_within : (n k : ℕ) (bytes : List ℕ) → length bytes ≤ n → Within n (cut_at k bytes)
 cut_within n k bytes le = cond_within n (ltb (length bytes) k) (Err Short) (Ok (take k bytes, drop k bytes)) tt (omega (arith, length-drop k bytes))
 
-piece_within : (n whole k : ℕ) (bytes : List ℕ) → length bytes ≤ n → Within n (piece_at whole k bytes)
+pub piece_within : (n whole k : ℕ) (bytes : List ℕ) → length bytes ≤ n → Within n (piece_at whole k bytes)
 piece_within n whole k bytes le = cond_within n (ltb 65535 k || ltb (65535 + length bytes) (whole + k)) (Err TooLong) (cut_at k bytes) tt (cut_within n k bytes le)
 
 number_within : (n k : ℕ) (bytes : List ℕ) → length bytes ≤ n → Within n (number_at k bytes)
@@ -62,18 +63,18 @@ tag_within n control bytes le =
     (cond_within n (ltb control 6) (profile_number_at control bytes >>= λ x. Ok (Implicit x.0, x.1)) (full_at control bytes) (bind_within n (profile_number_at control bytes) _ (profile_within n control bytes le) (λ x h. h))
     (full_within n control bytes le))))
 
-head_within : (n : ℕ) (bytes : List ℕ) → length bytes ≤ suc n → Within n (head_at bytes)
+pub head_within : (n : ℕ) (bytes : List ℕ) → length bytes ≤ suc n → Within n (head_at bytes)
 unfolding head_at
 head_within n [] le = tt
 head_within n (c ∷ bytes) le =
     let short : length bytes ≤ n = omega (arith, le) in
     cond_within n (ltb (c % 32) 24) (tag_at (c / 32) bytes >>= λ tag. Ok ((c % 32, tag.0), tag.1)) (Err Reserved) (bind_within n (tag_at (c / 32) bytes) _ (tag_within n (c / 32) bytes short) (λ x h. h)) tt
 
-scalar_within : (n whole type : ℕ) (bytes : List ℕ) → length bytes ≤ n → Within n (scalar_at whole type bytes)
+pub scalar_within : (n whole type : ℕ) (bytes : List ℕ) → length bytes ≤ n → Within n (scalar_at whole type bytes)
 unfolding scalar_at
 scalar_within n whole type bytes le = bind_within n (piece_at whole (scalar_length type) bytes) _ (piece_within n whole (scalar_length type) bytes le) (λ x h. h)
 
-string_within : (n whole type : ℕ) (bytes : List ℕ) → length bytes ≤ n → Within n (string_at whole type bytes)
+pub string_within : (n whole type : ℕ) (bytes : List ℕ) → length bytes ≤ n → Within n (string_at whole type bytes)
 unfolding string_at
 string_within n whole type bytes le = bind_within n (number_at (2 ^ (type % 4)) bytes) _ (number_within n (2 ^ (type % 4)) bytes le) (λ x h. piece_within n whole x.0 x.1 h)
 
@@ -81,7 +82,7 @@ utf8_within : (n : ℕ) (b : Bool) (s rest : List ℕ) → length rest ≤ n →
 utf8_within n true s rest le = le
 utf8_within n false s rest le = tt
 
-text_within : (n whole type : ℕ) (bytes : List ℕ) → length bytes ≤ n → Within n (text_at whole type bytes)
+pub text_within : (n whole type : ℕ) (bytes : List ℕ) → length bytes ≤ n → Within n (text_at whole type bytes)
 text_within n whole type bytes le = bind_within n (string_at whole type bytes) _ (string_within n whole type bytes le) (λ x h. utf8_within n (is_utf8 x.0) x.0 x.1 h)
 
 -- Follows whole len ks p r: where reading answers r, a cursor at the place p comes to the place behind what was
@@ -111,18 +112,18 @@ same_read : {A : Type 0} (r : Result (A × List ℕ) TlvFault) → (r >>= λ x. 
 same_read (Ok x) = refl
 same_read (Err e) = refl
 
-is_it : (b : Bool) → (b ≡ true) ⊎ (b ≡ false)
+pub is_it : (b : Bool) → (b ≡ true) ⊎ (b ≡ false)
 is_it true = inl refl
 is_it false = inr refl
 
 -- a step where the element has not ended
-goes_in : (whole : ℕ) (bytes : List ℕ) (ks : List Kind) (begun : Bool) → (begun && is_none (innermost ks)) ≡ false
+pub goes_in : (whole : ℕ) (bytes : List ℕ) (ks : List Kind) (begun : Bool) → (begun && is_none (innermost ks)) ≡ false
     → next_at (place whole bytes ks begun None) ≡ moved (place whole bytes ks begun None) (piece_in whole (innermost ks) (length ks) bytes)
 unfolding next_at
 goes_in whole bytes ks begun g = rw g refl
 
 module _ (whole : ℕ) (o : Option Kind) (depth : ℕ) (bytes : List ℕ) (goes : ends o bytes ≡ false) where
-  no_head : (e : TlvFault) → head_at bytes ≡ Err e → piece_in whole o depth bytes ≡ Err e
+  pub no_head : (e : TlvFault) → head_at bytes ≡ Err e → piece_in whole o depth bytes ≡ Err e
   unfolding piece_in
   no_head e h = rw (goes, h) refl
 
@@ -268,7 +269,7 @@ module _ (whole room : ℕ) (deeper : DeeperFollow whole room) (ks : List Kind) 
     ]
   ]
 
-nothing_in_front : head_at [] ≡ Err Short
+pub nothing_in_front : head_at [] ≡ Err Short
 unfolding head_at
 nothing_in_front = refl
 
@@ -407,6 +408,18 @@ met_by whole len p (Ok x) e f h =
 met_by whole len p (Err d) e f h = elim (is_same_tag_fault d) [
   | inl s ↦ inr (ap (failed ((Tag × Tree) × List ℕ)) s)
   | inr s ↦ let g = f s in inl (same_fault {A = Option Piece × Place} (sym g.3 ∙ one_stop p g.1 h.1 g.0 h.0 g.2 h.2 (fault_stops g.1 d g.3) (fault_stops h.1 e h.3) ∙ h.3))
+]
+
+-- reading stops at a tag that a structure has already, where nothing else is wrong
+pub only_repeats : (tag : Tag) (v : Tree) (bytes rest : List ℕ) (e : TlvFault) → IsRepeating tag v bytes → element_at (bytes ++ rest) ≡ Err e → e ≡ SameTag
+only_repeats tag v bytes rest e h is = elim (is_same_tag_fault e) [
+  | inl s ↦ s
+  | inr s ↦
+      let b = place (length (bytes ++ rest)) rest [] true None in
+      let f = read_fault_met (bytes ++ rest) e s is in
+      let same : next_at f.1 ≡ next_at b = one_stop (start (bytes ++ rest)) f.1 b f.0 (parts_of tag v) f.2 (cursor_comes tag v bytes rest h) (fault_stops f.1 e f.3) (end_stops (length (bytes ++ rest)) rest) in
+      let d : failed (Option Piece × Place) e ≡ ended b = sym f.3 ∙ same ∙ cursor_ends (length (bytes ++ rest)) rest in
+      absurd cc
 ]
 
 pub met_fault_read : (bytes : List ℕ) (e : TlvFault) → Faults (start bytes) e → (element_at bytes ≡ Err e) ⊎ (element_at bytes ≡ Err SameTag)

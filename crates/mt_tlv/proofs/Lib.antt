@@ -1,8 +1,10 @@
 pub mod Again
 pub mod Cursors
 pub mod Elements
+pub mod Ends
 pub mod Faults
 pub mod LittleEndian
+pub mod Longer
 pub mod Loop
 pub mod Narrowest
 pub mod Numbers

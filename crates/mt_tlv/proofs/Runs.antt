@@ -11,6 +11,7 @@ use Rattle.mt_tlv.specs.declared.reading.Kind.TheVariants as kinds
 use Rattle.mt_tlv.specs.Tree.{Tree, int, uint, bool, text, octets, null, bits32, bits64, structure, array, list, Elements, none, more}
 use Rattle.mt_tlv.specs.Spelling.{IsOpening, IsString, IsBody, AreSpelled}
 use Rattle.mt_tlv.specs.Limits.{MayStand, IsAllowed, AreAllowed, IsElement}
+use Rattle.mt_tlv.specs.Repeats.{HasForm, MayRepeat, TheyMayRepeat, IsRepeating}
 use Rattle.mt_tlv.specs.Reading.{kind_of}
 use Rattle.mt_tlv.specs.Parts.{Place, Piece, scalar, enter, leave, fits, ends, part_at, piece_in, innermost, kinds_after, next_at, start}
 use Rattle.mt_tlv.specs.Parts as parts
@@ -33,10 +34,10 @@ no_end_in : (o : Option Kind) (tag : Tag) (type : ℕ) (opening bytes : List ℕ
 no_end_in None tag type opening bytes lt h = refl
 no_end_in (Some kind) tag type opening bytes lt h = no_end tag type opening bytes lt h
 
-fits_again : (kind : Kind) (tags : List Tag) (tag : Tag) → MayStand kind tags tag → fits (Some kind) tag ≡ Ok tt
-fits_again kinds.Struct tags tag h = rw h.0 refl
-fits_again kinds.Array tags tag h = rw h refl
-fits_again kinds.List tags tag h = refl
+fits_again : (kind : Kind) (tag : Tag) → HasForm kind tag → fits (Some kind) tag ≡ Ok tt
+fits_again kinds.Struct tag h = rw h refl
+fits_again kinds.Array tag h = rw h refl
+fits_again kinds.List tag h = refl
 
 -- a step over the part in front
 module _ (whole : ℕ) (ks : List Kind) (begun : Bool) (goes : (begun && is_none (innermost ks)) ≡ false) where
@@ -98,7 +99,7 @@ module _ (whole : ℕ) (ks : List Kind) (begun : Bool) (goes : (begun && is_none
       rw bytes (at_place whole (inner ++ 24 ∷ rest) (kind_of type ∷ ks) true, over whole ks begun goes tag type opening (inner ++ 24 ∷ rest) (inner ++ 24 ∷ rest) (enter tag type) lt o f part, h)
 
 mutual
-  element_comes : (v : Tree) (tag : Tag) (room whole type : ℕ) (opening body rest : List ℕ) (ks : List Kind) (begun : Bool) → IsOpening tag type opening → IsBody v type body → IsAllowed v room → room + length ks ≡ 16 → whole ≤ 65535 + length rest
+  element_comes : (v : Tree) (tag : Tag) (room whole type : ℕ) (opening body rest : List ℕ) (ks : List Kind) (begun : Bool) → IsOpening tag type opening → IsBody v type body → MayRepeat v room → room + length ks ≡ 16 → whole ≤ 65535 + length rest
       → fits (innermost ks) tag ≡ Ok tt → (begun && is_none (innermost ks)) ≡ false → Comes (at_place whole (opening ++ (body ++ rest)) ks begun) (parts_of tag v) (at_place whole rest ks true)
   element_comes (int z) tag room whole type opening body rest ks begun o h may deep short f goes = over_scalar whole ks begun goes tag f type opening body rest o short (int z) (int_scalar z type body h.0 h.1 h.2)
   element_comes (uint n) tag room whole type opening body rest ks begun o h may deep short f goes = over_scalar whole ks begun goes tag f type opening body rest o short (uint n) (uint_scalar n h.0 type body h.1 h.2 h.3 h.4)
@@ -111,38 +112,68 @@ mutual
   element_comes (structure es) tag zero whole type opening body rest ks begun o h may deep short f goes = absurd may
   element_comes (structure es) tag (suc room) whole type opening body rest ks begun o h may deep short f goes =
       let wide : whole ≤ 65535 + length (h.0 ++ 24 ∷ rest) = omega (arith, short, length-append h.0 (24 ∷ rest)) in
-      over_container whole ks begun goes tag f 21 opening body rest (rw h.1 at o) short h.0 (parts_inside es ++ leave ∷ []) (omega arith) h.3 (enter_21 whole (length ks) tag (h.0 ++ 24 ∷ rest) (omega (arith, deep)) wide) (members_come es kinds.Struct [] room whole h.0 rest ks h.2 may (omega (arith, deep)) short)
+      over_container whole ks begun goes tag f 21 opening body rest (rw h.1 at o) short h.0 (parts_inside es ++ leave ∷ []) (omega arith) h.3 (enter_21 whole (length ks) tag (h.0 ++ 24 ∷ rest) (omega (arith, deep)) wide) (members_come es kinds.Struct room whole h.0 rest ks h.2 may (omega (arith, deep)) short)
   element_comes (array es) tag zero whole type opening body rest ks begun o h may deep short f goes = absurd may
   element_comes (array es) tag (suc room) whole type opening body rest ks begun o h may deep short f goes =
       let wide : whole ≤ 65535 + length (h.0 ++ 24 ∷ rest) = omega (arith, short, length-append h.0 (24 ∷ rest)) in
-      over_container whole ks begun goes tag f 22 opening body rest (rw h.1 at o) short h.0 (parts_inside es ++ leave ∷ []) (omega arith) h.3 (enter_22 whole (length ks) tag (h.0 ++ 24 ∷ rest) (omega (arith, deep)) wide) (members_come es kinds.Array [] room whole h.0 rest ks h.2 may (omega (arith, deep)) short)
+      over_container whole ks begun goes tag f 22 opening body rest (rw h.1 at o) short h.0 (parts_inside es ++ leave ∷ []) (omega arith) h.3 (enter_22 whole (length ks) tag (h.0 ++ 24 ∷ rest) (omega (arith, deep)) wide) (members_come es kinds.Array room whole h.0 rest ks h.2 may (omega (arith, deep)) short)
   element_comes (list es) tag zero whole type opening body rest ks begun o h may deep short f goes = absurd may
   element_comes (list es) tag (suc room) whole type opening body rest ks begun o h may deep short f goes =
       let wide : whole ≤ 65535 + length (h.0 ++ 24 ∷ rest) = omega (arith, short, length-append h.0 (24 ∷ rest)) in
-      over_container whole ks begun goes tag f 23 opening body rest (rw h.1 at o) short h.0 (parts_inside es ++ leave ∷ []) (omega arith) h.3 (enter_23 whole (length ks) tag (h.0 ++ 24 ∷ rest) (omega (arith, deep)) wide) (members_come es kinds.List [] room whole h.0 rest ks h.2 may (omega (arith, deep)) short)
+      over_container whole ks begun goes tag f 23 opening body rest (rw h.1 at o) short h.0 (parts_inside es ++ leave ∷ []) (omega arith) h.3 (enter_23 whole (length ks) tag (h.0 ++ 24 ∷ rest) (omega (arith, deep)) wide) (members_come es kinds.List room whole h.0 rest ks h.2 may (omega (arith, deep)) short)
 
-  members_come : (es : Elements) (kind : Kind) (tags : List Tag) (room whole : ℕ) (inner rest : List ℕ) (ks : List Kind) → AreSpelled es inner → AreAllowed es kind tags room → room + length (kind ∷ ks) ≡ 16 → whole ≤ 65535 + length rest
+  members_come : (es : Elements) (kind : Kind) (room whole : ℕ) (inner rest : List ℕ) (ks : List Kind) → AreSpelled es inner → TheyMayRepeat es kind room → room + length (kind ∷ ks) ≡ 16 → whole ≤ 65535 + length rest
       → Comes (at_place whole (inner ++ 24 ∷ rest) (kind ∷ ks) true) (parts_inside es ++ leave ∷ []) (at_place whole rest ks true)
-  members_come none kind tags room whole inner rest ks h may deep short = rw h (at_place whole rest ks true, out_of whole kind ks rest short, refl)
-  members_come (more tag v es) kind tags room whole inner rest ks h may deep short =
+  members_come none kind room whole inner rest ks h may deep short = rw h (at_place whole rest ks true, out_of whole kind ks rest short, refl)
+  members_come (more tag v es) kind room whole inner rest ks h may deep short =
       let type = h.0 in
       let opening = h.1 in
       let body = h.2 in
       let others = h.3 in
       let one : inner ++ 24 ∷ rest ≡ opening ++ (body ++ (others ++ 24 ∷ rest)) = regroup inner opening body others rest h.7 in
       let wide : whole ≤ 65535 + length (others ++ 24 ∷ rest) = omega (arith, short, length-append others (24 ∷ rest)) in
-      let first = element_comes v tag room whole type opening body (others ++ 24 ∷ rest) (kind ∷ ks) true h.4 h.5 may.2 deep wide (fits_again kind tags tag may.1) refl in
-      let second = members_come es kind (tags ++ tag ∷ []) room whole others rest ks h.6 may.3 deep short in
+      let first = element_comes v tag room whole type opening body (others ++ 24 ∷ rest) (kind ∷ ks) true h.4 h.5 may.2 deep wide (fits_again kind tag may.1) refl in
+      let second = members_come es kind room whole others rest ks h.6 may.3 deep short in
       let both = comes_append (at_place whole (opening ++ (body ++ (others ++ 24 ∷ rest))) (kind ∷ ks) true) (at_place whole (others ++ 24 ∷ rest) (kind ∷ ks) true) (at_place whole rest ks true) (parts_of tag v) (parts_inside es ++ leave ∷ []) first second in
       rw one (subst (λ (xs : List Piece). Comes (at_place whole (opening ++ (body ++ (others ++ 24 ∷ rest))) (kind ∷ ks) true) xs (at_place whole rest ks true)) (sym (append_assoc (parts_of tag v) (parts_inside es) (leave ∷ []))) both)
 
-pub cursor_comes : (tag : Tag) (v : Tree) (bytes rest : List ℕ) → IsElement tag v bytes → Comes (start (bytes ++ rest)) (parts_of tag v) (behind (length (bytes ++ rest)) rest)
+pub cursor_comes : (tag : Tag) (v : Tree) (bytes rest : List ℕ) → IsRepeating tag v bytes → Comes (start (bytes ++ rest)) (parts_of tag v) (behind (length (bytes ++ rest)) rest)
 cursor_comes tag v bytes rest h =
     let s = h.spelled in
     let e : bytes ++ rest ≡ s.1 ++ (s.2 ++ rest) = rw s.5 (append_assoc s.1 s.2 rest) in
     let short : length (bytes ++ rest) ≤ 65535 + length rest = omega (arith, h.short, length-append bytes rest) in
     let c = element_comes v tag 16 (length (bytes ++ rest)) s.0 s.1 s.2 rest [] false s.3 s.4 h.allowed refl short refl refl in
     subst (λ (b : List ℕ). Comes (at_place (length (bytes ++ rest)) b [] false) (parts_of tag v) (behind (length (bytes ++ rest)) rest)) (sym e) c
+
+has_form : (kind : Kind) (tags : List Tag) (tag : Tag) → MayStand kind tags tag → HasForm kind tag
+has_form kinds.Struct tags tag h = h.0
+has_form kinds.Array tags tag h = h
+has_form kinds.List tags tag h = tt
+
+mutual
+  may_repeat : (v : Tree) (room : ℕ) → IsAllowed v room → MayRepeat v room
+  may_repeat (int z) room h = h
+  may_repeat (uint n) room h = h
+  may_repeat (bool b) room h = h
+  may_repeat (text s) room h = h
+  may_repeat (octets s) room h = h
+  may_repeat null room h = h
+  may_repeat (bits32 n) room h = h
+  may_repeat (bits64 n) room h = h
+  may_repeat (structure es) zero h = h
+  may_repeat (structure es) (suc room) h = they_may_repeat es kinds.Struct [] room h
+  may_repeat (array es) zero h = h
+  may_repeat (array es) (suc room) h = they_may_repeat es kinds.Array [] room h
+  may_repeat (list es) zero h = h
+  may_repeat (list es) (suc room) h = they_may_repeat es kinds.List [] room h
+
+  they_may_repeat : (es : Elements) (kind : Kind) (tags : List Tag) (room : ℕ) → AreAllowed es kind tags room → TheyMayRepeat es kind room
+  they_may_repeat none kind tags room h = tt
+  they_may_repeat (more tag v es) kind tags room h = (h.0, has_form kind tags tag h.1, may_repeat v room h.2, they_may_repeat es kind (tags ++ tag ∷ []) room h.3)
+
+-- an element is one that may repeat tags
+pub is_repeating : (tag : Tag) (v : Tree) (bytes : List ℕ) → IsElement tag v bytes → IsRepeating tag v bytes
+is_repeating tag v bytes h = record { spelled = h.spelled; tag_fits = h.tag_fits; allowed = may_repeat v 16 h.allowed; short = h.short }
 
 pub cursor_ends : (whole : ℕ) (rest : List ℕ) → next_at (behind whole rest) ≡ Ok (None, behind whole rest)
 cursor_ends whole rest = next_ended (behind whole rest) no_fault refl

@@ -3,6 +3,7 @@ pub mod Limits
 pub mod Narrow
 pub mod Parts
 pub mod Reading
+pub mod Repeats
 pub mod Runs
 pub mod Spelling
 pub mod Tags

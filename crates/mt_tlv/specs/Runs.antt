@@ -38,3 +38,7 @@ behind whole rest = record { whole = whole; rest = rest; open_kinds = []; begun 
 -- Faults p e: from the place p a cursor comes over some parts, none or more, and then meets this fault.
 abbrev pub Faults : Place → TlvFault → Type 0
 Faults p e = (xs : List Piece) × (q : Place) × Comes p xs q × (next_at q ≡ Err e)
+
+-- From the place p a cursor comes over some parts to the end of the element.
+abbrev pub ComesToTheEnd : Place → Type 0
+ComesToTheEnd p = (xs : List Piece) × (rest : List ℕ) × Comes p xs (behind p.whole rest)

@@ -25,8 +25,9 @@ pub use bytes::Bytes;
 pub use cursor::{Cursor, Part};
 pub use fault::TlvFault;
 pub use laws::{
-    cursor_comes_over_the_element, element_is_read, narrow_is_element, no_element_begins_another,
-    written_is_read,
+    cursor_comes_over_the_element, cursor_ends_or_meets_a_fault, cursor_goes_over_repeated_tags,
+    cursor_meets_the_fault, element_is_read, later_bytes_change_nothing, narrow_is_element,
+    no_element_begins_another, written_is_read,
 };
 pub use reading::read;
 pub use value::{Members, Tag, Value};
