@@ -1,9 +1,15 @@
 -- What the laws say of the parts of a report.
 use Rattle.std.specs.Prelude.{◌≡◌, ◌≢◌, ◌<◌, ◌≤◌, ◌+◌, ◌⊎◌, List, [], ◌∷◌, ◌++◌, length, map, All, ⊤}
 use Rattle.std.specs.List.{flat_map}
+use Rattle.mt_tlv.specs.Tree.{Tree, array, Elements, none, more}
+use Rattle.mt_tlv.specs.View.{tree}
 use Rattle.mt_model.specs.messages.Blocks.{item_block}
 use Rattle.mt_model.specs.declared.limits.TheConstants.{ITEM_BYTES}
+use Rattle.mt_model.specs.declared.messages.message.Index.{Index}
+use Rattle.mt_model.specs.declared.messages.message.Index.TheVariants.{Whole, Append, At}
 use Rattle.mt_model.specs.declared.messages.message.Item.{Item}
+use Rattle.mt_model.specs.declared.messages.message.Item.TheVariants.{Attribute, Refused, Event, EventRefused}
+use Rattle.mt_model.specs.declared.messages.message.Payload.{Payload}
 use Rattle.mt_im_out.specs.Chunks.{Part, attribute_part, size_of}
 
 -- A payload takes the item.
@@ -36,3 +42,25 @@ pub record IsGreedySplit (items : List Item) (parts : List (List Item)) : Type 0
   pub begun : All (λ part. part ≢ []) parts
   pub within : All (λ part. (length part ≡ 1) ⊎ (size_of part ≤ ITEM_BYTES)) parts
   pub full : AreFull (map attribute_part parts)
+
+-- A payload has at most 16 bytes beside those of its items: 1 that opens the message, 6 for the subscription,
+-- 3 round the array of items, 2 that say that more follows, 3 for the revision and 1 that ends the message.
+abbrev pub IsShortPayload : Payload → Type 0
+IsShortPayload payload = length payload.bytes ≤ ITEM_BYTES + 16
+
+-- the elements of a container
+abbrev pub trees : Elements → List Tree
+trees none = []
+trees (more tag element elements) = element ∷ trees elements
+
+-- what a value at a path brings to the list that the path names: one element where it is to be appended, and
+-- its own elements where it is the list
+abbrev pub brought_at : Index → Tree → List Tree
+brought_at Append value = value ∷ []
+brought_at Whole (array elements) = trees elements
+brought_at index value = []
+
+-- what an item brings to the list that its path names
+abbrev pub brought : Item → List Tree
+brought (Attribute path version value) = brought_at path.index (tree value)
+brought item = []

@@ -20,8 +20,8 @@ mod reports;
 mod requests;
 
 pub use laws::{
-    greedy_is_the_one_split, last_payload_ends, payloads_are_full, payloads_are_within,
-    payloads_have_the_items,
+    greedy_is_the_one_split, last_payload_ends, payloads_are_full, payloads_are_short,
+    payloads_are_within, payloads_have_the_items, split_lists_have_the_elements,
 };
 use mt_model::{Payloads, Reply};
 pub use requests::encode_request;
