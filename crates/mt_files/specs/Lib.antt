@@ -1,6 +1,7 @@
 pub mod Event
 pub mod Field
 pub mod Form
+pub mod Kinds
 pub mod Lines
 pub mod Output
 pub mod Recording

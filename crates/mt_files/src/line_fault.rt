@@ -1,28 +1,48 @@
 //! What keeps a text from being a recording.
 
-ghost use Rattle.std.specs.Prelude.{◌≡◌};
+ghost use Rattle.std.specs.Prelude.{◌≡◌, Some};
+ghost use Rattle.mt_files.specs.Kinds.{kind_name};
 
 use std::alloc::{AllocError, AllocFailed};
+use std::fmt;
 use thiserror::Error;
 
 /// What is wrong with a line. Of several faults of one line the first of these is told.
-#[derive(Clone, Copy, Debug, PartialEq, Eq, Error)]
+#[derive(Clone, Copy, Debug, PartialEq, Eq)]
 pub enum LineKind {
     /// The first line is not the head.
-    #[error("head")]
     Head,
     /// There is no line of this letter with this number of fields, or a stop has no such fate.
-    #[error("form")]
     Form,
     /// A decimal field is no number, or out of its range.
-    #[error("number")]
     Number,
     /// A field in hex is no such field, has too many bytes, or names an actor that there cannot be.
-    #[error("hex")]
     Hex,
     /// The time is below that of an earlier line.
-    #[error("time")]
     Time,
+}
+
+impl LineKind {
+    /// Its word, as it is told.
+    pub fn name(self) -> &'static str
+        ensures { result.now ≡ kind_name self }
+    {
+        match self {
+            LineKind::Head => "head",
+            LineKind::Form => "form",
+            LineKind::Number => "number",
+            LineKind::Hex => "hex",
+            LineKind::Time => "time",
+        }
+    }
+}
+
+impl fmt::Display for LineKind {
+    ghost output = { λ kind. Some (kind_name kind) };
+
+    fn fmt<W: fmt::Write>(&self, f: &mut fmt::Formatter<W>) -> fmt::Result {
+        f.write_str(self.name())
+    }
 }
 
 /// Why a text is no recording, or was not read.

@@ -11,7 +11,8 @@ use Rattle.mt_files.specs.Output.{output_text, sent_line}
 use Rattle.mt_machine.specs.Lines.{built_events, is_built, next, run, sent}
 use Rattle.mt_machine.specs.State.{State}
 use Rattle.mt_top.specs.declared.fault.Fault.TheVariants.{Unbuilt}
-use Rattle.mt_top.specs.Run.{unbuilt_from, Steps}
+use Rattle.mt_top.specs.Endings.{unbuilt_from}
+use Rattle.mt_top.specs.Parts.{Steps}
 
 -- the text of what is sent for events, up to the first that is not built
 abbrev pub output_of : State → List Event → List ℕ

@@ -21,7 +21,11 @@ use Rattle.mt_machine.specs.State.{State}
 use Rattle.mt_top.specs.declared.fault.Fault.{Fault}
 use Rattle.mt_top.specs.declared.fault.Fault.TheVariants.{BadWords, BadConfig, BadRecord, ReadFault, WriteFault, Memory, TooLong, Unbuilt}
 use Rattle.mt_top.specs.Faults.{fault_line, fault_of, status_of}
-use Rattle.mt_top.specs.Run.{Ending, last_line, exit_status, text_of, refused, unbuilt_from, played, recorded, configured, replayed, replayed_from, Input, in_hand, Moment, moment, IsLeft, HasRead, to_end, too_many, HasReadFirst, Reads, Told, NoMemory, is_bad_config, SourceFailed, config_failed, first_failed, Cut, text_cut, read_fault_cut, ReadsNothing, CouldNotWrite, is_told, is_status, Ends, Stops, Done, PlayedTo, StopsPlaying, StopsConfiguring, is_memory, Finishes, told_line, not_told, no_memory}
+use Rattle.mt_top.specs.Endings.{Ending, last_line, exit_status, text_of, refused, unbuilt_from, played, recorded, configured, replayed, replayed_from}
+use Rattle.mt_top.specs.Moments.{Input, in_hand, Moment, moment, IsLeft, HasRead, to_end, too_many, HasReadFirst, Reads}
+use Rattle.mt_top.specs.Parts.{AreCalm, Done, Finishes, IsTold, PlayedTo, Stops, StopsCalmly, StopsConfiguring, StopsPlaying, StopsRecording, TellsThere, is_memory, is_read_fault, is_write_fault, no_memory, part_of_line, told_line, whole_line}
+use Rattle.mt_top.specs.Run.{Ends}
+use Rattle.mt_top.specs.Statuses.{Told, NoMemory, is_bad_config, SourceFailed, config_failed, first_failed, Cut, text_cut, read_fault_cut, ReadsNothing, CouldNotWrite, is_told, is_status, TellsMemory}
 
 -- What a source may have held.
 
@@ -58,6 +62,20 @@ recording_too_long bytes more = ap (λ t. cond t (Err lines.TooLong) (events_beh
 pub configuration_too_long : (bytes : List ℕ) → CONFIGURATION_BYTES < length bytes → configuration bytes ≡ Err Size
 unfolding configuration
 configuration_too_long bytes more = rw lt-ltb refl
+
+-- Why a recording is not played.
+
+pub recorded_too_long : (old new : Input) → IfSome old.left (λ bytes. RECORDING_BYTES < length bytes) → StopsRecording TooLong old new
+recorded_too_long old new more =
+    let l = too_many_left RECORDING_BYTES old.left more in
+    (lines.TooLong, refl, (l.0, too_many l.1 l.2, recording_too_long l.0 l.2))
+
+pub recorded_badly : (fault : LineFault) (old new : Input) (bytes : List ℕ) → HasRead RECORDING_BYTES old new bytes → (fault ≡ lines.Memory) ⊎ (recording_of bytes ≡ Err fault) → StopsRecording (fault_of fault) old new
+recorded_badly (lines.Line line kind) old new bytes read (inl e) = absurd (cc)
+recorded_badly (lines.Line line kind) old new bytes read (inr e) = (lines.Line line kind, refl, (bytes, read, e))
+recorded_badly lines.TooLong old new bytes read (inl e) = absurd (cc)
+recorded_badly lines.TooLong old new bytes read (inr e) = (lines.TooLong, refl, (bytes, read, e))
+recorded_badly lines.Memory old new bytes read why = tt
 
 -- No recording makes a configuration bad.
 
@@ -197,19 +215,43 @@ module _ (laws : StreamLaws) where
     part = ([], laws.front_of_all (ending (left_in old.config.left) (left_in old.first.left)).output, h);
   }
 
-  -- a front of the output, and a front of the last line
-  both_parts : (ending : List ℕ → List ℕ → Ending) (old new : Moment) (mid : Option (List ℕ)) → Front ending old mid → TookPart mid new.written (fault_line Memory) → NoMemory ending old new
-  both_parts ending old new mid f q = record {
+  -- a front of the output, and the last line
+  both_parts : (ending : List ℕ → List ℕ → Ending) (old mid : Moment) (after : Option (List ℕ)) (faults : ℕ) → Front ending old mid.written → AreCalm old mid → TellsThere mid.written after mid.write_faults faults
+      → NoMemory ending old (moment mid.config mid.first after faults)
+  both_parts ending old mid after faults f calm q = record {
     config = f.config;
     recording = f.recording;
     config_left = f.config_left;
     first_left = f.first_left;
+    config_calm = calm.config_calm;
+    first_calm = calm.first_calm;
     output = f.part.0;
     last = q.0;
     output_front = f.part.1;
-    last_front = q.1;
-    written = laws.then old.written mid new.written f.part.0 q.0 f.part.2 q.2;
+    tells = subst (λ (before : ℕ). TellsMemory q.0 before faults) calm.sink_calm q.1;
+    written = laws.then old.written mid.written after f.part.0 q.0 f.part.2 q.2;
   }
+
+  -- neither a source nor the sink is the cause
+  calm_of : (fault : Fault) (old mid : Moment) → fault ≢ WriteFault → is_read_fault fault ≡ false → StopsCalmly fault old mid → AreCalm old mid
+  calm_of BadWords old mid not quiet h = h
+  calm_of (BadConfig field) old mid not quiet h = h
+  calm_of (BadRecord line kind) old mid not quiet h = h
+  calm_of ReadFault old mid not quiet h = absurd (cc)
+  calm_of WriteFault old mid not quiet h = absurd (not refl)
+  calm_of Memory old mid not quiet h = h
+  calm_of TooLong old mid not quiet h = h
+  calm_of (Unbuilt line) old mid not quiet h = h
+
+  pub stops_calmly : (fault : Fault) (old mid : Moment) → (is_read_fault fault ≡ false → is_write_fault fault ≡ false → AreCalm old mid) → StopsCalmly fault old mid
+  stops_calmly BadWords old mid h = h refl refl
+  stops_calmly (BadConfig field) old mid h = h refl refl
+  stops_calmly (BadRecord line kind) old mid h = h refl refl
+  stops_calmly ReadFault old mid h = tt
+  stops_calmly WriteFault old mid h = tt
+  stops_calmly Memory old mid h = h refl refl
+  stops_calmly TooLong old mid h = h refl refl
+  stops_calmly (Unbuilt line) old mid h = h refl refl
 
   -- the files were read, and all is written but the last line
   record Stopped (fault : Fault) (ending : List ℕ → List ℕ → Ending) (old mid : Moment) : Type 0 where
@@ -287,15 +329,15 @@ module _ (laws : StreamLaws) where
     fronts TooLong not h = front_of TooLong ending old mid refl (stopped_by TooLong h)
     fronts (Unbuilt line) not h = front_of (Unbuilt line) ending old mid refl (stopped_by (Unbuilt line) h)
 
-    row_told : (fault : Fault) → fault ≢ WriteFault → Stops fault ending old mid → Took mid.written after (fault_line fault) → Ends (status_of fault) (Some ending) old new
-    row_told BadWords not h t = absurd h
-    row_told (BadConfig field) not h t = stopped_told (BadConfig field) refl refl (stopped_badly field ending old mid h) t
-    row_told (BadRecord line kind) not h t = stopped_told (BadRecord line kind) refl refl (stopped_by (BadRecord line kind) h) t
-    row_told ReadFault not h t = ends_read_fault ending old new (failed_now h.0) (nothing_before old.written mid.written after (fault_line ReadFault) h.1 t)
-    row_told WriteFault not h t = absurd (not refl)
-    row_told Memory not h t = ends_memory ending old new (both_parts ending old new mid.written (fronts Memory not h) (laws.whole_part mid.written after (fault_line Memory) t))
-    row_told TooLong not h t = stopped_told TooLong refl refl (stopped_by TooLong h) t
-    row_told (Unbuilt line) not h t = stopped_told (Unbuilt line) refl refl (stopped_by (Unbuilt line) h) t
+    row_told : (fault : Fault) → fault ≢ WriteFault → is_memory fault ≡ false → Stops fault ending old mid → Took mid.written after (fault_line fault) → Ends (status_of fault) (Some ending) old new
+    row_told BadWords not other h t = absurd h
+    row_told (BadConfig field) not other h t = stopped_told (BadConfig field) refl refl (stopped_badly field ending old mid h) t
+    row_told (BadRecord line kind) not other h t = stopped_told (BadRecord line kind) refl refl (stopped_by (BadRecord line kind) h) t
+    row_told ReadFault not other h t = ends_read_fault ending old new (failed_now h.0) (nothing_before old.written mid.written after (fault_line ReadFault) h.1 t)
+    row_told WriteFault not other h t = absurd (not refl)
+    row_told Memory not other h t = absurd (cc)
+    row_told TooLong not other h t = stopped_told TooLong refl refl (stopped_by TooLong h) t
+    row_told (Unbuilt line) not other h t = stopped_told (Unbuilt line) refl refl (stopped_by (Unbuilt line) h) t
 
     row_cut : (fault : Fault) → fault ≢ WriteFault → is_memory fault ≡ false → Stops fault ending old mid → TookPart mid.written after (fault_line fault) → Cut ending old new
     row_cut BadWords not other h t = absurd h
@@ -307,10 +349,13 @@ module _ (laws : StreamLaws) where
     row_cut TooLong not other h t = stopped_cut TooLong (stopped_by TooLong h) t
     row_cut (Unbuilt line) not other h t = stopped_cut (Unbuilt line) (stopped_by (Unbuilt line) h) t
 
-    pub ends_by : (fault : Fault) (status : ℕ) → fault ≢ WriteFault → Stops fault ending old mid → old.write_faults ≤ mid.write_faults → Finishes fault status mid.written after mid.write_faults faults → Ends status (Some ending) old new
-    ends_by fault status not h later (told_line is t) = rw is (row_told fault not h t)
-    ends_by fault status not h later (not_told is other rose t) = rw is (ends_write_fault (Some ending) old new (laws.rose_from old.write_faults mid.write_faults faults later rose) (row_cut fault not other h t))
-    ends_by fault status not h later (no_memory is t) = rw is (ends_memory ending old new (both_parts ending old new mid.written (fronts fault not h) t))
+    ends_told_by : (fault : Fault) (status : ℕ) → fault ≢ WriteFault → is_memory fault ≡ false → Stops fault ending old mid → old.write_faults ≤ mid.write_faults → IsTold fault status mid.written after mid.write_faults faults → Ends status (Some ending) old new
+    ends_told_by fault status not other h later (whole_line is t) = rw is (row_told fault not other h t)
+    ends_told_by fault status not other h later (part_of_line is rose t) = rw is (ends_write_fault (Some ending) old new (laws.rose_from old.write_faults mid.write_faults faults later rose) (row_cut fault not other h t))
+
+    pub ends_by : (fault : Fault) (status : ℕ) → fault ≢ WriteFault → Stops fault ending old mid → StopsCalmly fault old mid → old.write_faults ≤ mid.write_faults → Finishes fault status mid.written after mid.write_faults faults → Ends status (Some ending) old new
+    ends_by fault status not h calm later (told_line other t) = ends_told_by fault status not other h later t
+    ends_by fault status not h calm later (no_memory quiet is t) = rw is (ends_memory ending old new (both_parts ending old mid after faults (fronts fault not h) (calm_of fault old mid not quiet calm) t))
 
   -- the sink failed at the output
   pub ends_cut : (ending : List ℕ → List ℕ → Ending) (old new : Moment) (fault : Fault) → fault ≡ WriteFault → Stops fault ending old new → Ends 6 (Some ending) old new
@@ -320,10 +365,9 @@ module _ (laws : StreamLaws) where
       cut h = ends_write_fault (Some ending) old new h.0 (text_cut h.1.0 h.1.1 h.1.2 (laws.part_of_more old.written new.written (ending h.1.0 h.1.1).output (text_of (ending h.1.0 h.1.1)) h.1.3 (last_line (ending h.1.0 h.1.1).fault, refl)))
 
   -- words that have no form
-  pub ends_badly : (asked : Option (List ℕ → List ℕ → Ending)) (old : Moment) (after : Option (List ℕ)) (faults status : ℕ) → asked ≡ None → (status ≡ 7 → BadWords ≡ Memory) → Finishes BadWords status old.written after old.write_faults faults → Ends status asked old (moment old.config old.first after faults)
-  ends_badly asked old after faults status none sure (told_line is t) = rw is (ends_bad_words asked old (moment old.config old.first after faults) none (refl, refl) t)
-  ends_badly asked old after faults status none sure (not_told is other rose t) = rw (is, none) (ends_write_fault None old (moment old.config old.first after faults) rose ((refl, refl), t))
-  ends_badly asked old after faults status none sure (no_memory is t) = let h : BadWords ≡ Memory = sure is in absurd (cc)
+  pub ends_badly : (asked : Option (List ℕ → List ℕ → Ending)) (old : Moment) (after : Option (List ℕ)) (faults status : ℕ) → asked ≡ None → IsTold BadWords status old.written after old.write_faults faults → Ends status asked old (moment old.config old.first after faults)
+  ends_badly asked old after faults status none (whole_line is t) = rw is (ends_bad_words asked old (moment old.config old.first after faults) none (refl, refl) t)
+  ends_badly asked old after faults status none (part_of_line is rose t) = rw (is, none) (ends_write_fault None old (moment old.config old.first after faults) rose ((refl, refl), t))
 
   -- Behind a configuration.
 
@@ -344,7 +388,7 @@ module _ (laws : StreamLaws) where
   never_fails_in_hand h = omega arith
 
   -- A run with a configuration in hand, as the end of the run that read it.
-  module _ (config : Config) (bytes : List ℕ) (is : IsConfiguration bytes config) (read_old read_new first_old first_new : Input) (before after : Option (List ℕ)) (old_faults new_faults : ℕ) (read : HasRead CONFIGURATION_BYTES read_old read_new bytes) where
+  module _ (config : Config) (bytes : List ℕ) (is : IsConfiguration bytes config) (read_old read_new first_old first_new : Input) (before after : Option (List ℕ)) (old_faults new_faults : ℕ) (read : HasRead CONFIGURATION_BYTES read_old read_new bytes) (read_calm : read_new.faults ≡ read_old.faults) where
     abbrev held : List ℕ → List ℕ → Ending
     held = replayed_from (opened_whole config)
 
@@ -385,10 +429,12 @@ module _ (laws : StreamLaws) where
       recording = h.recording;
       config_left = IsLeft-HasRead CONFIGURATION_BYTES read_old read_new bytes read;
       first_left = h.first_left;
+      config_calm = read_calm;
+      first_calm = h.first_calm;
       output = h.output;
       last = h.last;
       output_front = subst (λ e. IsPrefix h.output (e.output)) (same h.config h.recording) h.output_front;
-      last_front = h.last_front;
+      tells = h.tells;
       written = h.written;
     }
 
@@ -405,6 +451,16 @@ module _ (laws : StreamLaws) where
       write_fault = λ e. let p = h.write_fault e in (p.0, cut_run p.1);
       memory = λ e. memory_run (h.memory e);
     }
+
+  -- Where the recording is the cause, or what was played of it, nothing outside has failed.
+
+  pub recorded_calmly : (fault : Fault) (first_old first_new : Input) (written : Option (List ℕ)) (faults : ℕ) → (is_read_fault fault ≡ false → first_new.faults ≡ first_old.faults)
+      → StopsCalmly fault (moment in_hand first_old written faults) (moment in_hand first_new written faults)
+  recorded_calmly fault first_old first_new written faults same = stops_calmly fault (moment in_hand first_old written faults) (moment in_hand first_new written faults) (λ quiet other. record { config_calm = refl; first_calm = same quiet; sink_calm = refl })
+
+  pub played_calmly : (fault : Fault) (first_old first_new : Input) (before after : Option (List ℕ)) (old_faults new_faults : ℕ) → first_new.faults ≡ first_old.faults → (is_write_fault fault ≡ false → new_faults ≡ old_faults)
+      → StopsCalmly fault (moment in_hand first_old before old_faults) (moment in_hand first_new after new_faults)
+  played_calmly fault first_old first_new before after old_faults new_faults same sink = stops_calmly fault (moment in_hand first_old before old_faults) (moment in_hand first_new after new_faults) (λ quiet other. record { config_calm = refl; first_calm = same; sink_calm = sink other })
 
   -- A replay with a configuration in hand, where a state, its recording's source and the sink stand so.
   module _ (s : State) (first_old first_new : Input) (before after : Option (List ℕ)) (old_faults new_faults : ℕ) where
@@ -432,17 +488,24 @@ module _ (laws : StreamLaws) where
       subst (λ (e : Ending). Took before after (e.output)) (sym is) (rw same (laws.nothing before)),
     )
 
-    pub stops_too_long : after ≡ before → IfSome first_old.left (λ bytes. RECORDING_BYTES < length bytes) → Stops TooLong (replayed_from s) from_hand to_hand
-    stops_too_long same more =
-        let l = too_many_left RECORDING_BYTES first_old.left more in
-        stops_refused TooLong l.0 same (too_many l.1 l.2) (ap (recorded s) (recording_too_long l.0 l.2))
+    stops_unread : (fault : LineFault) (bytes : List ℕ) → after ≡ before → HasRead RECORDING_BYTES first_old first_new bytes → recording_of bytes ≡ Err fault → Stops (fault_of fault) (replayed_from s) from_hand to_hand
+    stops_unread (lines.Line line kind) bytes same read e = stops_refused (BadRecord line kind) bytes same read (ap (recorded s) e)
+    stops_unread lines.TooLong bytes same read e = stops_refused TooLong bytes same read (ap (recorded s) e)
+    stops_unread lines.Memory bytes same read e = stops_early same
 
-    pub stops_unread : (fault : LineFault) (bytes : List ℕ) → after ≡ before → HasRead RECORDING_BYTES first_old first_new bytes → (fault ≡ lines.Memory) ⊎ (recording_of bytes ≡ Err fault) → Stops (fault_of fault) (replayed_from s) from_hand to_hand
-    stops_unread (lines.Line line kind) bytes same read (inl e) = absurd (cc)
-    stops_unread (lines.Line line kind) bytes same read (inr e) = stops_refused (BadRecord line kind) bytes same read (ap (recorded s) e)
-    stops_unread lines.TooLong bytes same read (inl e) = absurd (cc)
-    stops_unread lines.TooLong bytes same read (inr e) = stops_refused TooLong bytes same read (ap (recorded s) e)
-    stops_unread lines.Memory bytes same read why = stops_early same
+    -- the recording is refused as one of its lines is, or as it is too long
+    stops_by_refusal : (fault : Fault) → after ≡ before → (refused : LineFault) × (fault ≡ fault_of refused) × ((bytes : List ℕ) × HasRead RECORDING_BYTES first_old first_new bytes × (recording_of bytes ≡ Err refused)) → Stops fault (replayed_from s) from_hand to_hand
+    stops_by_refusal fault same h = subst (λ (f : Fault). Stops f (replayed_from s) from_hand to_hand) (sym h.1) (stops_unread h.0 h.2.0 same h.2.1 h.2.2)
+
+    pub stops_recording : (fault : Fault) → after ≡ before → StopsRecording fault first_old first_new → Stops fault (replayed_from s) from_hand to_hand
+    stops_recording BadWords same h = stops_by_refusal BadWords same h
+    stops_recording (BadConfig field) same h = stops_by_refusal (BadConfig field) same h
+    stops_recording (BadRecord line kind) same h = stops_by_refusal (BadRecord line kind) same h
+    stops_recording ReadFault same h = stops_at_source same h
+    stops_recording WriteFault same h = stops_by_refusal WriteFault same h
+    stops_recording Memory same h = stops_early same
+    stops_recording TooLong same h = stops_by_refusal TooLong same h
+    stops_recording (Unbuilt line) same h = stops_by_refusal (Unbuilt line) same h
 
     -- its events were played
     pub plays_done : (bytes : List ℕ) (events : List Event) → HasRead RECORDING_BYTES first_old first_new bytes → recording_of bytes ≡ Ok events → PlayedTo (played s events) before after → Done (replayed_from s) from_hand to_hand

@@ -1,11 +1,10 @@
 -- The status of each fault, and the last line that tells it.
-use Rattle.std.specs.Prelude.{ℕ, List, [], ◌++◌, codes}
+use Rattle.std.specs.Prelude.{ℕ, List, ◌++◌, codes}
 use Rattle.std.specs.Fmt.{decimal}
 use Rattle.mt_config.specs.Configuration.{name_of}
+use Rattle.mt_files.specs.Kinds.{kind_name}
 use Rattle.mt_files.specs.declared.line_fault.LineFault.{LineFault}
 use Rattle.mt_files.specs.declared.line_fault.LineFault.TheVariants as lines
-use Rattle.mt_files.specs.declared.line_fault.LineKind.{LineKind}
-use Rattle.mt_files.specs.declared.line_fault.LineKind.TheVariants as kinds
 use Rattle.mt_top.specs.declared.fault.Fault.{Fault}
 use Rattle.mt_top.specs.declared.fault.Fault.TheVariants.{BadWords, BadConfig, BadRecord, ReadFault, WriteFault, Memory, TooLong, Unbuilt}
 
@@ -25,20 +24,17 @@ status_of Memory = 7
 status_of TooLong = 10
 status_of (Unbuilt line) = 14
 
-abbrev pub kind_name : LineKind → List ℕ
-kind_name kinds.Head = codes "head"
-kind_name kinds.Form = codes "form"
-kind_name kinds.Number = codes "number"
-kind_name kinds.Hex = codes "hex"
-kind_name kinds.Time = codes "time"
+-- what the last line says of a fault
+unfoldable pub fault_text : Fault → List ℕ
+fault_text BadWords = codes "fault 2 words"
+fault_text (BadConfig field) = codes "fault 3 config " ++ name_of field
+fault_text (BadRecord line kind) = codes "fault 4 line " ++ (decimal line ++ (codes " " ++ kind_name kind))
+fault_text ReadFault = codes "fault 5 read"
+fault_text WriteFault = codes "fault 6 write"
+fault_text Memory = codes "fault 7 memory"
+fault_text TooLong = codes "fault 10 long"
+fault_text (Unbuilt line) = codes "fault 14 line " ++ decimal line
 
--- the last line of a run that a fault ended; a sink that failed gets none
+-- The last line of a run that a fault ended. A sink that failed gets none.
 unfoldable pub fault_line : Fault → List ℕ
-fault_line BadWords = codes "fault 2 words\n"
-fault_line (BadConfig field) = codes "fault 3 config " ++ (name_of field ++ codes "\n")
-fault_line (BadRecord line kind) = codes "fault 4 line " ++ (decimal line ++ (codes " " ++ (kind_name kind ++ codes "\n")))
-fault_line ReadFault = codes "fault 5 read\n"
-fault_line WriteFault = []
-fault_line Memory = codes "fault 7 memory\n"
-fault_line TooLong = codes "fault 10 long\n"
-fault_line (Unbuilt line) = codes "fault 14 line " ++ (decimal line ++ codes "\n")
+fault_line fault = fault_text fault ++ codes "\n"

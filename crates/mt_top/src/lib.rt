@@ -3,7 +3,6 @@
 #![tactic(auto)]
 
 mod fault;
-mod last_line;
 mod playing;
 mod replaying;
 mod words;

@@ -2,7 +2,7 @@
 
 ghost use Rattle.std.specs.Prelude.{◌≡◌, IfOk};
 ghost use Rattle.mt_files.specs.Output.{output_text};
-ghost use Rattle.mt_top.specs.Run.{StepsIf};
+ghost use Rattle.mt_top.specs.Parts.{StepsIf};
 
 use mt_files::write_sent;
 use mt_model::{Event, Sent};

@@ -1,15 +1,17 @@
 //! Replaying a recording, and what a caller is told of how it ended.
 
-ghost use Rattle.std.specs.Prelude.{◌≡◌, ◌≢◌, ◌≤◌, Some, IfErr, IfOk, OnOk};
+ghost use Rattle.std.specs.Prelude.{◌≡◌, ◌≢◌, ◌≤◌, false, Some, Err, IfErr, IfOk, OnOk};
 ghost use Rattle.mt_outside.specs.Stream.{TookPart};
 ghost use Rattle.mt_machine.specs.Opened.{opened_whole};
 ghost use Rattle.mt_top.specs.declared.fault.Fault.TheVariants.{Memory};
 ghost use Rattle.mt_top.specs.Faults.{fault_line};
-ghost use Rattle.mt_top.specs.Run.{Configured, Done, Ends, Finishes, PlayedTo, Stops, StopsConfiguring, StopsPlaying, asked_of, in_hand, input, moment, played, replayed_from};
+ghost use Rattle.mt_top.specs.Endings.{asked_of, played, replayed_from};
+ghost use Rattle.mt_top.specs.Moments.{in_hand, input, moment};
+ghost use Rattle.mt_top.specs.Parts.{IsTold, Recorded, StopsCalmly, StopsRecording, TellsThere, is_memory, is_write_fault, Configured, Done, Finishes, PlayedTo, Stops, StopsConfiguring, StopsPlaying};
+ghost use Rattle.mt_top.specs.Run.{Ends};
 ghost use Rattle.mt_top.specs.Words.{words_of};
 
 use crate::fault::Fault;
-use crate::last_line::last_line;
 use crate::playing::step;
 use crate::words::files_of;
 use mt_files::{ConfigFault, ConfigField, config as configuration, events};
@@ -72,6 +74,7 @@ pub fn replay_with<A: Source, W: Sink>(
 fn configured<C: Source>(alloc: Global, source: &mut C) -> Result<Config, Fault>
     ensures ok { IfOk result (λ config. Configured config (input (C.left source.old) (C.faults source.old)) (input (C.left source.new) (C.faults source.new))) }
     ensures err { IfErr result (λ fault. StopsConfiguring fault (input (C.left source.old) (C.faults source.old)) (input (C.left source.new) (C.faults source.new))) }
+    ensures calm { result ≢ Err Fault.ReadFault → C.faults source.new ≡ C.faults source.old }
 {
     match read_all(alloc, source, CONFIGURATION_BYTES) {
         Ok(bytes) => match configuration(alloc, &bytes) {
@@ -99,11 +102,26 @@ fn replay<A: Source, W: Sink>(
         (moment in_hand (input (A.left first.old) (A.faults first.old)) (W.written out.old) (W.faults out.old))
         (moment in_hand (input (A.left first.new) (A.faults first.new)) (W.written out.new) (W.faults out.new))) }
     ensures never_falls { W.faults out.old ≤ W.faults out.new }
+    ensures calm { IfErr result (λ fault. StopsCalmly fault
+        (moment in_hand (input (A.left first.old) (A.faults first.old)) (W.written out.old) (W.faults out.old))
+        (moment in_hand (input (A.left first.new) (A.faults first.new)) (W.written out.new) (W.faults out.new))) }
 {
     writings_add_up();
     let Ok(whole) = Whole::start(alloc, config) else {
         return Err(Fault::Memory);
     };
+    match recorded(alloc, first) {
+        Ok(events) => play(alloc, whole, &events, out),
+        Err(fault) => Err(fault),
+    }
+}
+
+// Reads the recording to its end. Its text is let go before its events are played.
+fn recorded<A: Source>(alloc: Global, first: &mut A) -> Result<Events, Fault>
+    ensures ok { IfOk result (λ events. Recorded events (input (A.left first.old) (A.faults first.old)) (input (A.left first.new) (A.faults first.new))) }
+    ensures err { IfErr result (λ fault. StopsRecording fault (input (A.left first.old) (A.faults first.old)) (input (A.left first.new) (A.faults first.new))) }
+    ensures calm { result ≢ Err Fault.ReadFault → A.faults first.new ≡ A.faults first.old }
+{
     let recording = match read_all(alloc, first, RECORDING_BYTES) {
         Ok(recording) => recording,
         Err(ReadFault::Failed) => return Err(Fault::ReadFault),
@@ -111,7 +129,7 @@ fn replay<A: Source, W: Sink>(
         Err(ReadFault::Memory) => return Err(Fault::Memory),
     };
     match events(alloc, &recording) {
-        Ok(events) => play(alloc, whole, &events, out),
+        Ok(events) => Ok(events),
         Err(fault) => Err(Fault::of_recording(fault)),
     }
 }
@@ -121,6 +139,7 @@ fn play<W: Sink>(alloc: Global, mut whole: Whole, events: &Events, out: &mut W) 
     ensures ok { OnOk result (PlayedTo (played whole events.now) (W.written out.old) (W.written out.new)) }
     ensures err { IfErr result (λ fault. StopsPlaying fault (played whole events.now) (W.written out.old) (W.written out.new) (W.faults out.old) (W.faults out.new)) }
     ensures never_falls { W.faults out.old ≤ W.faults out.new }
+    ensures calm { IfErr result (λ fault. is_write_fault fault ≡ false → W.faults out.new ≡ W.faults out.old) }
 {
     writings_add_up();
     let mut line = 2u64;
@@ -139,35 +158,38 @@ fn play<W: Sink>(alloc: Global, mut whole: Whole, events: &Events, out: &mut W) 
     Ok(())
 }
 
-// Writes the last line of a run that a fault ended, and gives its status.
+// Writes the last line of a run that a fault ended, and gives its status. That a source failed, or that
+// there was no memory, is told without memory.
 fn finish<W: Sink>(alloc: Global, fault: Fault, out: &mut W) -> u8
     requires { fault ≢ Fault.WriteFault }
     ensures { Finishes fault result (W.written out.old) (W.written out.new) (W.faults out.old) (W.faults out.new) }
 {
-    match last_line(alloc, fault) {
-        Ok(line) => tell(fault, line.as_bytes(), out),
-        Err(_) => tell_memory(out),
+    match fault {
+        Fault::ReadFault => tell(fault, b"fault 5 read\n", out),
+        Fault::Memory => tell_memory(out),
+        _ => match fault.line(alloc) {
+            Ok(line) => tell(fault, line.as_bytes(), out),
+            Err(_) => tell_memory(out),
+        },
     }
 }
 
-// Writes a last line, and gives its status, or 6 where it can't be written. Want of memory keeps its
-// status all the same.
+// Writes a last line, and gives its status, or 6 where it can't be written.
 fn tell<W: Sink>(fault: Fault, line: &[u8], out: &mut W) -> u8
-    requires { line.now ≡ fault_line fault }
-    ensures memory { result ≡ 7 → fault ≡ Fault.Memory }
-    ensures finishes { Finishes fault result (W.written out.old) (W.written out.new) (W.faults out.old) (W.faults out.new) }
+    requires line { line.now ≡ fault_line fault }
+    requires other { is_memory fault ≡ false }
+    ensures told { IsTold fault result (W.written out.old) (W.written out.new) (W.faults out.old) (W.faults out.new) }
 {
     match write_all(out, line) {
         Ok(()) => fault.status(),
-        Err(_) => { if fault == Fault::Memory { 7 } else { 6 } }
+        Err(_) => 6,
     }
 }
 
-// Writes that there was no memory, as far as that goes.
+// Writes that there was no memory, as far as that goes. The status is the same where it can't be written.
 fn tell_memory<W: Sink>(out: &mut W) -> u8
     ensures status { result ≡ 7 }
-    ensures part { TookPart (W.written out.old) (W.written out.new) (fault_line Memory) }
-    ensures never_falls { W.faults out.old ≤ W.faults out.new }
+    ensures tells { TellsThere (W.written out.old) (W.written out.new) (W.faults out.old) (W.faults out.new) }
 {
     match write_all(out, b"fault 7 memory\n") {
         Ok(()) => 7,

@@ -1,7 +1,7 @@
 //! How many turns a second threads take at one lock of `mt_turn`: with 1, 2, 4 and 8 threads, each turn
 //! adding a number to a total and to the book. With no argument each number of threads takes a few
 //! turns, and what stands in the book is counted. With the argument `time` they take many, and the speeds
-//! follow. `bench/turn_pthread.c` does the same under a mutex.
+//! follow. `speed/turn_pthread.c` does the same under a mutex.
 #![tactic(auto)]
 
 ghost use Rattle.std.specs.Prelude.{◌≡◌, ◌+◌, ◌<◌, All, false, length, IfOk};

@@ -1,6 +1,6 @@
 use Rattle.std.proofs.Common.{rules}
 use Rattle.mt_model.specs.declared.limits.TheConstants.{CONFIGURATION_BYTES}
-use Rattle.mt_top.specs.Run.{too_many}
+use Rattle.mt_top.specs.Moments.{too_many}
 use Rattle.mt_top.proofs.Rows.{too_many_left, configuration_too_long}
 use Rattle.mt_top.proofs.replaying.configured.Goals as goal
 

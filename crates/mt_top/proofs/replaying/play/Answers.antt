@@ -1,5 +1,6 @@
-use Rattle.std.proofs.Common.{◌++◌, ◌+◌, ◌≤◌, length, drop, [], ap, sym, ◌∙◌, append_assoc, subst, arith, rules}
-use Rattle.mt_top.specs.Run.{StepsIf, unbuilt_from}
+use Rattle.std.proofs.Common.{◌++◌, ◌+◌, ◌≤◌, length, drop, [], ap, refl, sym, ◌∙◌, append_assoc, subst, arith, rules}
+use Rattle.mt_top.specs.Endings.{unbuilt_from}
+use Rattle.mt_top.specs.Parts.{StepsIf}
 use Rattle.mt_top.proofs.Plays.{output_of, output-step, unbuilt-step, output-end, unbuilt-end, took-all, took-front}
 use Rattle.mt_top.proofs.replaying.play.Goals as goal
 
@@ -10,7 +11,7 @@ loop-event-init g c = record {
   output = ap (output_of c.args.whole) (sym c.as_slice-event-items.ensures);
   unbuilt = ap (unbuilt_from 2) (sym c.as_slice-event-items.ensures);
   line = omega arith;
-  never_falls = omega arith;
+  calm = refl;
 }
 
 pub returns-in_default-clause-err : goal.returns-in_default-clause-err
@@ -30,7 +31,7 @@ returns-in_default-write_all-clause-err g c =
     let new = c.step.new.whole in
     let steps = subst (StepsIf l.whole new event) c.in-Some.is c.in-Ok.ensures in
     let k = c.write_all.ensures in (
-      c.writings_add_up.ensures.rose_from (faults c.args.out.now) (faults l.out) (faults c.write_all.new.sink) i.never_falls (k.cause.rose (search rules)),
+      c.writings_add_up.ensures.rose_from (faults c.args.out.now) (faults l.out) (faults c.write_all.new.sink) (omega (arith, i.calm)) (k.cause.rose (search rules)),
       took-front c.writings_add_up.ensures (written c.args.out.now) (written l.out) (written c.write_all.new.sink) i.told text (output_of new (drop (l.event-index + 1) all)) (output_of c.args.whole c.args.events.now) i.took (search rules)
           (i.output ∙ ap (λ w. i.told ++ w) (output-step l.whole new all l.event-index event text c.loop-event-test.true c.event-item.is steps.0 steps.1)),
     )
@@ -52,7 +53,7 @@ loop-event-preserved g c =
       output = i.output ∙ ap (λ w. i.told ++ w) (output-step l.whole new all l.event-index event text c.loop-event-test.true c.event-item.is steps.0 steps.1) ∙ sym (append_assoc i.told text (output_of new (drop (l.event-index + 1) all)));
       unbuilt = i.unbuilt ∙ unbuilt-step l.line all l.event-index event c.loop-event-test.true c.event-item.is steps.0;
       line = omega (arith, i.line);
-      never_falls = omega (arith, i.never_falls, k.cause.never_falls);
+      calm = k.cause.stays (search rules) ∙ i.calm;
     }
 
 pub returns-clause-ok : goal.returns-clause-ok

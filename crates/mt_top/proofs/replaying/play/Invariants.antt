@@ -1,6 +1,6 @@
-use Rattle.std.proofs.Common.{◌≡◌, ◌≤◌, ◌+◌, ◌++◌, ℕ, List, drop}
+use Rattle.std.proofs.Common.{◌≡◌, ◌+◌, ◌++◌, ℕ, List, drop}
 use Rattle.mt_outside.specs.Stream.{Took}
-use Rattle.mt_top.specs.Run.{unbuilt_from}
+use Rattle.mt_top.specs.Endings.{unbuilt_from}
 use Rattle.mt_top.proofs.Plays.{output_of}
 use Rattle.mt_top.proofs.replaying.play.Given as goal
 
@@ -12,5 +12,5 @@ invariant-loop-event g l = record {
   output : output_of l.fn.whole l.fn.events ≡ told ++ output_of l.whole (drop l.event-index l.event-items);
   unbuilt : unbuilt_from 2 l.fn.events ≡ unbuilt_from l.line (drop l.event-index l.event-items);
   line : l.line ≡ l.event-index + 2;
-  never_falls : g.W.Sink.faults l.fn.out ≤ g.W.Sink.faults l.out;
+  calm : g.W.Sink.faults l.out ≡ g.W.Sink.faults l.fn.out;
 }

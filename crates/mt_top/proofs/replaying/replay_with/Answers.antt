@@ -1,6 +1,7 @@
 use Rattle.std.proofs.Common.{rules}
 use Rattle.mt_machine.specs.Opened.{opened_whole}
-use Rattle.mt_top.specs.Run.{in_hand, input, moment, replayed_from}
+use Rattle.mt_top.specs.Endings.{replayed_from}
+use Rattle.mt_top.specs.Moments.{in_hand, input, moment}
 use Rattle.mt_top.proofs.Rows.{ends_by, ends_cut, ends_done}
 use Rattle.mt_top.proofs.replaying.replay_with.Goals as goal
 
@@ -36,4 +37,4 @@ returns-in-Err g c =
     ends_by c.writings_add_up.ensures (replayed_from (opened_whole c.args.config.now))
     (moment in_hand (input (left c.args.first.now) (reads c.args.first.now)) (written c.args.out.now) (faults c.args.out.now))
     (moment in_hand (input (left c.replay.new.first) (reads c.replay.new.first)) (written c.replay.new.out) (faults c.replay.new.out))
-    (written c.finish.new.out) (faults c.finish.new.out) c.in-Err.fault c.finish.result (search rules) c.in-Err.ensures.err c.in-Err.ensures.never_falls c.finish.ensures
+    (written c.finish.new.out) (faults c.finish.new.out) c.in-Err.fault c.finish.result (search rules) c.in-Err.ensures.err c.in-Err.ensures.calm c.in-Err.ensures.never_falls c.finish.ensures

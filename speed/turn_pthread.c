@@ -1,5 +1,5 @@
 /* How many turns a second 1, 2, 4 and 8 threads take at one pthread mutex, each adding a number to a total
-   and to a list that grows, to set beside crates/speed_turn. Build: cc -O2 -pthread bench/turn_pthread.c
+   and to a list that grows, to set beside crates/speed_turn. Build: cc -O2 -pthread speed/turn_pthread.c
    -o /tmp/turn_pthread */
 #include <pthread.h>
 #include <stdint.h>

@@ -58,7 +58,7 @@ fn main(rt: HostRuntime) -> io::Result<()> {
     )?;
     eprintln!(rt; "{opened} were opened")?;
 
-    // Sealed and opened in turn, as bench/ccm_scalar.c does.
+    // Sealed and opened in turn, as speed/ccm_scalar.c does.
     let start = Instant::now(&rt)?;
     for _ in 0..turns {
         seal(&KEY, &NONCE, &HEADER, &mut sealed);

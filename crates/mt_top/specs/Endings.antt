@@ -1,0 +1,68 @@
+-- What a replay comes to, by what its two files hold: all that is written, and the fault that ended it.
+use Rattle.std.specs.Prelude.{ℕ, ◌+◌, List, [], ◌∷◌, ◌++◌, Option, Some, None, Result, Ok, Err, if◌then◌else◌}
+use Rattle.std.specs.Option.{option_map}
+use Rattle.mt_model.specs.declared.texts.recording.Event.{Event}
+use Rattle.mt_config.specs.Configuration.{configuration}
+use Rattle.mt_model.specs.texts.Contents.{Contents}
+use Rattle.mt_files.specs.Output.{output_text}
+use Rattle.mt_files.specs.Recording.{recording_of}
+use Rattle.mt_config.specs.declared.configuration.ConfigField.{ConfigField}
+use Rattle.mt_files.specs.declared.line_fault.LineFault.{LineFault}
+use Rattle.mt_machine.specs.Lines.{built_events, is_built, run}
+use Rattle.mt_machine.specs.Opened.{whole_with}
+use Rattle.mt_machine.specs.State.{State}
+use Rattle.mt_top.specs.declared.fault.Fault.{Fault}
+use Rattle.mt_top.specs.declared.fault.Fault.TheVariants.{BadConfig, Unbuilt}
+use Rattle.mt_top.specs.Faults.{fault_line, fault_of, status_of}
+use Rattle.mt_top.specs.Words.{files_of}
+
+-- All that is written: the output, then the last line of the fault, where there is one.
+pub record Ending : Type 0 where
+  pub output : List ℕ
+  pub fault : Option Fault
+
+abbrev pub last_line : Option Fault → List ℕ
+last_line None = []
+last_line (Some fault) = fault_line fault
+
+abbrev pub exit_status : Option Fault → ℕ
+exit_status None = 0
+exit_status (Some fault) = status_of fault
+
+abbrev pub text_of : Ending → List ℕ
+text_of ending = ending.output ++ last_line ending.fault
+
+-- no output, but the line of the fault
+abbrev pub refused : Fault → Ending
+refused fault = record { output = []; fault = Some fault }
+
+-- the first line that is not built, where the first event stands in this line
+abbrev pub unbuilt_from : ℕ → List Event → Option Fault
+unbuilt_from line [] = None
+unbuilt_from line (event ∷ events) = if is_built event then unbuilt_from (line + 1) events else Some (Unbuilt line)
+
+-- Events are played up to the first that is not built. The first stands in line 2.
+abbrev pub played : State → List Event → Ending
+played s events = record { output = output_text (run s (built_events events)); fault = unbuilt_from 2 events }
+
+-- a recording is checked whole before it is played
+abbrev pub recorded : State → Result (List Event) LineFault → Ending
+recorded s (Ok events) = played s events
+recorded s (Err fault) = refused (fault_of fault)
+
+-- a configuration comes before the recording
+abbrev pub configured : Result Contents ConfigField → List ℕ → Ending
+configured (Ok contents) recording = recorded (whole_with contents.fabrics contents.entries contents.sessions) (recording_of recording)
+configured (Err field) recording = refused (BadConfig field)
+
+-- what `replay CONFIG RECORDING` comes to, by the bytes of the two files
+abbrev pub replayed : List ℕ → List ℕ → Ending
+replayed config recording = configured (configuration config) recording
+
+-- the same with a configuration in hand, where no file is read for it
+abbrev pub replayed_from : State → List ℕ → List ℕ → Ending
+replayed_from s config recording = recorded s (recording_of recording)
+
+-- what the words ask for
+abbrev pub asked_of : List (List ℕ) → Option (List ℕ → List ℕ → Ending)
+asked_of words = option_map (λ files. replayed) (files_of words)

@@ -1,0 +1,49 @@
+-- What the sources and the sink hold at a moment, and what reading a source to its end means.
+use Rattle.std.specs.Prelude.{ℕ, ◌≡◌, ◌<◌, ◌≤◌, List, [], length, Option, Some, None, ⊤}
+use Rattle.mt_outside.specs.Stream.{ReadToEnd}
+use Rattle.mt_model.specs.declared.limits.TheConstants.{CONFIGURATION_BYTES, RECORDING_BYTES}
+use Rattle.mt_top.specs.declared.fault.Fault.{Fault}
+use Rattle.mt_top.specs.declared.fault.Fault.TheVariants.{BadConfig}
+use Rattle.mt_top.specs.Endings.{Ending}
+
+-- A source at a moment: what is left, where it tells that, and how often it has failed.
+pub record Input : Type 0 where
+  pub left : Option (List ℕ)
+  pub faults : ℕ
+
+-- no file is read where the configuration is in hand
+abbrev pub in_hand : Input
+in_hand = record { left = Some []; faults = 0 }
+
+-- The sources and the sink at a moment.
+pub record Moment : Type 0 where
+  pub config : Input
+  pub first : Input
+  pub written : Option (List ℕ)
+  pub write_faults : ℕ
+
+abbrev pub moment : Input → Input → Option (List ℕ) → ℕ → Moment
+moment config first written write_faults = record { config = config; first = first; written = written; write_faults = write_faults }
+
+abbrev pub input : Option (List ℕ) → ℕ → Input
+input left faults = record { left = left; faults = faults }
+
+-- the bytes are what a source has left, where it tells that
+abbrev pub IsLeft : Option (List ℕ) → List ℕ → Type 0
+IsLeft None bytes = ⊤
+IsLeft (Some left) bytes = left ≡ bytes
+
+-- These are a source's bytes: it was read to its end, or as far as showed that they are more than may be.
+pub data HasRead (most : ℕ) (old new : Input) (bytes : List ℕ) : Type 0 where
+  to_end : ReadToEnd old.left new.left bytes → length bytes ≤ most → HasRead most old new bytes
+  too_many : IsLeft old.left bytes → most < length bytes → HasRead most old new bytes
+
+-- the recording is not read where the configuration is bad
+abbrev pub HasReadFirst : Option Fault → Input → Input → List ℕ → Type 0
+HasReadFirst (Some (BadConfig field)) old new recording = new ≡ old
+HasReadFirst fault old new recording = HasRead RECORDING_BYTES old new recording
+
+-- The files were read.
+pub record Reads (ending : List ℕ → List ℕ → Ending) (old new : Moment) (config recording : List ℕ) : Type 0 where
+  pub config_read : HasRead CONFIGURATION_BYTES old.config new.config config
+  pub first_read : HasReadFirst (ending config recording).fault old.first new.first recording
