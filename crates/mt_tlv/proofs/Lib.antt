@@ -3,7 +3,6 @@ pub mod Cursors
 pub mod Elements
 pub mod Ends
 pub mod Faults
-pub mod LittleEndian
 pub mod Longer
 pub mod Loop
 pub mod Narrowest
