@@ -1,12 +1,30 @@
 -- Elements of containers, and the members that they are of.
-use Rattle.std.proofs.Common.{◌≡◌, ◌&&◌, Bool, List, [], ◌∷◌, refl, ap}
+use Rattle.std.proofs.Common.{◌≡◌, ◌&&◌, ◌++◌, Bool, List, [], ◌∷◌, length, map, refl, ap, rules}
 use Rattle.std.specs.List.{list_all}
-use Rattle.mt_tlv.specs.Tree.{Tree}
+use Rattle.mt_tlv.specs.Tree.{Tree, none, more}
+use Rattle.mt_tlv.specs.declared.value.Tag.TheVariants.{Anonymous}
 use Rattle.mt_tlv.specs.View.{elements, tree}
 use Rattle.mt_tlv.specs.declared.value.Tag.{Tag}
 use Rattle.mt_tlv.specs.declared.value.Value.{Value}
 use Rattle.mt_write.specs.Forms.{all_elements}
+use Rattle.mt_write.specs.Writing.{count_of, with_items}
 
 pub all_of_elements : (test : Tree → Bool) (members : List (Tag × Value)) → all_elements test (elements members) ≡ list_all (λ (m : Tag × Value). test (tree m.1)) members
 all_of_elements test [] = refl
 all_of_elements test (m ∷ members) = ap (λ rest. test (tree m.1) && rest) (all_of_elements test members)
+
+pub count_of_elements : (members : List (Tag × Value)) → count_of (elements members) ≡ length members
+count_of_elements [] = refl
+count_of_elements (m ∷ members) = rw (count_of_elements members) (search rules)
+
+-- an item as an element
+abbrev pub untagged : Value → Tag × Value
+untagged value = (Anonymous, value)
+
+pub items_alone : (items : List Value) → elements (map untagged items) ≡ with_items none items
+items_alone [] = refl
+items_alone (item ∷ items) = ap (λ es. more Anonymous (tree item) es) (items_alone items)
+
+pub elements_with_items : (members : List (Tag × Value)) (items : List Value) → elements (members ++ map untagged items) ≡ with_items (elements members) items
+elements_with_items [] items = items_alone items
+elements_with_items (m ∷ members) items = ap (λ es. more m.0 (tree m.1) es) (elements_with_items members items)

@@ -1,6 +1,7 @@
 -- As what the items of a written list are kept, and which status refuses them, item by item in their order.
-use Rattle.std.specs.Prelude.{ℕ, ◌==◌, ◌-◌, List, [], ◌∷◌, Option, Some, None, Result, Ok, Err, if◌then◌else◌}
+use Rattle.std.specs.Prelude.{ℕ, ◌==◌, ◌-◌, List, [], ◌∷◌, Option, Some, None, Result, Ok, Err, if◌then◌else◌, Bool, true, false}
 use Rattle.std.specs.List.{flat_map}
+use Rattle.std.specs.Option.{option_map}
 use Rattle.mt_tlv.specs.Tree.{Tree, int, uint, bool, text, octets, null, bits32, bits64, structure, array, list, Elements, none, more}
 use Rattle.mt_tlv.specs.View.{elements, tree}
 use Rattle.mt_tlv.specs.declared.value.Tag.{Tag}
@@ -19,11 +20,17 @@ use Rattle.mt_write.specs.Forms.{all_elements, are_within, is_item}
 
 -- The items that are written.
 
--- the elements of an array, or the one that is appended
+abbrev pub is_append : Index → Bool
+is_append Append = true
+is_append index = false
+
+abbrev pub array_in : Value → Option Elements
+array_in (values.Array es) = Some es
+array_in value = None
+
+-- the one that is appended, or the elements of an array
 abbrev pub given_items : Index → Value → Option Elements
-given_items Append value = Some (more Anonymous (tree value) none)
-given_items index (values.Array es) = Some es
-given_items index value = None
+given_items index value = if is_append index then Some (more Anonymous (tree value) none) else array_in value
 
 -- the value that has this tree
 abbrev pub value_of : Tree → Value
@@ -39,11 +46,13 @@ value_of (structure es) = values.Struct es
 value_of (array es) = values.Array es
 value_of (list es) = values.List es
 
+abbrev pub is_fabric_index : Form → Bool
+is_fabric_index forms.FabricIndex = true
+is_fabric_index form = false
+
 -- Whose an item is is kept as the writer's fabric, whatever it says.
 abbrev pub kept_value : ℕ → Form → Option Tree → Option Value
-kept_value fabric forms.FabricIndex given = Some (values.Uint fabric)
-kept_value fabric form None = None
-kept_value fabric form (Some tree) = Some (value_of tree)
+kept_value fabric form given = if is_fabric_index form then Some (values.Uint fabric) else option_map value_of given
 
 abbrev pub tagged : ℕ → Option Value → List (Tag × Value)
 tagged number None = []

@@ -1,7 +1,7 @@
 -- What a write answers and changes (Matter Core Specification, section 8.7, Write Interaction), made of what the writer's fabric
 -- sees.
 use Rattle.std.specs.Prelude.{ℕ, ◌==◌, ◌-◌, ◌+◌, ◌&&◌, ◌||◌, not, Bool, true, false, List, [], ◌∷◌, ◌++◌, Option, Some, None, Result, Ok, Err, filter, is_none, length, map, if◌then◌else◌}
-use Rattle.mt_tlv.specs.Tree.{Elements, none, more}
+use Rattle.mt_tlv.specs.Tree.{Tree, Elements, none, more}
 use Rattle.mt_tlv.specs.View.{tree}
 use Rattle.mt_tlv.specs.declared.value.Tag.TheVariants.{Anonymous}
 use Rattle.mt_tlv.specs.declared.value.Value.{Value}
@@ -36,7 +36,7 @@ use Rattle.mt_meta.specs.declared.rows.Takes.{Takes}
 use Rattle.mt_meta.specs.declared.rows.Takes.TheVariants as takes
 use Rattle.mt_write.specs.Entries.{kept_entry}
 use Rattle.mt_write.specs.Forms.{has_type, is_within}
-use Rattle.mt_write.specs.Items.{given_items, kept_item, new_items}
+use Rattle.mt_write.specs.Items.{given_items, is_append, kept_item, new_items}
 use Rattle.mt_write.specs.Latest.{entries_now, rows_now}
 use Rattle.mt_write.specs.declared.writing.Written.{Written}
 
@@ -67,36 +67,40 @@ abbrev pub is_outdated : Option ℕ → ℕ → Bool
 is_outdated None version = false
 is_outdated (Some wanted) version = not (wanted == version)
 
-abbrev pub open_at : Seen → Bool → WriteItem → Place → Result Meta Status → Result Meta Status
-open_at seen timed item place (Err status) = Err status
-open_at seen timed item place (Ok meta) =
+abbrev pub open_at : ℕ → Bool → WriteItem → Result Meta Status → Result Meta Status
+open_at version timed item (Err status) = Err status
+open_at version timed item (Ok meta) =
     if is_none meta.write || is_numbered item.path.index then Err UnsupportedWrite
     else if meta.timed && not timed then Err NeedsTimedInteraction
-    else if is_outdated item.version (seen.version_of place.endpoint place.cluster) then Err DataVersionMismatch
+    else if is_outdated item.version version then Err DataVersionMismatch
     else Ok meta
 
 -- the attribute, if nothing stands in the way: access comes first
 abbrev pub opened : Seen → Actor → Bool → WriteItem → Place → Result Meta Status
-opened seen actor timed item place = if may_write seen actor place then open_at seen timed item place (find_of place) else Err UnsupportedAccess
+opened seen actor timed item place =
+    if may_write seen actor place then open_at (seen.version_of place.endpoint place.cluster) timed item (find_of place)
+    else Err UnsupportedAccess
 
 -- Values.
 
 -- a value that is no list
 abbrev pub new_value : Form → Index → Value → Result (List Value) Status
-new_value form Append value = Err InvalidDataType
-new_value form index value = if not (has_type form (tree value)) then Err InvalidDataType
+new_value form index value = if is_append index || not (has_type form (tree value)) then Err InvalidDataType
     else if not (is_within form (tree value)) then Err ConstraintError
     else Ok (value ∷ [])
 
 -- Lists. What is appended stands behind what is there, and any other value replaces it.
 abbrev pub staying : {X : Type 0} → Index → List X → List X
-staying Append there = there
-staying index there = []
+staying index there = if is_append index then there else []
 
 -- a list that is not scoped is one row, an array
+abbrev pub elements_in : Value → Elements
+elements_in (values.Array es) = es
+elements_in value = none
+
 abbrev pub members_of : List Value → Elements
-members_of (values.Array es ∷ rows) = es
-members_of rows = none
+members_of [] = none
+members_of (value ∷ rows) = elements_in value
 
 abbrev pub count_of : Elements → ℕ
 count_of none = 0
@@ -116,10 +120,17 @@ behind there (Err status) = Err status
 behind there (Ok items) = Ok (there ++ items)
 
 -- the items of a list of which these stay
+
+abbrev pub list_with : {X : Type 0} → (Tree → Option X) → Meta → Index → Value → List X → Result (List X) Status
+list_with keep meta index value there = behind there (new_items keep (fields_of meta.kind) (meta.limit - length there) (given_items index value))
+
+abbrev pub array_with : (Tree → Option Value) → Meta → Index → Value → Elements → Result (List Value) Status
+array_with keep meta index value there = array_of there (new_items keep (fields_of meta.kind) (meta.limit - count_of there) (given_items index value))
+
 abbrev pub rows_with : Meta → ℕ → Index → Value → List Value → Result (List Value) Status
 rows_with meta fabric index value there =
-    if meta.scoped then behind there (new_items (kept_item (fields_of meta.kind) fabric) (fields_of meta.kind) (meta.limit - length there) (given_items index value))
-    else array_of (members_of there) (new_items (kept_item (fields_of meta.kind) fabric) (fields_of meta.kind) (meta.limit - count_of (members_of there)) (given_items index value))
+    if meta.scoped then list_with (kept_item (fields_of meta.kind) fabric) meta index value there
+    else array_with (kept_item (fields_of meta.kind) fabric) meta index value (members_of there)
 
 -- the rows of a place behind a write, where these stand before it
 abbrev pub new_rows : Meta → Option Takes → ℕ → Index → Value → List Value → Result (List Value) Status
@@ -127,10 +138,6 @@ new_rows meta (Some (takes.Value form)) fabric index value before = new_value fo
 new_rows meta (Some takes.Items) fabric index value before = rows_with meta fabric index value (staying index before)
 new_rows meta (Some takes.Nothing) fabric index value before = Err InvalidDataType
 new_rows meta None fabric index value before = Err InvalidDataType
-
--- the entries of a fabric behind a write, of which these stay
-abbrev pub new_entries : Meta → ℕ → Index → Value → List AclEntry → Result (List AclEntry) Status
-new_entries meta fabric index value there = behind there (new_items (kept_entry fabric) (fields_of meta.kind) (meta.limit - length there) (given_items index value))
 
 -- Steps. An item touches what is the writer's own, or nobody's, and nothing else.
 
@@ -145,14 +152,13 @@ abbrev pub entries_step : ℕ → Result (List AclEntry) Status → Result NodeS
 entries_step fabric (Err status) = Err status
 entries_step fabric (Ok entries) = Ok (SetEntries fabric entries)
 
--- the step of a fabric's rows, whose values stand as the steps before it leave them
-abbrev pub rows_written : Seen → List NodeStep → WriteItem → Place → Meta → ℕ → Result NodeStep Status
-rows_written seen steps item place meta fabric =
-    row_step place fabric (new_rows meta (takes_of place) fabric item.path.index item.value (rows_now place fabric steps (own_values fabric (seen.rows_at place))))
+-- the step of an item, where these stand as the steps before it leave them
 
-abbrev pub entries_written : Seen → List NodeStep → WriteItem → Meta → ℕ → Result NodeStep Status
-entries_written seen steps item meta fabric =
-    entries_step fabric (new_entries meta fabric item.path.index item.value (staying item.path.index (entries_now fabric steps seen.entries)))
+abbrev pub rows_written : WriteItem → Place → Meta → ℕ → List Value → Result NodeStep Status
+rows_written item place meta fabric before = row_step place fabric (new_rows meta (takes_of place) fabric item.path.index item.value before)
+
+abbrev pub entries_written : WriteItem → Meta → ℕ → List AclEntry → Result NodeStep Status
+entries_written item meta fabric before = entries_step fabric (list_with (kept_entry fabric) meta item.path.index item.value (staying item.path.index before))
 
 abbrev pub is_entry_list : Kind → Bool
 is_entry_list kinds.Acl = true
@@ -165,8 +171,8 @@ fabric_of actor meta = if meta.scoped then actor.fabric else 0
 abbrev pub written_at : Seen → Actor → List NodeStep → WriteItem → Place → Result Meta Status → Result NodeStep Status
 written_at seen actor steps item place (Err status) = Err status
 written_at seen actor steps item place (Ok meta) =
-    if is_entry_list meta.kind then entries_written seen steps item meta (fabric_of actor meta)
-    else rows_written seen steps item place meta (fabric_of actor meta)
+    if is_entry_list meta.kind then entries_written item meta actor.fabric (entries_now actor.fabric steps seen.entries)
+    else rows_written item place meta (fabric_of actor meta) (rows_now place (fabric_of actor meta) steps (own_values (fabric_of actor meta) (seen.rows_at place)))
 
 -- the place that a path without a wildcard names
 abbrev pub place_in : Option ℕ → Option ℕ → Option ℕ → Option Place

@@ -4,12 +4,23 @@
 //! - `writing`: the answer to a request, item by item;
 //! - `entries`: access control entries as they are written;
 //! - `forms`: the forms of written values;
+//! - `opening`: whether an item gets to its attribute;
+//! - `values`: the values behind an item;
+//! - `latest`: what the steps before an item leave;
+//! - `items`: the items of written lists;
 //! - `fields`: fields of a structure.
 #![tactic(auto)]
 
 mod entries;
 mod fields;
 mod forms;
+mod items;
+mod latest;
+mod opening;
+mod values;
 mod writing;
 
-pub use writing::{Written, write};
+pub use writing::{Change, Written, write};
+
+#[cfg(test)]
+mod tests;
