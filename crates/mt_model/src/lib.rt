@@ -32,7 +32,9 @@ pub use node::state::{
 };
 pub use rows::place::{Place, Row, Rows, device_type};
 pub use rows::sight::{Sight, View, sees};
-pub use tables::access::{AclEntries, AclEntry, Actor, Auth, Privilege, Subjects, Target, Targets};
+pub use tables::access::{
+    AclEntries, AclEntry, Actor, Auth, Privilege, Subjects, Target, Targets, entries_of,
+};
 pub use tables::fabric::{Credentials, Fabric, Fabrics, is_operational};
 pub use tables::network::{Armed, Network, Networks, Roots};
 pub use texts::config::{

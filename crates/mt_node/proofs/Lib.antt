@@ -1,4 +1,3 @@
-pub mod Entries
 pub mod Orderly
 pub mod Plans
 pub mod Sessions

@@ -1,17 +1,15 @@
 //! What of the node answers are made of.
 
-ghost use Rattle.std.specs.Prelude.{◌≡◌, ◌==◌, not, nat_le, nat_lt, filter, IfOk, IsTrue};
-ghost use Rattle.mt_model.specs.texts.Config.{ascend_from};
+ghost use Rattle.std.specs.Prelude.{◌≡◌, IfOk, IsTrue};
 ghost use Rattle.mt_model.specs.rows.Order.{are_ascending};
 ghost use Rattle.mt_model.specs.rows.Sight.{stands_at, version_in};
-ghost use Rattle.mt_model.specs.declared.tables.access.AclEntry.{AclEntry};
 ghost use Rattle.mt_apps.specs.Computed.{computed_rows};
 ghost use Rattle.mt_machine.specs.State.{parts, rows_of};
 
 use crate::node::Node;
 use mt_apps::rows_at;
 use mt_meta::is_stored;
-use mt_model::{AclEntry, ExactCopy, Place, Row, Rows, Sight, Version, View};
+use mt_model::{AclEntry, ExactCopy, Place, Row, Rows, Sight, Version, View, entries_of};
 use std::alloc::{AllocError, Global};
 
 impl Sight for Node {
@@ -75,23 +73,4 @@ fn version_among(versions: &[Version], endpoint: u16, cluster: u32) -> u32
         }
     }
     0
-}
-
-// The entries of a fabric, which stand together.
-fn entries_of(entries: &[AclEntry], fabric: u8) -> &[AclEntry]
-    requires { IsTrue (ascend_from 1 entries.now) }
-    ensures { result.now ≡ filter (λ (entry : AclEntry). entry.fabric == fabric) entries.now }
-{
-    let begin = entries.partition_point(
-        |entry: &AclEntry| -> bool
-            ensures { result ≡ nat_lt entry.now.fabric fabric }
-        { entry.fabric < fabric },
-    );
-    let rest = &entries[begin..];
-    let end = rest.partition_point(
-        |entry: &AclEntry| -> bool
-            ensures { result ≡ not (nat_lt fabric entry.now.fabric) }
-        { entry.fabric <= fabric },
-    );
-    &rest[..end]
 }

@@ -1,7 +1,9 @@
 //! Who acts on the node, and what a fabric's access control entries are.
 
-ghost use Rattle.std.specs.Prelude.{◌≡◌};
+ghost use Rattle.std.specs.Prelude.{◌≡◌, ◌==◌, not, nat_lt, filter, IsTrue};
+ghost use Rattle.mt_model.specs.declared.tables.access.AclEntry.{AclEntry};
 ghost use Rattle.mt_model.specs.tables.Access.{includes};
+ghost use Rattle.mt_model.specs.texts.Config.{ascend_from};
 
 use crate::listed::{ExactCopy, Listed};
 use std::alloc::AllocError;
@@ -103,3 +105,22 @@ impl ExactCopy for AclEntry {
 
 /// Entries, by ascending fabric and in each fabric's own order.
 pub type AclEntries = Listed<AclEntry>;
+
+/// The entries of a fabric, in their order: of entries that ascend by fabric they stand together.
+pub fn entries_of(entries: &[AclEntry], fabric: u8) -> &[AclEntry]
+    requires { IsTrue (ascend_from 1 entries.now) }
+    ensures { result.now ≡ filter (λ (entry : AclEntry). entry.fabric == fabric) entries.now }
+{
+    let begin = entries.partition_point(
+        |entry: &AclEntry| -> bool
+            ensures { result ≡ nat_lt entry.now.fabric fabric }
+        { entry.fabric < fabric },
+    );
+    let rest = &entries[begin..];
+    let end = rest.partition_point(
+        |entry: &AclEntry| -> bool
+            ensures { result ≡ not (nat_lt fabric entry.now.fabric) }
+        { entry.fabric <= fabric },
+    );
+    &rest[..end]
+}

@@ -5,7 +5,8 @@ use Rattle.mt_model.specs.rows.Order.{are_ascending}
 use Rattle.mt_model.specs.rows.Sight.{stands_at}
 use Rattle.mt_model.specs.declared.rows.place.Row.{Row}
 use Rattle.mt_model.proofs.Order.{ascending-drop, ascending-take}
-use Rattle.mt_model.proofs.Places.{is_before, is_no_later, before_parts, later_parts, place_rest}
+use Rattle.mt_model.proofs.Places.{before_fails, before_parts, behind_fails, between_stands, is_before, is_no_later, later_parts}
+use Rattle.mt_model.proofs.Ranges.{range_rest}
 use Rattle.mt_model.proofs.rows.place.Rows.at.Goals as goal
 
 pub returns-clause-value : goal.returns-clause-value
@@ -21,7 +22,7 @@ returns-clause-value c =
     let up_on : are_ascending rest ≡ true = subst (λ (l : List Row). are_ascending l ≡ true) (sym same) (ascending-drop begin rows up) in
     let first = IsPartitionPoint-from_clause (is_before place) rows begin c.partition_point-begin.ensures.partitioned (before_parts place rows up) (λ a r q k. search rules) in
     let second = IsPartitionPoint-from_clause (is_no_later place) rest end c.partition_point-end.ensures.partitioned (later_parts place rest up_on) (λ a r q k. search rules) in
-    place_rest place rows rest begin end same c.partition_point-begin.ensures.bound c.partition_point-end.ensures.bound first second
+    range_rest Row (is_before place) (is_no_later place) (stands_at place) (before_fails place) (behind_fails place) (between_stands place) rows rest begin end same c.partition_point-begin.ensures.bound c.partition_point-end.ensures.bound first second
     ∙ ap (filter (stands_at place)) (value ∙ c.self.view_is)
 
 pub returns-clause-ascending : goal.returns-clause-ascending

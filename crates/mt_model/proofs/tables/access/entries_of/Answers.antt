@@ -3,8 +3,9 @@ use Rattle.std.proofs.lemmas.List.{take_all}
 use Rattle.std.proofs.lemmas.List.Sorted.{IsPartitionPoint-from_clause}
 use Rattle.mt_model.specs.texts.Config.{ascend_from}
 use Rattle.mt_model.specs.declared.tables.access.AclEntry.{AclEntry}
-use Rattle.mt_node.proofs.Entries.{ascending-drop, fabric_rest, is_lower, is_no_higher, lower_parts, no_higher_parts}
-use Rattle.mt_node.proofs.sight.entries_of.Goals as goal
+use Rattle.mt_model.proofs.OfFabric.{ascending-drop, between_is_own, higher_is_other, is_lower, is_no_higher, is_own, lower_is_other, lower_parts, no_higher_parts}
+use Rattle.mt_model.proofs.Ranges.{range_rest}
+use Rattle.mt_model.proofs.tables.access.entries_of.Goals as goal
 
 pub returns : goal.returns
 returns c =
@@ -17,4 +18,4 @@ returns c =
     let up_on : ascend_from 0 rest ≡ true = subst (λ (l : List AclEntry). ascend_from 0 l ≡ true) (sym same) (ascending-drop begin 1 entries c.requires) in
     let first = IsPartitionPoint-from_clause (is_lower fabric) entries begin c.partition_point-begin.ensures.partitioned (lower_parts fabric 1 entries c.requires) (λ a r q k. search rules) in
     let second = IsPartitionPoint-from_clause (is_no_higher fabric) rest end c.partition_point-end.ensures.partitioned (no_higher_parts fabric 0 rest up_on) (λ a r q k. search rules) in
-    fabric_rest fabric entries rest begin end same c.partition_point-begin.ensures.bound c.partition_point-end.ensures.bound first second
+    range_rest AclEntry (is_lower fabric) (is_no_higher fabric) (is_own fabric) (lower_is_other fabric) (higher_is_other fabric) (between_is_own fabric) entries rest begin end same c.partition_point-begin.ensures.bound c.partition_point-end.ensures.bound first second
