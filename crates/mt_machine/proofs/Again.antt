@@ -82,14 +82,16 @@ module _ (fabric : ℕ) where
 
   -- Fabrics.
 
+  -- one fabric more, its own or another
+  own_of_one : (f : Fabric) (fs : List Fabric) (mine : Bool) → (f.index == fabric) ≡ mine
+      → own_fabrics fabric (map (known_to fabric) fs) ≡ own_fabrics fabric fs
+      → own_fabrics fabric ((if mine then f else bare_fabric (descriptor_of f)) ∷ map (known_to fabric) fs) ≡ own_fabrics fabric (f ∷ fs)
+  own_of_one f fs true is again = rw is (ap (λ (rest : List Fabric). f ∷ rest) again)
+  own_of_one f fs false is again = rw is (again)
+
   own_of_known : (fs : List Fabric) → own_fabrics fabric (map (known_to fabric) fs) ≡ own_fabrics fabric fs
   own_of_known [] = refl
-  own_of_known (f ∷ fs) = by_test (f.index == fabric) refl
-    where
-      by_test : (mine : Bool) → (f.index == fabric) ≡ mine
-          → own_fabrics fabric ((if mine then f else bare_fabric (descriptor_of f)) ∷ map (known_to fabric) fs) ≡ own_fabrics fabric (f ∷ fs)
-      by_test true is = rw is ap (λ rest. f ∷ rest) (own_of_known fs)
-      by_test false is = rw is own_of_known fs
+  own_of_known (f ∷ fs) = own_of_one f fs (f.index == fabric) refl (own_of_known fs)
 
   described : (f : Fabric) → descriptor_of (known_to fabric f) ≡ descriptor_of f
   described f = by_test (f.index == fabric)
