@@ -2,7 +2,7 @@
 -- what each call refuses.
 use Rattle.std.specs.Prelude.{◌≡◌, ℕ, ◌+◌, ◌<◌, ◌≤◌, ◌==◌, ◌&&◌, nat_le, nat_lt, not, Bool, true, false, List, [], ◌∷◌, length, map, filter, find, bytes_eq, Option, Some, None, option_map, if◌then◌else◌}
 use Rattle.std.specs.List.{list_all, list_any}
-use Rattle.mt_model.specs.texts.Config.{have_one_identity, have_one_label, none_alike}
+use Rattle.mt_model.specs.texts.Config.{has_identity, have_one_identity, have_one_label, none_alike}
 use Rattle.mt_model.specs.rows.Order.{fabrics_ascend}
 use Rattle.mt_model.specs.declared.tables.fabric.Credentials.{Credentials}
 use Rattle.mt_model.specs.declared.tables.fabric.Fabric.{Fabric}
