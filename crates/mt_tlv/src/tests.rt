@@ -202,7 +202,7 @@ const SAME_AND_DEEP: [u8; 21] =
     *b"\x16\x16\x16\x16\x16\x16\x16\x16\x16\x16\x16\x16\x16\x16\x16\x15\x20\x01\x00\x35\x01";
 
 // Each fault, and of two that stand together the earlier one.
-fn fault_rows() -> [(&'static [u8], TlvFault); 25] {
+fn fault_rows() -> [(&'static [u8], TlvFault); 27] {
     [
         (b"", TlvFault::Short),
         (b"\x24", TlvFault::Short),
@@ -216,6 +216,11 @@ fn fault_rows() -> [(&'static [u8], TlvFault); 25] {
         (b"\x0c\x01\xff", TlvFault::NotUtf8),
         (&[0x16; 17], TlvFault::TooDeep),
         (b"\x15\x24\x01\x00\x24\x01\x00\x18", TlvFault::SameTag),
+        (b"\x15\x24\xff\x00\x24\xff\x00\x18", TlvFault::SameTag),
+        (
+            b"\x15\x84\x02\x00\x00\x84\x01\x00\x00\x84\x02\x00\x00\x18",
+            TlvFault::SameTag,
+        ),
         (b"\x16\x24\x00\x00\x18", TlvFault::TagForm),
         (b"\x15\x04\x00\x18", TlvFault::TagForm),
         (b"\x12\x00\x00\x01\x00", TlvFault::TooLong),
@@ -251,6 +256,12 @@ fn faults(rt: HostRuntime) {
     }
     assert_eq!(rt; TlvFault::Short as u8, 1);
     assert_eq!(rt; TlvFault::Memory as u8, 8);
+    // A cursor goes over a tag that is there twice, and meets what stands behind it.
+    assert_eq!(rt; cursor_fault(b"\x15\x24\x01\x00\x24\x01\x00\x18"), None);
+    assert_eq!(rt;
+        cursor_fault(b"\x15\x24\x01\x00\x24\x01"),
+        Some(TlvFault::Short)
+    );
     // A tag is the same where its kind is, too.
     let kinds = b"\x15\x24\x01\x00\x44\x01\x00\x00\x84\x01\x00\x00\x18";
     assert_eq!(rt; read(alloc, kinds).err(), None);
@@ -333,6 +344,10 @@ fn public_calls(rt: HostRuntime) -> Result<(), Fail> {
     element_is_read();
     narrow_is_element();
     written_is_read();
+    later_bytes_change_nothing();
     cursor_comes_over_the_element();
+    cursor_meets_the_fault();
+    cursor_goes_over_repeated_tags();
+    cursor_ends_or_meets_a_fault();
     Ok(())
 }
