@@ -81,13 +81,13 @@ head_again tag type opening bytes lt h =
 pub no_end : (tag : Tag) (type : ℕ) (opening bytes : List ℕ) → type < 24 → IsOpening tag type opening → is_end (opening ++ bytes) ≡ false
 no_end tag type opening bytes lt h = rw h.3 (grind (arith, nat_tests))
 
-shorter : (tag : Tag) (type : ℕ) (opening body others : List ℕ) (n : ℕ) → IsOpening tag type opening → length (opening ++ (body ++ others)) ≤ suc n → length others ≤ n
+pub shorter : (tag : Tag) (type : ℕ) (opening body others : List ℕ) (n : ℕ) → IsOpening tag type opening → length (opening ++ (body ++ others)) ≤ suc n → length others ≤ n
 shorter tag type opening body others n h le =
     let e : opening ≡ (32 * h.0 + type) ∷ h.1 = h.3 in
     let l = rw e at le in
     omega (arith, l, length-append h.1 (body ++ others), length-append body others)
 
-allowed_again : (kind : Kind) (tags : List Tag) (tag : Tag) → MayStand kind tags tag → allowed kind tags tag ≡ Ok tt
+pub allowed_again : (kind : Kind) (tags : List Tag) (tag : Tag) → MayStand kind tags tag → allowed kind tags tag ≡ Ok tt
 allowed_again kinds.Struct tags tag h = rw (h.0, h.1) refl
 allowed_again kinds.Array tags tag h = rw h refl
 allowed_again kinds.List tags tag h = refl
@@ -232,7 +232,7 @@ pub regroup : (inner opening body others rest : List ℕ) → inner ≡ opening 
 regroup inner opening body others rest e = rw e (append_assoc opening (body ++ others) (24 ∷ rest) ∙ ap (λ (t : List ℕ). opening ++ t) (append_assoc body others (24 ∷ rest)))
 
 mutual
-  body_again : (v : Tree) (room whole type : ℕ) (body rest : List ℕ) → IsBody v type body → IsAllowed v room → whole ≤ 65535 + length rest → body_at room whole type (body ++ rest) ≡ Ok (v, rest)
+  pub body_again : (v : Tree) (room whole type : ℕ) (body rest : List ℕ) → IsBody v type body → IsAllowed v room → whole ≤ 65535 + length rest → body_at room whole type (body ++ rest) ≡ Ok (v, rest)
   body_again (int z) room whole type body rest h may short = scalar_body_again room whole type body rest (int z) (int_scalar z type body h.0 h.1 h.2) short
   body_again (uint n) room whole type body rest h may short = scalar_body_again room whole type body rest (uint n) (uint_scalar n h.0 type body h.1 h.2 h.3 h.4) short
   body_again (bool b) room whole type body rest h may short = scalar_body_again room whole type body rest (bool b) (bool_scalar b type body h.0 h.1) short

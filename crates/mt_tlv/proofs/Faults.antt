@@ -15,10 +15,9 @@ use Rattle.mt_tlv.specs.Limits.{is_anonymous, is_tag_in}
 use Rattle.mt_tlv.specs.Reading.{◌>>=◌, Reads, cut_at, piece_at, number_at, context_at, profile_number_at, full_at, tag_at, head_at, allowed, is_scalar_type, scalar_length, scalar_at, string_at, text_of, text_at, is_end, kind_of, container_of, members_with, body_with, container_at, body_at, element_at}
 use Rattle.mt_tlv.specs.Parts.{Place, Piece, scalar, enter, leave, fits, ends, enter_at, part_at, piece_in, innermost, kinds_after, moved, unless_fault, next_at, start}
 use Rattle.mt_tlv.specs.Parts as parts
-use Rattle.mt_tlv.specs.Repeats.{IsRepeating}
-use Rattle.mt_tlv.specs.Runs.{parts_of, Comes, Faults}
+use Rattle.mt_tlv.specs.Runs.{Comes, Faults}
 use Rattle.mt_tlv.proofs.Cursors.{place}
-use Rattle.mt_tlv.proofs.Runs.{comes_append, cursor_comes, cursor_ends}
+use Rattle.mt_tlv.proofs.Runs.{comes_append, cursor_ends}
 
 -- No more than this many bytes are left behind what was read.
 abbrev pub Within : {A : Type 0} → ℕ → Result (A × List ℕ) TlvFault → Type 0
@@ -408,18 +407,6 @@ met_by whole len p (Ok x) e f h =
 met_by whole len p (Err d) e f h = elim (is_same_tag_fault d) [
   | inl s ↦ inr (ap (failed ((Tag × Tree) × List ℕ)) s)
   | inr s ↦ let g = f s in inl (same_fault {A = Option Piece × Place} (sym g.3 ∙ one_stop p g.1 h.1 g.0 h.0 g.2 h.2 (fault_stops g.1 d g.3) (fault_stops h.1 e h.3) ∙ h.3))
-]
-
--- reading stops at a tag that a structure has already, where nothing else is wrong
-pub only_repeats : (tag : Tag) (v : Tree) (bytes rest : List ℕ) (e : TlvFault) → IsRepeating tag v bytes → element_at (bytes ++ rest) ≡ Err e → e ≡ SameTag
-only_repeats tag v bytes rest e h is = elim (is_same_tag_fault e) [
-  | inl s ↦ s
-  | inr s ↦
-      let b = place (length (bytes ++ rest)) rest [] true None in
-      let f = read_fault_met (bytes ++ rest) e s is in
-      let same : next_at f.1 ≡ next_at b = one_stop (start (bytes ++ rest)) f.1 b f.0 (parts_of tag v) f.2 (cursor_comes tag v bytes rest h) (fault_stops f.1 e f.3) (end_stops (length (bytes ++ rest)) rest) in
-      let d : failed (Option Piece × Place) e ≡ ended b = sym f.3 ∙ same ∙ cursor_ends (length (bytes ++ rest)) rest in
-      absurd cc
 ]
 
 pub met_fault_read : (bytes : List ℕ) (e : TlvFault) → Faults (start bytes) e → (element_at bytes ≡ Err e) ⊎ (element_at bytes ≡ Err SameTag)

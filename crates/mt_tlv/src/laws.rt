@@ -61,11 +61,12 @@ pub fn cursor_meets_the_fault()
 {}
 
 /// A cursor goes over repeated tags: where bytes are an element but for a tag that a structure has twice,
-/// it comes over all parts in their order, whatever follows them. Reading has no other fault there.
+/// it comes over all parts in their order, whatever follows them. Reading stops there at such a tag,
+/// unless the bytes are an element.
 pub fn cursor_goes_over_repeated_tags()
     ensures parts { (tag : Tag) (v : Tree) (bytes rest : List ℕ) → IsRepeating tag v bytes
         → Comes (start (bytes ++ rest)) (parts_of tag v) (behind (length (bytes ++ rest)) rest) }
-    ensures fault { (tag : Tag) (v : Tree) (bytes rest : List ℕ) (e : TlvFault) → IsRepeating tag v bytes → element_at (bytes ++ rest) ≡ Err e → e ≡ SameTag }
+    ensures read { (tag : Tag) (v : Tree) (bytes rest : List ℕ) → IsRepeating tag v bytes → IsElement tag v bytes ⊎ (element_at (bytes ++ rest) ≡ Err SameTag) }
     ensures elements { (tag : Tag) (v : Tree) (bytes : List ℕ) → IsElement tag v bytes → IsRepeating tag v bytes }
 {}
 
