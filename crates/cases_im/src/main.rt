@@ -16,7 +16,7 @@ use telling::{tell_fault, tell_lengths, tell_payloads, tell_request};
 
 fn main(rt: HostRuntime) -> io::Result<()> {
     let alloc = rt.alloc();
-    let mut items = Vec::new(alloc);
+    let mut items = Items::new(alloc);
     for line in BufReader::new(alloc, rt.reader())?.lines(alloc) {
         let line = line?;
         if line.starts_with('#') {
@@ -30,7 +30,7 @@ fn main(rt: HostRuntime) -> io::Result<()> {
 }
 
 // What comes of a case. An item is kept for the reply that follows.
-fn tell(rt: &HostRuntime, items: &mut Vec<Item>, words: &[&str]) -> io::Result<()> {
+fn tell(rt: &HostRuntime, items: &mut Items, words: &[&str]) -> io::Result<()> {
     match *words {
         ["decode", opcode, payload] => decoded(rt, opcode, payload),
         ["encode", opcode, payload] => encoded(rt, opcode, payload),
@@ -48,7 +48,7 @@ fn tell(rt: &HostRuntime, items: &mut Vec<Item>, words: &[&str]) -> io::Result<(
 }
 
 // The replies that have no items, and items.
-fn answer(rt: &HostRuntime, items: &mut Vec<Item>, words: &[&str]) -> io::Result<()> {
+fn answer(rt: &HostRuntime, items: &mut Items, words: &[&str]) -> io::Result<()> {
     match *words {
         ["nothing"] => tell_reply(rt, &Reply::Nothing),
         ["status", status] => {
@@ -133,7 +133,7 @@ fn subscribed(rt: &HostRuntime, id: &str, ceiling: &str) -> io::Result<()> {
 }
 
 // The report of the items that were kept.
-fn report(rt: &HostRuntime, items: &mut Vec<Item>, id: &str, suppress: &str) -> io::Result<Reply> {
+fn report(rt: &HostRuntime, items: &mut Items, id: &str, suppress: &str) -> io::Result<Reply> {
     let subscription = subscription(id)?;
     let suppress = truth(suppress)?;
     let items = taken(rt, items);
@@ -144,8 +144,8 @@ fn report(rt: &HostRuntime, items: &mut Vec<Item>, id: &str, suppress: &str) -> 
     })
 }
 
-fn taken(rt: &HostRuntime, items: &mut Vec<Item>) -> Items {
-    Items::from_vec(mem::replace(items, Vec::new(rt.alloc())))
+fn taken(rt: &HostRuntime, items: &mut Items) -> Items {
+    mem::replace(items, Items::new(rt.alloc()))
 }
 
 fn tell_reply(rt: &HostRuntime, reply: &Reply) -> io::Result<()> {

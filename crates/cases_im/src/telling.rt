@@ -72,10 +72,11 @@ fn tell_paths(rt: &HostRuntime, paths: &[Path], events: &[Path]) -> io::Result<(
 // ENDPOINT/CLUSTER/ID, with `*` for a wildcard, and `+` or the number of the item behind it.
 fn tell_path(rt: &HostRuntime, path: &Path) -> io::Result<()> {
     print!(rt; " ")?;
-    tell_id(rt, path.endpoint.map(|endpoint| endpoint as u32))?;
-    print!(rt; "/")?;
+    match path.endpoint {
+        Some(endpoint) => print!(rt; "{endpoint:x}")?,
+        None => print!(rt; "*")?,
+    }
     tell_id(rt, path.cluster)?;
-    print!(rt; "/")?;
     tell_id(rt, path.leaf)?;
     match path.index {
         Index::Whole => Ok(()),
@@ -86,8 +87,8 @@ fn tell_path(rt: &HostRuntime, path: &Path) -> io::Result<()> {
 
 fn tell_id(rt: &HostRuntime, id: Option<u32>) -> io::Result<()> {
     match id {
-        Some(id) => print!(rt; "{id:x}"),
-        None => print!(rt; "*"),
+        Some(id) => print!(rt; "/{id:x}"),
+        None => print!(rt; "/*"),
     }
 }
 
@@ -144,9 +145,6 @@ pub(crate) fn tell_payloads(rt: &HostRuntime, payloads: &Payloads) -> io::Result
     for payload in payloads.as_slice() {
         let text = hex::encode(rt.alloc(), payload.bytes.as_slice())?;
         println!(rt; "{:02x} {text}", payload.opcode)?;
-        if let Some(deadline) = payload.deadline {
-            println!(rt; "  until {deadline}")?;
-        }
     }
     Ok(())
 }

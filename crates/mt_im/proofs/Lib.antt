@@ -4,6 +4,7 @@ mod BlockLists
 mod FaultLaws
 mod FieldLaws
 mod Fitting
+mod Lowest
 mod MessageLaws
 mod Places
 mod RequestLaws

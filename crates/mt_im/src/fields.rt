@@ -13,8 +13,8 @@ use mt_tlv::{Tag, Value};
 /// The revision, which every message has.
 const REVISION: u8 = 255;
 
-/// The first field of this number.
-pub(crate) fn field(members: &[(Tag, Value)], number: u8) -> Option<&Value>
+/// The first field of this number among the members of a message or a block. It takes no memory.
+pub fn field(members: &[(Tag, Value)], number: u8) -> Option<&Value>
     ensures { option_map (λ value. tree value.now) result ≡ field_of number (elements members.now) }
 {
     let i = place_of(members, number)?;

@@ -1,13 +1,17 @@
 //! Laws of requests, over their definitions alone. Each is the contract of a function that does nothing.
 
-ghost use Rattle.std.specs.Prelude.{◌≡◌, ◌++◌, List, ℕ, Ok};
+ghost use Rattle.std.specs.Prelude.{◌≡◌, ◌↔◌, ◌++◌, List, [], ℕ, Ok, Err};
 ghost use Rattle.mt_tlv.specs.declared.value.Tag.TheVariants.{Anonymous};
 ghost use Rattle.mt_tlv.specs.Limits.{IsAllowed, deepest};
 ghost use Rattle.mt_tlv.specs.Narrow.{narrow};
-ghost use Rattle.mt_tlv.specs.Tree.{Tree};
+ghost use Rattle.mt_tlv.specs.Reading.{element_at};
+ghost use Rattle.mt_tlv.specs.Tree.{Tree, Elements};
 ghost use Rattle.mt_model.specs.declared.messages.message.Request.{Request};
+ghost use Rattle.mt_im.specs.declared.fault.ImFault.TheVariants.{Missing, Form};
+ghost use Rattle.mt_im.specs.declared.messages.Kind.{Kind};
+ghost use Rattle.mt_im.specs.Faults.{missing, malformed, IsLowest};
 ghost use Rattle.mt_im.specs.Limits.{Fits, IsRequest, IsRequestIn, IsWithinLimits};
-ghost use Rattle.mt_im.specs.Reading.{request_at, request_in};
+ghost use Rattle.mt_im.specs.Reading.{kind_of, message_in, request_at, request_in};
 ghost use Rattle.mt_im.specs.Requests.{opcode_of, request_tree};
 ghost use Rattle.mt_im.specs.Spelling.{RequestSpells};
 
@@ -50,3 +54,14 @@ pub fn encoded_is_decoded()
 {
     written_is_read();
 }
+
+/// The fault of a message is Missing of the lowest required tag that it lacks. Where it lacks none, it is Form
+/// of the lowest tag whose field is malformed.
+pub fn the_lowest_tag_is_told()
+    ensures missing { (opcode : ℕ) (bytes : List ℕ) (kind : Kind) (fields : Elements) (n : ℕ)
+        → kind_of opcode ≡ Ok kind → message_in (element_at bytes) ≡ Ok fields
+        → (request_in opcode bytes ≡ Err (Missing n)) ↔ IsLowest n (missing kind fields) }
+    ensures malformed { (opcode : ℕ) (bytes : List ℕ) (kind : Kind) (fields : Elements) (n : ℕ)
+        → kind_of opcode ≡ Ok kind → message_in (element_at bytes) ≡ Ok fields
+        → (request_in opcode bytes ≡ Err (Form n)) ↔ ((missing kind fields ≡ []) × IsLowest n (malformed kind fields)) }
+{}

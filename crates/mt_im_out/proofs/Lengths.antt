@@ -1,5 +1,5 @@
 -- How many bytes a payload of a report has.
-use Rattle.std.proofs.Common.{◌≡◌, ℕ, zero, suc, ◌+◌, ◌/◌, ◌^◌, ◌<◌, ◌≤◌, Bool, true, false, ◌&&◌, Option, Some, None, is_none, List, [], ◌∷◌, ◌++◌, length, refl, sym, ap, subst, inl, inr, length-append, if◌then◌else◌, arith}
+use Rattle.std.proofs.Common.{◌≡◌, ℕ, zero, suc, ◌+◌, ◌/◌, ◌^◌, ◌<◌, ◌≤◌, Bool, true, false, ◌&&◌, Option, Some, None, is_none, List, [], ◌∷◌, length, refl, ap, subst, inl, inr, length-append, if◌then◌else◌, arith}
 use Rattle.std.specs.Prelude.{nat_lt, All, IfSome}
 use Rattle.std.proofs.lemmas.Bool.Decides.{nat_tests}
 use Rattle.std.proofs.lemmas.List.Elements.{All-nil, All-cons, All-head, All-tail}
@@ -8,7 +8,6 @@ use Rattle.mt_tlv.specs.Tree.{none}
 use Rattle.mt_model.specs.messages.Blocks.{optional_number}
 use Rattle.mt_model.specs.declared.limits.TheConstants.{ITEM_BYTES}
 use Rattle.mt_model.specs.declared.messages.message.Item.{Item}
-use Rattle.mt_model.specs.declared.messages.message.Payload.{Payload}
 use Rattle.mt_model.specs.declared.messages.message.Reply.TheVariants.{Report}
 use Rattle.mt_im_out.specs.Messages.{optional_truth}
 use Rattle.mt_im_out.specs.Chunks.{Part, size_of, attribute_items, event_items, split_items, parts_of, report_payload, report_payloads, chunks_of}

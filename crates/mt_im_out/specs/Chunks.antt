@@ -2,9 +2,8 @@
 use Rattle.std.specs.Prelude.{ℕ, Bool, true, false, not, ◌&&◌, Option, None, is_none, List, [], ◌∷◌, ◌++◌, filter, map, length, nat_le, if◌then◌else◌}
 use Rattle.std.specs.List.{flat_map}
 use Rattle.mt_tlv.specs.declared.value.Tag.TheVariants.{Anonymous}
-use Rattle.mt_tlv.specs.declared.value.Value.{Value}
 use Rattle.mt_tlv.specs.declared.value.Value.TheVariants as values
-use Rattle.mt_tlv.specs.Tree.{Tree, int, uint, bool, text, octets, null, bits32, bits64, structure, array, list, Elements, none, more}
+use Rattle.mt_tlv.specs.Tree.{Tree, Elements, none, more}
 use Rattle.mt_tlv.specs.Narrow.{narrow, narrow_elements}
 use Rattle.mt_model.specs.Trees.{value_of}
 use Rattle.mt_model.specs.declared.limits.TheConstants.{ITEM_BYTES}
@@ -15,9 +14,9 @@ use Rattle.mt_model.specs.declared.messages.message.Path.{Path}
 use Rattle.mt_model.specs.declared.messages.message.Payload.{Payload}
 use Rattle.mt_model.specs.declared.messages.message.Reply.{Reply}
 use Rattle.mt_model.specs.declared.messages.message.Reply.TheVariants as replies
+use Rattle.mt_model.specs.declared.messages.opcode.TheConstants.{STATUS_RESPONSE, SUBSCRIBE_RESPONSE, REPORT_DATA, WRITE_RESPONSE, INVOKE_RESPONSE}
 use Rattle.mt_model.specs.messages.Blocks.{item_tree}
 use Rattle.mt_im.specs.Requests.{blocks, command_tree}
-use Rattle.mt_model.specs.declared.messages.opcode.TheConstants.{STATUS_RESPONSE, SUBSCRIBE_RESPONSE, REPORT_DATA, WRITE_RESPONSE, INVOKE_RESPONSE}
 use Rattle.mt_im_out.specs.Messages.{status_response_tree, subscribe_response_tree, write_response_tree, command_status_tree, invoke_response_tree, report_tree}
 
 -- A list that is too long.

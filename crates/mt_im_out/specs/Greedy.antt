@@ -6,9 +6,9 @@ use Rattle.mt_tlv.specs.View.{tree}
 use Rattle.mt_model.specs.messages.Blocks.{item_block}
 use Rattle.mt_model.specs.declared.limits.TheConstants.{ITEM_BYTES}
 use Rattle.mt_model.specs.declared.messages.message.Index.{Index}
-use Rattle.mt_model.specs.declared.messages.message.Index.TheVariants.{Whole, Append, At}
+use Rattle.mt_model.specs.declared.messages.message.Index.TheVariants.{Whole, Append}
 use Rattle.mt_model.specs.declared.messages.message.Item.{Item}
-use Rattle.mt_model.specs.declared.messages.message.Item.TheVariants.{Attribute, Refused, Event, EventRefused}
+use Rattle.mt_model.specs.declared.messages.message.Item.TheVariants.{Attribute}
 use Rattle.mt_model.specs.declared.messages.message.Payload.{Payload}
 use Rattle.mt_im_out.specs.Chunks.{Part, attribute_part, size_of}
 

@@ -7,8 +7,8 @@ use Rattle.mt_model.specs.messages.Blocks.{optional_number, item_block}
 use Rattle.mt_model.specs.declared.limits.TheConstants.{ITEM_BYTES}
 use Rattle.mt_model.specs.declared.messages.message.Item.{Item}
 use Rattle.mt_model.specs.declared.messages.message.Payload.{Payload}
-use Rattle.mt_im.specs.Requests.{revision}
 use Rattle.mt_model.specs.declared.messages.opcode.TheConstants.{REPORT_DATA}
+use Rattle.mt_im.specs.Requests.{revision}
 use Rattle.mt_im_out.specs.declared.reports.Packing.{Packing}
 use Rattle.mt_im_out.specs.Messages.{optional_truth}
 use Rattle.mt_im_out.specs.Chunks.{is_event, split_item}
