@@ -1,15 +1,18 @@
 -- What attributes take when they are written, as the table says.
-use Rattle.std.specs.Prelude.{Bool, false, not, Option, Some, None, Result, Ok, Err, is_some}
+use Rattle.std.specs.Prelude.{ℕ, ◌==◌, ◌&&◌, nat_le, not, Bool, true, false, Option, Some, None, Result, Ok, Err, is_none, is_some}
 use Rattle.std.specs.Option.{option_map}
 use Rattle.mt_model.specs.declared.rows.place.Place.{Place}
 use Rattle.mt_model.specs.declared.messages.status.Status.{Status}
+use Rattle.mt_meta.specs.declared.meta.Kind.{Kind}
+use Rattle.mt_meta.specs.declared.meta.Kind.TheVariants as kinds
 use Rattle.mt_meta.specs.declared.meta.Meta.{Meta}
 use Rattle.mt_meta.specs.declared.rows.AttributeRow.{AttributeRow}
+use Rattle.mt_meta.specs.declared.rows.Form.{Form}
+use Rattle.mt_meta.specs.declared.rows.Form.TheVariants as forms
 use Rattle.mt_meta.specs.declared.rows.Takes.{Takes}
-use Rattle.mt_meta.specs.declared.rows.Takes.TheVariants.{Nothing, Items}
 use Rattle.mt_meta.specs.declared.rows.Takes.TheVariants as takes
 use Rattle.mt_meta.specs.Finding.{find_of}
-use Rattle.mt_meta.specs.Stored.{row_in}
+use Rattle.mt_meta.specs.Stored.{is_stored, row_in}
 use Rattle.mt_meta.specs.Table.{all_attributes_of}
 
 -- what the attribute of a place takes
@@ -18,17 +21,33 @@ takes_of place = option_map (λ (row : AttributeRow). row.takes) (row_in (all_at
 
 -- Law of the whole.
 
--- whether what can be written takes something, and what cannot takes nothing
-abbrev pub fits_writable : Bool → Option Takes → Bool
-fits_writable writable None = false
-fits_writable writable (Some Nothing) = not writable
-fits_writable writable (Some Items) = writable
-fits_writable writable (Some (takes.Value form)) = writable
+-- a form that gives values of the kind, within its limit
+abbrev pub fits_form : Kind → ℕ → Form → Bool
+fits_form kinds.Bool limit forms.Bool = true
+fits_form kinds.Uint limit (forms.Uint greatest) = nat_le greatest 0xffffffffffffffff
+fits_form kinds.Uint32 limit (forms.Uint greatest) = nat_le greatest 0xffffffff
+fits_form kinds.Text limit (forms.Text least most) = nat_le most limit
+fits_form kind limit form = false
 
-abbrev pub is_writable : Result Meta Status → Bool
-is_writable (Ok meta) = is_some meta.write
-is_writable (Err status) = false
+-- lists whose items are written: that of labels is one row, and the others have a row for each item
+abbrev pub fits_list : Bool → Bool → ℕ → Kind → Bool
+fits_list is_stored scoped limit kinds.Labels = is_stored && not scoped
+fits_list is_stored scoped limit kinds.Binding = is_stored && scoped
+fits_list is_stored scoped limit kinds.Bench = is_stored && scoped
+fits_list is_stored scoped limit kinds.Acl = scoped && limit == 4
+fits_list is_stored scoped limit kind = false
 
--- a place takes something exactly where it has a privilege to write it
+abbrev pub fits_meta : Bool → Meta → Takes → Bool
+fits_meta is_stored meta takes.Nothing = is_none meta.write
+fits_meta is_stored meta (takes.Value form) = is_some meta.write && (is_stored && (not meta.scoped && fits_form meta.kind meta.limit form))
+fits_meta is_stored meta takes.Items = is_some meta.write && fits_list is_stored meta.scoped meta.limit meta.kind
+
+abbrev pub fits_found : Bool → Result Meta Status → Option Takes → Bool
+fits_found is_stored (Err status) taken = false
+fits_found is_stored (Ok meta) None = false
+fits_found is_stored (Ok meta) (Some taken) = fits_meta is_stored meta taken
+
+-- An attribute takes something exactly where it has a privilege to write it, and then what fits its kind. It is stored, but for the
+-- access control list.
 abbrev pub takes_rightly : Place → Bool
-takes_rightly place = fits_writable (is_writable (find_of place)) (takes_of place)
+takes_rightly place = fits_found (is_stored place) (find_of place) (takes_of place)

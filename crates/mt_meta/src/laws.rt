@@ -1,6 +1,6 @@
 //! Laws of the table. Each is the contract of a function that does nothing.
 
-ghost use Rattle.std.specs.Prelude.{◌≡◌, ℕ, IsTrue, is_ok, is_some};
+ghost use Rattle.std.specs.Prelude.{◌≡◌, ℕ, IsTrue, is_ok, is_some, true};
 ghost use Rattle.std.specs.List.{list_all, list_any};
 ghost use Rattle.mt_model.specs.rows.Devices.{device_of};
 ghost use Rattle.mt_model.specs.declared.rows.place.Place.{Place};
@@ -36,7 +36,8 @@ pub fn stored_places_begin()
     ensures { IsTrue (list_all begins_rightly all_places) }
 {}
 
-/// An attribute takes something exactly where it has a privilege to write it.
+/// An attribute takes something exactly where it has a privilege to write it, and then what fits its kind.
+/// It is stored, but for the access control list.
 pub fn writable_attributes_take_something()
-    ensures { IsTrue (list_all takes_rightly all_places) }
+    ensures { (place : Place) → is_ok (find_of place) ≡ true → takes_rightly place ≡ true }
 {}

@@ -7,15 +7,16 @@ use Rattle.mt_tlv.specs.View.{elements, tree}
 use Rattle.mt_tlv.specs.declared.value.Tag.{Tag}
 use Rattle.mt_tlv.specs.declared.value.Value.{Value}
 use Rattle.mt_write.specs.Forms.{all_elements}
-use Rattle.mt_write.specs.Writing.{count_of, with_items}
+use Rattle.mt_write.specs.Writing.{with_items}
+use Rattle.mt_meta.specs.Forms.{count_in}
 
 pub all_of_elements : (test : Tree → Bool) (members : List (Tag × Value)) → all_elements test (elements members) ≡ list_all (λ (m : Tag × Value). test (tree m.1)) members
 all_of_elements test [] = refl
 all_of_elements test (m ∷ members) = ap (λ rest. test (tree m.1) && rest) (all_of_elements test members)
 
-pub count_of_elements : (members : List (Tag × Value)) → count_of (elements members) ≡ length members
-count_of_elements [] = refl
-count_of_elements (m ∷ members) = rw (count_of_elements members) (search rules)
+pub count_in_elements : (members : List (Tag × Value)) → count_in (elements members) ≡ length members
+count_in_elements [] = refl
+count_in_elements (m ∷ members) = rw (count_in_elements members) (search rules)
 
 -- an item as an element
 abbrev pub untagged : Value → Tag × Value

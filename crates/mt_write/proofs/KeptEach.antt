@@ -39,11 +39,11 @@ module _ {X : Type 0} (keep : Tree → Option X) where
 
   -- one that is refused refuses all
   pub kept_bad : (front : List X) (room : ℕ) (members : List (Tag × Value)) (i : ℕ) (m : Tag × Value) (status : Status) (all : Result (List X) Status) → i < length members → m ≡ get_or members i m
-      → with_room room (keep (tree m.1)) ≡ Err status → with_front front (kept_each keep room (elements (drop i members))) ≡ all → all ≡ Err status
-  kept_bad front room members i m status all h same bad here = sym here ∙ ap (with_front front) (kept_as room members i m (Err status) h same bad)
+      → with_room room (keep (tree m.1)) ≡ Err status → with_front front (kept_each keep room (elements (drop i members))) ≡ all → Err status ≡ all
+  kept_bad front room members i m status all h same bad here = sym (ap (with_front front) (kept_as room members i m (Err status) h same bad)) ∙ here
 
   -- behind the last item all were kept
   pub kept_end : (front : List X) (room : ℕ) (members : List (Tag × Value)) (i : ℕ) (all : Result (List X) Status) → length members ≤ i
-      → with_front front (kept_each keep room (elements (drop i members))) ≡ all → all ≡ Ok front
+      → with_front front (kept_each keep room (elements (drop i members))) ≡ all → Ok front ≡ all
   unfolding kept_each
-  kept_end front room members i all h here = sym here ∙ rw (drop_all i members h) (ap Ok (append-nil front))
+  kept_end front room members i all h here = sym (rw (drop_all i members h) (ap Ok (append-nil front))) ∙ here

@@ -5,3 +5,8 @@ pub mod KeptEach
 pub mod ValueTrees
 pub mod Ends
 pub mod OwnValues
+pub mod Denied
+pub mod Own
+pub mod KeptForms
+pub mod KeptLists
+pub mod Sound

@@ -3,4 +3,5 @@ pub mod Fields
 pub mod Forms
 pub mod Items
 pub mod Latest
+pub mod Laws
 pub mod Writing

@@ -1,6 +1,6 @@
 -- What a write answers and changes (Matter Core Specification, section 8.7, Write Interaction), made of what the writer's fabric
 -- sees.
-use Rattle.std.specs.Prelude.{ℕ, ◌==◌, ◌-◌, ◌+◌, ◌&&◌, ◌||◌, not, Bool, true, false, List, [], ◌∷◌, ◌++◌, Option, Some, None, Result, Ok, Err, filter, is_none, length, map, if◌then◌else◌}
+use Rattle.std.specs.Prelude.{ℕ, ◌==◌, ◌-◌, ◌&&◌, ◌||◌, not, Bool, true, false, List, [], ◌∷◌, ◌++◌, Option, Some, None, Result, Ok, Err, filter, is_none, length, map, if◌then◌else◌}
 use Rattle.mt_tlv.specs.Tree.{Tree, Elements, none, more}
 use Rattle.mt_tlv.specs.View.{tree}
 use Rattle.mt_tlv.specs.declared.value.Tag.TheVariants.{Anonymous}
@@ -25,6 +25,7 @@ use Rattle.mt_model.specs.declared.messages.status.Status.{Status}
 use Rattle.mt_model.specs.declared.messages.status.Status.TheVariants.{Success, UnsupportedAccess, InvalidAction, UnsupportedWrite, NeedsTimedInteraction, DataVersionMismatch, InvalidDataType, ConstraintError}
 use Rattle.mt_acl.specs.Access.{is_granted}
 use Rattle.mt_meta.specs.Finding.{find_of, privilege_of}
+use Rattle.mt_meta.specs.Forms.{count_in}
 use Rattle.mt_meta.specs.Table.{fields_of}
 use Rattle.mt_meta.specs.Writable.{takes_of}
 use Rattle.mt_meta.specs.declared.finding.Asked.TheVariants.{Write}
@@ -102,10 +103,6 @@ abbrev pub members_of : List Value → Elements
 members_of [] = none
 members_of (value ∷ rows) = elements_in value
 
-abbrev pub count_of : Elements → ℕ
-count_of none = 0
-count_of (more tag v es) = count_of es + 1
-
 abbrev pub with_items : Elements → List Value → Elements
 with_items none [] = none
 with_items none (item ∷ items) = more Anonymous (tree item) (with_items none items)
@@ -125,7 +122,7 @@ abbrev pub list_with : {X : Type 0} → (Tree → Option X) → Meta → Index �
 list_with keep meta index value there = behind there (new_items keep (fields_of meta.kind) (meta.limit - length there) (given_items index value))
 
 abbrev pub array_with : (Tree → Option Value) → Meta → Index → Value → Elements → Result (List Value) Status
-array_with keep meta index value there = array_of there (new_items keep (fields_of meta.kind) (meta.limit - count_of there) (given_items index value))
+array_with keep meta index value there = array_of there (new_items keep (fields_of meta.kind) (meta.limit - count_in there) (given_items index value))
 
 abbrev pub rows_with : Meta → ℕ → Index → Value → List Value → Result (List Value) Status
 rows_with meta fabric index value there =

@@ -8,7 +8,8 @@
 //! - `values`: the values behind an item;
 //! - `latest`: what the steps before an item leave;
 //! - `items`: the items of written lists;
-//! - `fields`: fields of a structure.
+//! - `fields`: fields of a structure;
+//! - `laws`: what a write touches and leaves, and when it is denied.
 #![tactic(auto)]
 
 mod entries;
@@ -16,10 +17,12 @@ mod fields;
 mod forms;
 mod items;
 mod latest;
+mod laws;
 mod opening;
 mod values;
 mod writing;
 
+pub use laws::{denials_are_exact, writes_keep_forms, writes_touch_their_own};
 pub use writing::{Change, Written, write};
 
 #[cfg(test)]

@@ -9,7 +9,7 @@ ghost use Rattle.mt_meta.specs.Table.{fields_of};
 ghost use Rattle.mt_meta.specs.Writable.{takes_of};
 ghost use Rattle.mt_write.specs.Items.{kept_item};
 ghost use Rattle.mt_write.specs.Latest.{entries_now, rows_now};
-ghost use Rattle.mt_write.specs.Writing.{array_of, array_with, behind, count_of, elements_in, list_with, members_of, new_rows, new_value, own_values, rows_with, staying, with_items};
+ghost use Rattle.mt_write.specs.Writing.{array_of, array_with, behind, elements_in, list_with, members_of, new_rows, new_value, own_values, rows_with, staying, with_items};
 
 use crate::forms::{has_type, is_within};
 use crate::items::{Kept, is_append, new_items};
@@ -205,7 +205,7 @@ fn elements_in(alloc: Global, value: Value) -> Vec<(Tag, Value)>
 }
 
 // These members and the new ones behind them, as one row.
-#[tactic(auto, using(crate::proofs::Elements::count_of_elements))]
+#[tactic(auto, using(crate::proofs::Elements::count_in_elements))]
 fn array_with(
     alloc: Global,
     meta: &Meta,

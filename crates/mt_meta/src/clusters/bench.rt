@@ -11,6 +11,12 @@ use mt_model::limits::LIST_ITEMS;
 /// The number of the cluster.
 pub const CLUSTER: u32 = 0xfff1_fc00;
 
+/// The most bytes of an item's name.
+pub const NAME_BYTES: u16 = 32;
+
+/// The most bytes of an item's secret.
+pub const SECRET_BYTES: u16 = 64;
+
 // Attributes.
 
 /// A list in which each fabric has items of its own.
@@ -21,10 +27,9 @@ pub const NUMBER: u32 = 1;
 
 // Fields of an item.
 
-/// A text of at most 32 bytes.
 pub const NAME: u8 = 1;
 
-/// At most 64 octets.
+/// Octets.
 pub const SECRET: u8 = 2;
 
 // Commands that it accepts.
@@ -70,8 +75,15 @@ pub(crate) static ATTRIBUTES: [AttributeRow; 2] = [
 ];
 
 pub(crate) static FIELDS: [Field; 3] = [
-    field!(NAME, true, Form::Text { least: 0, most: 32 }),
-    field!(SECRET, true, Form::Octets { most: 64 }),
+    field!(
+        NAME,
+        true,
+        Form::Text {
+            least: 0,
+            most: NAME_BYTES
+        }
+    ),
+    field!(SECRET, true, Form::Octets { most: SECRET_BYTES }),
     FABRIC_FIELD,
 ];
 

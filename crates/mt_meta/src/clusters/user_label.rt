@@ -8,12 +8,15 @@ use mt_model::limits::LIST_ITEMS;
 /// The number of the cluster.
 pub const CLUSTER: u32 = 0x41;
 
+/// The most bytes of a label, and of its value.
+pub const TEXT_BYTES: u16 = 16;
+
 // Attributes.
 
 /// The list.
 pub const LABEL_LIST: u32 = 0;
 
-// Fields of an item, texts of at most 16 bytes.
+// Fields of an item.
 
 pub const LABEL: u8 = 0;
 
@@ -36,6 +39,20 @@ pub(crate) static ATTRIBUTES: [AttributeRow; 1] = [AttributeRow {
 }];
 
 pub(crate) static FIELDS: [Field; 2] = [
-    field!(LABEL, true, Form::Text { least: 0, most: 16 }),
-    field!(VALUE, true, Form::Text { least: 0, most: 16 }),
+    field!(
+        LABEL,
+        true,
+        Form::Text {
+            least: 0,
+            most: TEXT_BYTES
+        }
+    ),
+    field!(
+        VALUE,
+        true,
+        Form::Text {
+            least: 0,
+            most: TEXT_BYTES
+        }
+    ),
 ];
