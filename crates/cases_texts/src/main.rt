@@ -1,5 +1,9 @@
 //! Prints what is read of texts as a stranger writes them: configurations, and recordings. Each line of
 //! the tables in data/ is a case, and what must be printed for it is worked out outside of the program.
+//!
+//! - `bench.txt`, `others.txt`: configurations that are printed row by row;
+//! - `configurations.txt`: a text, or `old|new` for the bench configuration with new in the place of old;
+//! - `recordings.txt`: a recording, in which `/` ends a line.
 #![tactic(auto)]
 
 mod configurations;

@@ -1,0 +1,30 @@
+//! Prints what a session and its exchanges answer. Each line of data/happenings.txt is something that
+//! happens on a session, and what must be printed for it is worked out outside of the program. The lines,
+//! in which bytes are hex, times are in ms, and `-` stands for what is not there:
+//!
+//! - `CASE counter` or `PASE counter`: a new session, whose first own counter is given;
+//! - `unseal datagram`;
+//! - `receive theirs|ours exchange opcode protocol vendor acknowledged payload`;
+//! - `answer theirs|ours exchange acknowledged now [opcode deadline payload..]`;
+//! - `report subscription now [opcode deadline payload..]`;
+//! - `resend now`;
+//! - `ends`;
+//! - any other line is a title.
+#![tactic(auto)]
+
+mod stand;
+mod words;
+
+use stand::Stand;
+use std::{fs, io};
+
+fn main(rt: HostRuntime) -> io::Result<()> {
+    let happenings = fs::read_to_string(&rt, "happenings.txt")?;
+    let mut stand = Stand::new(rt.alloc(), false, 5000);
+    for line in happenings.as_str().lines() {
+        println!(rt; "{line}")?;
+        let words: Vec<&str> = line.split(' ').collect(rt.alloc())?;
+        stand.happen(&rt, &words)?;
+    }
+    Ok(())
+}
