@@ -1,5 +1,5 @@
 -- Sets of tags, when a tag is put into them.
-use Rattle.std.proofs.Common.{◌≡◌, ℕ, ◌*◌, ◌/◌, ◌%◌, ◌^◌, ◌<◌, ◌≤◌, Bool, true, false, cond, ◌||◌, List, [], ◌∷◌, ◌++◌, length, get_or, nat_eq, bit_or, ◌⊎◌, inl, inr, refl, sym, ap, ◌∙◌, arith, get_or-set_same, get_or-set_other}
+use Rattle.std.proofs.Common.{◌≡◌, ℕ, ◌-◌, ◌*◌, ◌/◌, ◌%◌, ◌^◌, ◌<◌, ◌≤◌, Bool, true, false, cond, ◌||◌, List, [], ◌∷◌, ◌++◌, length, get_or, nat_eq, bit_or, ◌⊎◌, inl, inr, refl, sym, ap, ◌∙◌, arith, get_or-set_same, get_or-set_other}
 use Rattle.std.proofs.Math.ListN.{set}
 use Rattle.std.specs.Int.{bit_at, w64}
 use Rattle.std.specs.Ordering.{nat_cmp, eq_by_cmp, is_eq}
@@ -50,35 +50,35 @@ pub is_tag_in-push : (tag t : Tag) (tags : List Tag) → is_tag_in tag (tags ++ 
 is_tag_in-push tag t [] = refl
 is_tag_in-push tag t (x ∷ tags) = ap (λ b. is_same_tag x tag || b) (is_tag_in-push tag t tags) ∙ or_swap (is_same_tag x tag) (is_same_tag t tag) (is_tag_in tag tags)
 
--- where each number is below its bound, the four numbers are determined by the one
-module _ (a b : ℕ × ℕ × ℕ × ℕ) (a1 : a.1 < 2 ^ 16) (a2 : a.2 < 2 ^ 16) (a3 : a.3 < 2 ^ 32) (b1 : b.1 < 2 ^ 16) (b2 : b.2 < 2 ^ 16) (b3 : b.3 < 2 ^ 32) where
+-- where each number is below its bound, the four numbers are determined by the key
+module _ (a b : ℕ × ℕ × ℕ × ℕ) (a0 : a.0 < 8) (a1 : a.1 < 2 ^ 16) (a2 : a.2 < 2 ^ 16) (a3 : a.3 < 2 ^ 32) (b0 : b.0 < 8) (b1 : b.1 < 2 ^ 16) (b2 : b.2 < 2 ^ 16) (b3 : b.3 < 2 ^ 32) where
   same_four : (a.0 ≡ b.0) ⊎ (a.0 ≡ b.0 → ⊥) → (a.1 ≡ b.1) ⊎ (a.1 ≡ b.1 → ⊥) → (a.2 ≡ b.2) ⊎ (a.2 ≡ b.2 → ⊥) → (a.3 ≡ b.3) ⊎ (a.3 ≡ b.3 → ⊥)
-      → nat_eq (number_of_four a) (number_of_four b) ≡ same_numbers a b
+      → nat_eq (2 ^ 67 - number_of_four a) (2 ^ 67 - number_of_four b) ≡ same_numbers a b
   same_four (inr d) e1 e2 e3 = rw (ne_eqb a.0 b.0 d) (ne_eqb _ _ (λ e. d (omega arith)))
   same_four (inl e0) (inr d) e2 e3 = rw (eq-eqb a.0 b.0 e0, ne_eqb a.1 b.1 d) (ne_eqb _ _ (λ e. d (omega arith)))
   same_four (inl e0) (inl e1) (inr d) e3 = rw (eq-eqb a.0 b.0 e0, eq-eqb a.1 b.1 e1, ne_eqb a.2 b.2 d) (ne_eqb _ _ (λ e. d (omega arith)))
   same_four (inl e0) (inl e1) (inl e2) (inr d) = rw (eq-eqb a.0 b.0 e0, eq-eqb a.1 b.1 e1, eq-eqb a.2 b.2 e2, ne_eqb a.3 b.3 d) (ne_eqb _ _ (λ e. d (omega arith)))
   same_four (inl e0) (inl e1) (inl e2) (inl e3) = rw (eq-eqb a.0 b.0 e0, eq-eqb a.1 b.1 e1, eq-eqb a.2 b.2 e2, eq-eqb a.3 b.3 e3) (eq-eqb _ _ (omega arith))
 
-  one_number : nat_eq (number_of_four a) (number_of_four b) ≡ same_numbers a b
-  one_number = same_four (cases_eq a.0 b.0) (cases_eq a.1 b.1) (cases_eq a.2 b.2) (cases_eq a.3 b.3)
+  one_key : nat_eq (2 ^ 67 - number_of_four a) (2 ^ 67 - number_of_four b) ≡ same_numbers a b
+  one_key = same_four (cases_eq a.0 b.0) (cases_eq a.1 b.1) (cases_eq a.2 b.2) (cases_eq a.3 b.3)
 
 -- what the numbers of a tag are below
 abbrev Bounded : ℕ × ℕ × ℕ × ℕ → Type 0
-Bounded k = (k.1 < 2 ^ 16) × (k.2 < 2 ^ 16) × (k.3 < 2 ^ 32)
+Bounded k = (k.0 < 8) × (k.1 < 2 ^ 16) × (k.2 < 2 ^ 16) × (k.3 < 2 ^ 32)
 
 numbers_bounded : (tag : Tag) → IsTag tag → Bounded (kind_and_numbers tag)
-numbers_bounded Anonymous h = (omega arith, omega arith, omega arith)
-numbers_bounded (Context n) h = (omega arith, omega arith, omega arith)
-numbers_bounded (Common n) h = (omega arith, omega arith, omega arith)
-numbers_bounded (Implicit n) h = (omega arith, omega arith, omega arith)
-numbers_bounded (Full v p n) h = (h.0, h.1, h.2)
+numbers_bounded Anonymous h = (omega arith, omega arith, omega arith, omega arith)
+numbers_bounded (Context n) h = (omega arith, omega arith, omega arith, omega arith)
+numbers_bounded (Common n) h = (omega arith, omega arith, omega arith, omega arith)
+numbers_bounded (Implicit n) h = (omega arith, omega arith, omega arith, omega arith)
+numbers_bounded (Full v p n) h = (omega arith, h.0, h.1, h.2)
 
 same_key : (s t : Tag) → IsTag s → IsTag t → nat_eq (key_of s) (key_of t) ≡ is_same_tag s t
 same_key s t hs ht =
     let a = numbers_bounded s hs in
     let b = numbers_bounded t ht in
-    one_number (kind_and_numbers s) (kind_and_numbers t) a.0 a.1 a.2 b.0 b.1 b.2
+    one_key (kind_and_numbers s) (kind_and_numbers t) a.0 a.1 a.2 a.3 b.0 b.1 b.2 b.3
 
 by_order : (a b : ℕ) → (a ≡ b) ⊎ (a ≡ b → ⊥) → (a < b) ⊎ (b ≤ a) → eq_by_cmp nat_cmp a b ≡ nat_eq a b
 by_order a b (inl same) o = ap is_eq (sym (nat_cmp_is a b Equal same)) ∙ sym (eq-eqb a b same)

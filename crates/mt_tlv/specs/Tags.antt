@@ -1,5 +1,5 @@
 -- Which tags a set of tags has.
-use Rattle.std.specs.Prelude.{◌≡◌, ℕ, ◌+◌, ◌*◌, ◌/◌, ◌%◌, ◌^◌, Bool, List, nat_eq, slice_index}
+use Rattle.std.specs.Prelude.{◌≡◌, ℕ, ◌+◌, ◌-◌, ◌*◌, ◌/◌, ◌%◌, ◌^◌, Bool, List, nat_eq, slice_index}
 use Rattle.std.specs.Int.{bit_at}
 use Rattle.std.specs.Ordering.{nat_cmp}
 use Rattle.std.specs.BTreeSet.{contains}
@@ -14,12 +14,13 @@ use Rattle.mt_tlv.specs.Limits.{IsTag, is_tag_in, kind_and_numbers}
 abbrev pub has_context : List ℕ → ℕ → Bool
 has_context words n = nat_eq (bit_at (slice_index words (n / 64)) (n % 64)) 1
 
--- the tag's kind and numbers in one number
+-- kind and numbers in one number
 abbrev pub number_of_four : ℕ × ℕ × ℕ × ℕ → ℕ
 number_of_four k = k.0 * 2 ^ 64 + k.1 * 2 ^ 48 + k.2 * 2 ^ 32 + k.3
 
+-- the key of a tag, which falls as its number rises
 abbrev pub key_of : Tag → ℕ
-key_of tag = number_of_four (kind_and_numbers tag)
+key_of tag = 2 ^ 67 - number_of_four (kind_and_numbers tag)
 
 abbrev pub has : TagSet → Tag → Bool
 has set Anonymous = contains nat_cmp set.others (key_of Anonymous)

@@ -10,6 +10,9 @@ use crate::value::Tag;
 use std::alloc::{AllocError, Global};
 use std::collections::BTreeSet;
 
+// Above the keys of all tags but the anonymous one.
+const FIRST_KEY: u128 = 1 << 67;
+
 /// A set of tags. Context tags take no memory; the others take it where they come, and the time for
 /// one of them grows with the logarithm of their number.
 #[derive(Drop)]
@@ -55,20 +58,27 @@ fn insert_context(contexts: &mut [u64; 4], number: u8) -> bool
     word >> bit & 1 == 0
 }
 
-// A number of its own for each tag.
+// A number of its own for each tag. It falls as the tag's number rises: most tags stand in rising order, and
+// the tree finds the place of a key below all others soonest.
 fn key_of(tag: Tag) -> u128
     ensures key { result ≡ key_of_tag tag }
     ensures fits { IsTag tag }
 {
     match tag {
-        Tag::Anonymous => 0,
-        Tag::Context(number) => (1 << 64) + number as u128,
-        Tag::Common(number) => (2 << 64) + number as u128,
-        Tag::Implicit(number) => (3 << 64) + number as u128,
+        Tag::Anonymous => FIRST_KEY,
+        Tag::Context(number) => FIRST_KEY - (1 << 64) - number as u128,
+        Tag::Common(number) => FIRST_KEY - (2 << 64) - number as u128,
+        Tag::Implicit(number) => FIRST_KEY - (3 << 64) - number as u128,
         Tag::Full {
             vendor,
             profile,
             number,
-        } => { (4 << 64) + ((vendor as u128) << 48) + ((profile as u128) << 32) + number as u128 }
+        } => {
+            FIRST_KEY
+                - (4 << 64)
+                - ((vendor as u128) << 48)
+                - ((profile as u128) << 32)
+                - number as u128
+        }
     }
 }
