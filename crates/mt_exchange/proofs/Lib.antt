@@ -1,5 +1,4 @@
 pub mod Answered
-pub mod Fields
 pub mod Keys
 pub mod Places
 pub mod Received

@@ -7,7 +7,7 @@ ghost use Rattle.mt_tlv.specs.declared.value.Value.{Value};
 ghost use Rattle.mt_tlv.specs.View.{tree, elements};
 ghost use Rattle.mt_im.specs.Blocks.{field_of, is_context as is_context_tag};
 
-use mt_im::{ImFault, decode};
+use mt_im::{ImFault, decode, field};
 use mt_model::Request;
 use mt_tlv::{Members, Tag, TlvFault, Value, read};
 use std::alloc::{AllocError, Global};
@@ -55,34 +55,6 @@ fn members(alloc: Global, bytes: &[u8]) -> Result<Members, AllocError>
         Err(TlvFault::Memory) => Err(AllocError),
         Err(_) => Ok(Members::from_vec(Vec::new(alloc))),
     }
-}
-
-// The first field of this number.
-fn field(members: &[(Tag, Value)], number: u8) -> Option<&Value>
-    ensures { option_map (λ value. tree value.now) result ≡ field_of number (elements members.now) }
-{
-    let i = place_of(members, number)?;
-    Some(&members[i].1)
-}
-
-// The place of the first field of this number.
-fn place_of(members: &[(Tag, Value)], number: u8) -> Option<usize>
-    ensures { MatchOption result (field_of number (elements members.now) ≡ None)
-        (λ i. (i < length members.now) × ((d : Tag × Value) → field_of number (elements members.now) ≡ Some (tree (slice_index_or members.now i d).1))) }
-{
-    for (i, member) in members.iter().enumerate() {
-        if is_context(member.0, number) {
-            return Some(i);
-        }
-    }
-    None
-}
-
-// Whether a tag is the context tag of this number.
-fn is_context(tag: Tag, number: u8) -> bool
-    ensures { result ≡ is_context_tag number tag }
-{
-    tag == Tag::Context(number)
 }
 
 fn number_of(value: Option<&Value>) -> Option<u32>

@@ -15,6 +15,7 @@ use crate::exchange::{Exchange, Key, Owed};
 use crate::exchanges::Exchanges;
 use crate::payloads::report_tags;
 use mt_frame::ProtocolHeader;
+use mt_model::opcode::REPORT_DATA;
 use mt_model::{ExactCopy, Payload, Payloads};
 use mt_session::{SealFault, Session};
 use mt_tlv::Bytes;
@@ -27,9 +28,6 @@ const INTERACTION_MODEL: u16 = 1;
 
 /// The opcode of the standalone acknowledgement, in the secure channel.
 const ACKNOWLEDGEMENT: u8 = 0x10;
-
-/// The opcode of a report, in the interaction model.
-const REPORT_DATA: u8 = 5;
 
 /// What is sent.
 #[derive(Drop)]
