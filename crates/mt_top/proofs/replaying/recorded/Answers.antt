@@ -20,13 +20,3 @@ returns-in-Ok-events-clause-ok g c =
     let bytes = c.in-Ok.recording.items in
     let read : HasRead RECORDING_BYTES old new bytes = to_end c.in-Ok.ensures.to_end (omega (arith, ap length c.deref.ensures.value, c.deref.ensures.len, c.in-Ok.ensures.within)) in
     (bytes, read, ap recording_of (sym c.deref.ensures.value) ∙ c.in-Ok-events.ensures.read)
-
-pub returns-in-Err-clause-err : goal.returns-in-Err-clause-err
-returns-in-Err-clause-err g c =
-    let left = g.A.Source.left in
-    let reads = g.A.Source.faults in
-    let old = input (left c.args.first.now) (reads c.args.first.now) in
-    let new = input (left c.read_all.new.source) (reads c.read_all.new.source) in
-    let bytes = c.in-Ok.recording.items in
-    let read : HasRead RECORDING_BYTES old new bytes = to_end c.in-Ok.ensures.to_end (omega (arith, ap length c.deref.ensures.value, c.deref.ensures.len, c.in-Ok.ensures.within)) in
-    rw c.of_recording.ensures (recorded_badly c.in-Err.fault old new bytes read (rw c.deref.ensures.value at c.in-Err.ensures.refused))

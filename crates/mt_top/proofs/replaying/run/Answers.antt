@@ -1,23 +1,23 @@
 use Rattle.std.proofs.Common.{◌≡◌, Some, None, ap, refl, sym, ◌∙◌, arith, rules}
 use Rattle.std.specs.Option.{option_map}
 use Rattle.std.specs.Result.{result_ok}
-use Rattle.mt_top.specs.Faults.{fault_line}
+use Rattle.mt_top.specs.Faults.{fault_line, fault_text}
 use Rattle.mt_top.specs.Endings.{asked_of, replayed}
 use Rattle.mt_top.specs.Moments.{input, moment}
 use Rattle.mt_top.specs.Words.{words_of}
 use Rattle.mt_top.proofs.Rows.{configuring_never_writes, configuring_stops, ends_badly, ends_behind, ends_by, stops_calmly}
 use Rattle.mt_top.proofs.replaying.run.Goals as goal
 
-pub tell-requires : goal.tell-requires
-unfolding fault_line
-tell-requires g c = search rules
+pub tell-requires-clause-line : goal.tell-requires-clause-line
+unfolding fault_line fault_text
+tell-requires-clause-line g c = refl
 
 pub returns-in_default : goal.returns-in_default
 returns-in_default g c =
     let none : asked_of (words_of c.args.words.now) ≡ None = ap (option_map (λ files. replayed)) (sym c.files_of.ensures ∙ ap result_ok c.in_default.is) in
     ends_badly c.writings_add_up.ensures (asked_of (words_of c.args.words.now))
     (moment (input (g.C.Source.left c.args.config.now) (g.C.Source.faults c.args.config.now)) (input (g.A.Source.left c.args.first.now) (g.A.Source.faults c.args.first.now)) (g.W.Sink.written c.args.out.now) (g.W.Sink.faults c.args.out.now))
-    (g.W.Sink.written c.tell.new.out) (g.W.Sink.faults c.tell.new.out) c.tell.result none c.tell.ensures
+    (g.W.Sink.written c.tell.new.out) (g.W.Sink.faults c.tell.new.out) c.tell.result none c.tell.ensures.told
 
 pub returns-in-Ok-configured : goal.returns-in-Ok-configured
 returns-in-Ok-configured g c =

@@ -1,0 +1,15 @@
+use Rattle.std.proofs.Common.{refl, rules}
+use Rattle.mt_top.specs.declared.fault.Fault.TheVariants.{Memory}
+use Rattle.mt_top.specs.Faults.{fault_line, fault_text}
+use Rattle.mt_top.specs.Statuses.{cut_short, whole}
+use Rattle.mt_top.proofs.replaying.tell_memory.Goals as goal
+
+pub returns-in-Ok-clause-tells : goal.returns-in-Ok-clause-tells
+unfolding fault_line fault_text
+returns-in-Ok-clause-tells g c = (fault_line Memory, whole refl (c.write_all.ensures.cause.stays (search rules)), c.in-Ok.ensures.took)
+
+pub returns-in-Err-clause-tells : goal.returns-in-Err-clause-tells
+unfolding fault_line fault_text
+returns-in-Err-clause-tells g c =
+    let part = c.in-Err.ensures.part in
+    (part.0, cut_short part.1 (c.write_all.ensures.cause.rose (search rules)), part.2)
