@@ -10,14 +10,9 @@ use crate::exchange::{Exchange, Owed};
 use crate::exchanges::Exchanges;
 use crate::lists::{Datagrams, EndTime, EndTimes, Ends};
 use crate::table::Table;
+use mt_model::limits::{LAST_WAIT, SENDINGS};
 use mt_model::{ExactCopy, Listed};
 use std::alloc::{AllocError, Global};
-
-/// How often a message is sent at most.
-const SENDINGS: u8 = 5;
-
-/// How long its exchange stays open behind the last sending, in ms.
-const CLOSE: u64 = 2048;
 
 impl Exchanges {
     /// A resend step: what is due is sent again with the same bytes, by rising key and then by rising
@@ -71,7 +66,7 @@ fn is_due(now: u64, o: &Owed) -> bool
 fn is_spent(now: u64, o: &Owed) -> bool
     ensures { result ≡ is_spent_at now o.now }
 {
-    o.sendings == SENDINGS && now.saturating_sub(o.last) >= CLOSE
+    o.sendings == SENDINGS && now.saturating_sub(o.last) >= LAST_WAIT
 }
 
 // Whether a resend step closes an exchange.
@@ -220,7 +215,7 @@ fn end_with(end: Option<u64>, o: &Owed) -> Option<u64>
     if o.sendings != SENDINGS {
         return end;
     }
-    let close = o.last.saturating_add(CLOSE);
+    let close = o.last.saturating_add(LAST_WAIT);
     match end {
         Some(before) => Some(before.min(close)),
         None => Some(close),

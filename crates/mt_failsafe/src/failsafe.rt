@@ -8,13 +8,11 @@ ghost use Rattle.mt_failsafe.specs.Notes.{may_note_added, may_note_csr, may_note
 
 use crate::fault::{Busy, FailsafeFault};
 use crate::undo::{Saved, Undo};
+use mt_model::limits::LONGEST_FAILSAFE;
 use mt_model::{Actor, Armed, Auth, Credentials, ExactCopy, Networks};
 use mt_tlv::Bytes;
 use std::alloc::{AllocError, Global};
 use std::marker::Model;
-
-// How long after its arming a fail-safe ends at the latest, in ms.
-const LONGEST: u64 = 900_000;
 
 /// The fail-safe. Contracts see what is armed, None where nothing is. Whatever is armed keeps the
 /// fail-safe's facts. No call takes memory, but that to copy it.
@@ -213,7 +211,7 @@ fn first_armed(owner: u8, now: u64, seconds: u16, networks: Networks) -> Armed
     requires { now ≤ LAST_TIME }
     ensures { result ≡ armed_by owner now seconds networks }
 {
-    let limit = now + LONGEST;
+    let limit = now + LONGEST_FAILSAFE;
     Armed {
         owner,
         context: owner,

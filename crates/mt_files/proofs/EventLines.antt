@@ -11,13 +11,12 @@ use Rattle.std.proofs.lemmas.List.Elements.{All-nil, All-cons, All-head, All-tai
 use Rattle.hex.specs.Hex.{encode_lower}
 use Rattle.mt_outside.specs.declared.fate.Fate.{Fate}
 use Rattle.mt_outside.specs.declared.fate.Fate.TheVariants.{Kept, Lost, Torn}
-use Rattle.mt_model.specs.declared.limits.TheConstants.{LAST_TIME, LINE_BYTES, PAYLOAD_BYTES, RECEIVED_BYTES, RECORDING_BYTES, RECORDING_LINES}
+use Rattle.mt_model.specs.declared.limits.TheConstants.{LAST_TIME, LINE_BYTES, PAYLOAD_BYTES, RECEIVED_BYTES, RECORDING_BYTES, RECORDING_LINES, LAST_CALLS, LAST_FABRIC}
 use Rattle.mt_model.specs.declared.texts.recording.Event.{Event}
 use Rattle.mt_model.specs.declared.texts.recording.Event.TheVariants.{Ask, Datagram, Tick, Report, Resend, Stop}
 use Rattle.mt_model.specs.declared.texts.recording.Sent.{Sent}
 use Rattle.mt_model.specs.declared.texts.recording.To.{To}
 use Rattle.mt_model.specs.declared.texts.recording.To.TheVariants.{Plain, Session}
-use Rattle.mt_files.specs.declared.event.TheConstants.{LAST_CALLS, LAST_FABRIC}
 use Rattle.mt_files.specs.declared.line_fault.LineKind.{LineKind}
 use Rattle.mt_files.specs.declared.line_fault.LineKind.TheVariants.{Hex}
 use Rattle.mt_files.specs.Event.{ask_of, datagram_of, event_fields, event_line, line_event, report_of, resend_of, stop_of, tick_of, told_in}

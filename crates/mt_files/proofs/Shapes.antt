@@ -10,10 +10,9 @@ use Rattle.hex.specs.declared.error.FromHexError.{FromHexError}
 use Rattle.hex.proofs.HexLemmas.{decode_of-ok}
 use Rattle.mt_outside.specs.declared.fate.Fate.{Fate}
 use Rattle.mt_outside.specs.declared.network.Peer.{Peer}
-use Rattle.mt_model.specs.declared.limits.TheConstants.{LAST_TIME, PAYLOAD_BYTES, RECEIVED_BYTES}
+use Rattle.mt_model.specs.declared.limits.TheConstants.{LAST_TIME, PAYLOAD_BYTES, RECEIVED_BYTES, LAST_CALLS, LAST_FABRIC}
 use Rattle.mt_model.specs.declared.texts.recording.Event.{Event}
 use Rattle.mt_model.specs.declared.texts.recording.Event.TheVariants.{Ask, Datagram, Tick, Report, Resend, Stop}
-use Rattle.mt_files.specs.declared.event.TheConstants.{LAST_CALLS, LAST_FABRIC}
 use Rattle.mt_files.specs.declared.line_fault.LineKind.{LineKind}
 use Rattle.mt_files.specs.declared.line_fault.LineKind.TheVariants.{Hex}
 use Rattle.mt_files.specs.declared.subject.Subject.{Subject}

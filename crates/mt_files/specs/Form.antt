@@ -2,13 +2,12 @@
 use Rattle.std.specs.Prelude.{◌≡◌, ◌≢◌, ◌≤◌, ◌<◌, ◌^◌, ℕ, ◌%◌, ◌-◌, true, List, ◌++◌, length, replicate, All}
 use Rattle.hex.specs.Hex.{IsBytes}
 use Rattle.mt_outside.specs.declared.network.Peer.{Peer}
-use Rattle.mt_model.specs.declared.limits.TheConstants.{LAST_TIME, PAYLOAD_BYTES, RECEIVED_BYTES}
+use Rattle.mt_model.specs.declared.limits.TheConstants.{LAST_TIME, PAYLOAD_BYTES, RECEIVED_BYTES, LAST_CALLS, LAST_FABRIC}
 use Rattle.mt_model.specs.declared.texts.recording.Event.{Event}
 use Rattle.mt_model.specs.declared.texts.recording.Event.TheVariants.{Ask, Datagram, Tick, Report, Resend, Stop}
 use Rattle.mt_model.specs.declared.texts.recording.Sent.{Sent}
 use Rattle.mt_model.specs.declared.texts.recording.To.{To}
 use Rattle.mt_model.specs.declared.texts.recording.To.TheVariants.{Plain, Session}
-use Rattle.mt_files.specs.declared.event.TheConstants.{LAST_CALLS, LAST_FABRIC}
 use Rattle.mt_files.specs.Event.{may_ask}
 
 -- up to three CATs, each with a version, and then zeros

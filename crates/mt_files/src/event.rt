@@ -9,14 +9,10 @@ use crate::line_fault::LineKind;
 use crate::lines::{cut, five_fields, one_field, three_fields, two_fields};
 use crate::subject::read_subject;
 use mt_model::Event;
-use mt_model::limits::{LAST_OPERATIONAL_NODE, LAST_TIME, PAYLOAD_BYTES, RECEIVED_BYTES};
+use mt_model::limits::{
+    LAST_CALLS, LAST_FABRIC, LAST_OPERATIONAL_NODE, LAST_TIME, PAYLOAD_BYTES, RECEIVED_BYTES,
+};
 use std::alloc::{AllocError, Global};
-
-/// The greatest fabric index.
-pub const LAST_FABRIC: u64 = 254;
-
-/// The greatest number of disk calls after which a stop may come.
-pub const LAST_CALLS: u64 = 1_000_000;
 
 /// What a line tells, where there was memory for it.
 pub type Told = Result<Event, LineKind>;

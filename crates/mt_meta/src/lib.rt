@@ -20,7 +20,6 @@ mod meta;
 mod rows;
 mod table;
 
-pub use clusters::basic_information::{LOCATION_BYTES, NODE_LABEL_BYTES};
 pub use expansion::{ExpandFault, expand, is_global, is_not_global};
 pub use finding::{Asked, find, find_command, find_event, is_stored, privilege_asked, takes};
 pub use first::first_rows;

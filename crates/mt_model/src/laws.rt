@@ -9,7 +9,7 @@ ghost use Rattle.mt_model.specs.rows.Order.{are_ascending, entry_rows, fabric_ro
 ghost use Rattle.mt_model.specs.rows.Sight.{seen_by, stands_at};
 ghost use Rattle.mt_model.specs.declared.tables.access.AclEntry.{AclEntry};
 ghost use Rattle.mt_model.specs.declared.tables.fabric.Fabric.{Fabric};
-ghost use Rattle.mt_model.specs.declared.limits.TheConstants.{FABRICS, ENTRIES, SUBJECTS, TARGETS, CATS, SUBSCRIPTIONS, CASE_SESSIONS, PASE_SESSIONS, EXCHANGES, PLAIN_DEADLINES, PATHS, WRITE_ITEMS, PRIVATE_EVENTS, SHARED_EVENTS, CERTIFICATE_BYTES, ROOT_KEY_BYTES, IPK_BYTES, LABEL_BYTES, NETWORKS, LIST_ITEMS, SENT_BYTES, RECEIVED_BYTES, PAYLOAD_BYTES, ITEM_BYTES, RECORDING_LINES, RECORDING_BYTES, LINE_BYTES, CONFIGURATION_BYTES, CHANGE_BYTES, LAST_TIME, LAST_OPERATIONAL_NODE, VERSIONS_OF_BOOT, SESSIONS, VERDICTS, NONCE_BYTES, ELEMENTS_BYTES, SIGNATURE_BYTES, NETWORK_ID_BYTES, LAST_GROUP};
+ghost use Rattle.mt_model.specs.declared.limits.TheConstants.{FABRICS, ENTRIES, SUBJECTS, TARGETS, CATS, SUBSCRIPTIONS, CASE_SESSIONS, PASE_SESSIONS, EXCHANGES, PLAIN_DEADLINES, PATHS, WRITE_ITEMS, PRIVATE_EVENTS, SHARED_EVENTS, CERTIFICATE_BYTES, ROOT_KEY_BYTES, IPK_BYTES, LABEL_BYTES, NETWORKS, LIST_ITEMS, SENT_BYTES, RECEIVED_BYTES, PAYLOAD_BYTES, ITEM_BYTES, RECORDING_LINES, RECORDING_BYTES, LINE_BYTES, CONFIGURATION_BYTES, CHANGE_BYTES, LAST_TIME, LAST_OPERATIONAL_NODE, VERSIONS_OF_BOOT, SESSIONS, VERDICTS, NONCE_BYTES, ELEMENTS_BYTES, SIGNATURE_BYTES, NETWORK_ID_BYTES, LAST_GROUP, LAST_FABRIC, LAST_CALLS, NODE_LABEL_BYTES, LOCATION_BYTES, SENDINGS, LAST_WAIT, LONGEST_FAILSAFE, LAST_COUNTER};
 ghost use Rattle.mt_model.specs.declared.messages.opcode.TheConstants.{STATUS_RESPONSE, READ_REQUEST, SUBSCRIBE_REQUEST, SUBSCRIBE_RESPONSE, REPORT_DATA, WRITE_REQUEST, WRITE_RESPONSE, INVOKE_REQUEST, INVOKE_RESPONSE, TIMED_REQUEST};
 ghost use Rattle.mt_model.specs.declared.rows.place.Place.{Place};
 ghost use Rattle.mt_model.specs.declared.rows.place.Row.{Row};
@@ -108,4 +108,12 @@ pub fn limits_are_these()
     ensures signature_bytes { SIGNATURE_BYTES ≡ 64 }
     ensures network_id_bytes { NETWORK_ID_BYTES ≡ 32 }
     ensures last_group { LAST_GROUP ≡ 65535 }
+    ensures last_fabric { LAST_FABRIC ≡ 254 }
+    ensures last_calls { LAST_CALLS ≡ 1000000 }
+    ensures node_label_bytes { NODE_LABEL_BYTES ≡ 32 }
+    ensures location_bytes { LOCATION_BYTES ≡ 2 }
+    ensures sendings { SENDINGS ≡ 5 }
+    ensures last_wait { LAST_WAIT ≡ 2048 }
+    ensures longest_failsafe { LONGEST_FAILSAFE ≡ 900000 }
+    ensures last_counter { LAST_COUNTER ≡ 4294967295 }
 {}

@@ -116,3 +116,27 @@ pub const NETWORK_ID_BYTES: usize = 32;
 
 /// The greatest group id; the least is 1.
 pub const LAST_GROUP: u64 = 65_535;
+
+/// The greatest fabric index that a recording's line may name.
+pub const LAST_FABRIC: u64 = 254;
+
+/// The most calls of the disk that a stop in a recording may count.
+pub const LAST_CALLS: u64 = 1_000_000;
+
+/// The most bytes of the attribute NodeLabel.
+pub const NODE_LABEL_BYTES: usize = 32;
+
+/// The bytes of the attribute Location.
+pub const LOCATION_BYTES: usize = 2;
+
+/// How often a message is sent before its exchange is closed.
+pub const SENDINGS: u8 = 5;
+
+/// How long after its last sending a message is waited for, in ms.
+pub const LAST_WAIT: u64 = 2_048;
+
+/// How long after the first arming the fail-safe may stay armed, in ms.
+pub const LONGEST_FAILSAFE: u64 = 900_000;
+
+/// The greatest message counter; a session that has reached it seals no more.
+pub const LAST_COUNTER: u32 = 4_294_967_295;

@@ -14,13 +14,10 @@ use crate::kept::Session;
 use crate::opening::{Dropped, Opened};
 use mt_frame::{MessageHeader, ProtocolHeader, read_message, read_protocol};
 use mt_model::SessionRow;
-use mt_model::limits::SENT_BYTES;
+use mt_model::limits::{LAST_COUNTER, SENT_BYTES};
 use mt_tlv::Bytes;
 use mt_window::{Seen, Window};
 use std::alloc::Global;
-
-/// The last counter, which no message takes.
-const LAST_COUNTER: u32 = 4_294_967_295;
 
 impl Session {
     /// A session that has let in and sealed nothing. The row is of a unicast session, PASE or CASE,

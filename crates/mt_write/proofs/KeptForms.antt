@@ -6,7 +6,7 @@ use Rattle.mt_tlv.specs.Tree.{Tree, int, uint, bool, text, octets, null, bits32,
 use Rattle.mt_tlv.specs.View.{elements, tree}
 use Rattle.mt_tlv.specs.declared.value.Value.{Value}
 use Rattle.mt_tlv.specs.declared.value.Value.TheVariants as values
-use Rattle.mt_model.specs.Trees.{field_in}
+use Rattle.mt_model.specs.Trees.{field_in, value_of}
 use Rattle.mt_meta.specs.Forms as kept
 use Rattle.mt_meta.specs.Forms.{has_form, is_bench_item, is_binding_item, is_label_item}
 use Rattle.mt_meta.specs.Rows.{fabric_field, needed, optional}
@@ -18,7 +18,7 @@ use Rattle.mt_meta.specs.declared.rows.Field.{Field}
 use Rattle.mt_meta.specs.declared.rows.Form.{Form}
 use Rattle.mt_meta.specs.declared.rows.Form.TheVariants as forms
 use Rattle.mt_write.specs.Forms.{are_octets, are_within, has_type, have_types, is_bool, is_item, is_number, is_text, is_within, field_has_type, field_is_within, octets_fit, text_fits}
-use Rattle.mt_write.specs.Items.{kept_fields, kept_item, kept_value, tagged, value_of}
+use Rattle.mt_write.specs.Items.{kept_fields, kept_item, kept_value, tagged}
 use Rattle.mt_write.proofs.ValueTrees.{tree_of_value}
 
 pub and-both : (a b : Bool) → (a && b) ≡ true → (a ≡ true) × (b ≡ true)

@@ -4,7 +4,7 @@ use Rattle.mt_tlv.specs.Tree.{Tree, int, uint, bool, text, octets, null, bits32,
 use Rattle.mt_tlv.specs.View.{tree}
 use Rattle.mt_tlv.specs.declared.value.Value.{Value}
 use Rattle.mt_tlv.specs.declared.value.Value.TheVariants as values
-use Rattle.mt_write.specs.Items.{value_of}
+use Rattle.mt_model.specs.Trees.{value_of}
 
 pub value_of_tree : (v : Value) → value_of (tree v) ≡ v
 value_of_tree (values.Int z) = refl

@@ -8,7 +8,7 @@ use Rattle.mt_tlv.specs.declared.value.Tag.{Tag}
 use Rattle.mt_tlv.specs.declared.value.Tag.TheVariants.{Anonymous, Context}
 use Rattle.mt_tlv.specs.declared.value.Value.{Value}
 use Rattle.mt_tlv.specs.declared.value.Value.TheVariants as values
-use Rattle.mt_model.specs.Trees.{field_in}
+use Rattle.mt_model.specs.Trees.{field_in, value_of}
 use Rattle.mt_model.specs.declared.messages.message.Index.{Index}
 use Rattle.mt_model.specs.declared.messages.message.Index.TheVariants.{Append}
 use Rattle.mt_model.specs.declared.messages.status.Status.{Status}
@@ -31,20 +31,6 @@ array_in value = None
 -- the one that is appended, or the elements of an array
 abbrev pub given_items : Index → Value → Option Elements
 given_items index value = if is_append index then Some (more Anonymous (tree value) none) else array_in value
-
--- the value that has this tree
-abbrev pub value_of : Tree → Value
-value_of (int z) = values.Int z
-value_of (uint n) = values.Uint n
-value_of (bool b) = values.Bool b
-value_of (text s) = values.Text s
-value_of (octets s) = values.Octets s
-value_of null = values.Null
-value_of (bits32 n) = values.Bits32 n
-value_of (bits64 n) = values.Bits64 n
-value_of (structure es) = values.Struct es
-value_of (array es) = values.Array es
-value_of (list es) = values.List es
 
 abbrev pub is_fabric_index : Form → Bool
 is_fabric_index forms.FabricIndex = true

@@ -5,15 +5,10 @@ use crate::rows::{
     AttributeRow, EventRow, FirstValue, Form, Origin, PLAIN, Sensitive, Takes, computed, event,
 };
 use mt_model::Privilege;
+use mt_model::limits::{LOCATION_BYTES, NODE_LABEL_BYTES};
 
 /// The number of the cluster.
 pub const CLUSTER: u32 = 0x28;
-
-/// The most bytes of a node's label.
-pub const NODE_LABEL_BYTES: usize = 32;
-
-/// The bytes of a location, which is a country's code.
-pub const LOCATION_BYTES: usize = 2;
 
 // Attributes.
 
