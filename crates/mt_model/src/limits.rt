@@ -140,3 +140,12 @@ pub const LONGEST_FAILSAFE: u64 = 900_000;
 
 /// The greatest message counter; a session that has reached it seals no more.
 pub const LAST_COUNTER: u32 = 4_294_967_295;
+
+/// The most bytes of the name of a bench item.
+pub const BENCH_NAME_BYTES: u16 = 32;
+
+/// The most bytes of the secret of a bench item.
+pub const BENCH_SECRET_BYTES: u16 = 64;
+
+/// The most bytes of the name and of the value of a label.
+pub const LABEL_TEXT_BYTES: u16 = 16;

@@ -6,16 +6,10 @@ use crate::rows::{
     Sensitive, Takes, command, event, field,
 };
 use mt_model::Privilege;
-use mt_model::limits::LIST_ITEMS;
+use mt_model::limits::{BENCH_NAME_BYTES, BENCH_SECRET_BYTES, LIST_ITEMS};
 
 /// The number of the cluster.
 pub const CLUSTER: u32 = 0xfff1_fc00;
-
-/// The most bytes of an item's name.
-pub const NAME_BYTES: u16 = 32;
-
-/// The most bytes of an item's secret.
-pub const SECRET_BYTES: u16 = 64;
 
 // Attributes.
 
@@ -80,10 +74,16 @@ pub(crate) static FIELDS: [Field; 3] = [
         true,
         Form::Text {
             least: 0,
-            most: NAME_BYTES
+            most: BENCH_NAME_BYTES
         }
     ),
-    field!(SECRET, true, Form::Octets { most: SECRET_BYTES }),
+    field!(
+        SECRET,
+        true,
+        Form::Octets {
+            most: BENCH_SECRET_BYTES
+        }
+    ),
     FABRIC_FIELD,
 ];
 

@@ -3,13 +3,10 @@
 use crate::meta::{Kind, Meta};
 use crate::rows::{AttributeRow, Field, FirstValue, Form, Origin, PLAIN, Sensitive, Takes, field};
 use mt_model::Privilege;
-use mt_model::limits::LIST_ITEMS;
+use mt_model::limits::{LABEL_TEXT_BYTES, LIST_ITEMS};
 
 /// The number of the cluster.
 pub const CLUSTER: u32 = 0x41;
-
-/// The most bytes of a label, and of its value.
-pub const TEXT_BYTES: u16 = 16;
 
 // Attributes.
 
@@ -44,7 +41,7 @@ pub(crate) static FIELDS: [Field; 2] = [
         true,
         Form::Text {
             least: 0,
-            most: TEXT_BYTES
+            most: LABEL_TEXT_BYTES
         }
     ),
     field!(
@@ -52,7 +49,7 @@ pub(crate) static FIELDS: [Field; 2] = [
         true,
         Form::Text {
             least: 0,
-            most: TEXT_BYTES
+            most: LABEL_TEXT_BYTES
         }
     ),
 ];
