@@ -12,6 +12,7 @@ use mt_model::{Actor, Item, Items, Path, Paths, Place, Sight, Version, Versions}
 use std::alloc::{AllocError, Global};
 
 /// Why a read is not answered.
+#[derive(Clone, Copy, Debug, PartialEq, Eq)]
 pub enum ReadFault {
     /// A path asks every cluster for an attribute that not every cluster has.
     NotGlobal = 1,
