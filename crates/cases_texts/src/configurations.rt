@@ -2,7 +2,7 @@
 
 use crate::pieces::spelled;
 use mt_files::{ConfigFault, config};
-use mt_model::{AclEntry, Auth, Config, Fabric, JoinRow, SessionRow};
+use mt_model::{AclEntry, Auth, Config, Fabric, JoinRow, SessionRow, TableVerdicts, Verdicts};
 use std::alloc::{AllocError, Global};
 use std::io;
 
@@ -57,16 +57,30 @@ fn print_node(rt: &HostRuntime, config: &Config) -> io::Result<()> {
     Ok(())
 }
 
+// Each row as whoever asks for its verdict finds it.
 fn print_verdicts(rt: &HostRuntime, config: &Config) -> io::Result<()> {
+    let verdicts = TableVerdicts::new(config)?;
     for row in config.roots.as_slice() {
-        print_row(rt, "root", &[], &[row.cert.as_slice(), row.key.as_slice()])?;
+        if let Some(root) = verdicts.root(row.cert.as_slice()) {
+            print_row(
+                rt,
+                "root",
+                &[],
+                &[root.cert.as_slice(), root.key.as_slice()],
+            )?;
+        }
     }
     for row in config.csrs.as_slice() {
-        let (nonce, elements) = (row.nonce.as_slice(), row.elements.as_slice());
-        print_row(rt, "csr", &[], &[nonce, elements, row.signature.as_slice()])?;
+        if let Some(csr) = verdicts.csr(row.nonce.as_slice()) {
+            let (nonce, elements) = (csr.nonce.as_slice(), csr.elements.as_slice());
+            print_row(rt, "csr", &[], &[nonce, elements, csr.signature.as_slice()])?;
+        }
     }
     for row in config.joins.as_slice() {
-        print_join(rt, row)?;
+        let (root, noc, icac) = (row.root.as_slice(), row.noc.as_slice(), row.icac.as_slice());
+        if let Some(join) = verdicts.join(root, noc, icac) {
+            print_join(rt, join)?;
+        }
     }
     for id in config.reachable.as_slice() {
         print_row(rt, "network", &[], &[id.as_slice()])?;

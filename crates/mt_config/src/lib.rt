@@ -14,6 +14,3 @@ mod rows;
 mod rules;
 
 pub use configuration::{ConfigFault, ConfigField, config};
-
-#[cfg(test)]
-mod tests;

@@ -30,6 +30,3 @@ pub use line_fault::{LineFault, LineKind};
 pub use mt_config::{ConfigFault, ConfigField, config};
 pub use output::write_sent;
 pub use recording::{events, write_event};
-
-#[cfg(test)]
-mod tests;

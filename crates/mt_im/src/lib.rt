@@ -25,6 +25,3 @@ pub use laws::{
     encoded_is_decoded, no_other_request, request_is_read, request_is_spelled, spelled_fits,
     the_lowest_tag_is_told,
 };
-
-#[cfg(test)]
-mod tests;

@@ -50,6 +50,3 @@ pub fn chunks(alloc: Global, reply: &Reply) -> Result<Payloads, AllocError>
         Reply::Nothing => Ok(Payloads::new(alloc)),
     }
 }
-
-#[cfg(test)]
-mod tests;
