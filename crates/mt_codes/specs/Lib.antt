@@ -1,0 +1,3 @@
+pub mod Paths
+pub mod Codes
+pub mod Scan

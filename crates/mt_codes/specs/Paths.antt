@@ -1,0 +1,30 @@
+-- Where the status codes of a message stand, by its opcode (Matter Core Specification, chapter 10,
+-- Interaction Model Encoding).
+use Rattle.std.specs.Prelude.{◌≡◌, ℕ, Bool, true, false, ◌==◌, ◌||◌, List, [], ◌∷◌, Option, Some, None, option_map, if◌then◌else◌}
+use Rattle.mt_codes.specs.declared.paths.Step.{Step}
+use Rattle.mt_codes.specs.declared.paths.Step.TheVariants.{Field, Either, Member}
+
+-- StatusResponse: 0 status
+abbrev pub status_response : List Step
+status_response = Field 0 ∷ []
+
+-- ReportData: 1 attribute reports and 2 event reports, of which each may have 0 a status, with 1 Status, with 0 the code
+abbrev pub report_data : List Step
+report_data = Either 1 2 ∷ Member ∷ Field 0 ∷ Field 1 ∷ Field 0 ∷ []
+
+-- WriteResponse: 0 statuses, each with 1 Status, with 0 the code
+abbrev pub write_response : List Step
+write_response = Field 0 ∷ Member ∷ Field 1 ∷ Field 0 ∷ []
+
+-- InvokeResponse: 1 responses, of which each may have 1 CommandStatus, with 1 Status, with 0 the code
+abbrev pub invoke_response : List Step
+invoke_response = Field 1 ∷ Member ∷ Field 1 ∷ Field 1 ∷ Field 0 ∷ []
+
+-- the steps to the status codes of a message of this opcode
+abbrev pub path_of : ℕ → Option (List Step)
+path_of opcode =
+    if opcode == 0x01 then Some status_response
+    else if opcode == 0x05 then Some report_data
+    else if opcode == 0x07 then Some write_response
+    else if opcode == 0x09 then Some invoke_response
+    else None

@@ -1,0 +1,82 @@
+//! Where the status codes of a message stand, by its opcode.
+
+ghost use Rattle.std.specs.Prelude.{◌≡◌, option_map};
+ghost use Rattle.mt_codes.specs.Paths.{path_of};
+ghost use Rattle.mt_codes.specs.Codes.{is_context, picks};
+ghost use Rattle.mt_codes.specs.Scan.{goes_into};
+
+use mt_model::opcode;
+use mt_tlv::Tag;
+
+/// A step from a container to those of its members that are, or that hold, status codes.
+#[derive(Clone, Copy)]
+pub enum Step {
+    /// To a structure's field under this context tag.
+    Field(u8),
+    /// To a structure's fields under either of these context tags.
+    Either(u8, u8),
+    /// To every member of an array.
+    Member,
+}
+
+impl Step {
+    /// Whether the step goes from a container to its member under this tag.
+    pub fn picks(self, tag: Tag) -> bool
+        ensures { result ≡ picks self tag }
+    {
+        match self {
+            Step::Field(number) => is_context(number, tag),
+            Step::Either(number, other) => is_context(number, tag) || is_context(other, tag),
+            Step::Member => true,
+        }
+    }
+
+    /// Whether the step goes to members of a container of this element type.
+    pub fn goes_into(self, element_type: u8) -> bool
+        ensures { result ≡ goes_into self element_type }
+    {
+        match self {
+            Step::Member => element_type == 0x16,
+            _ => element_type == 0x15,
+        }
+    }
+}
+
+fn is_context(number: u8, tag: Tag) -> bool
+    ensures { result ≡ is_context number tag }
+{
+    match tag {
+        Tag::Context(own) => own == number,
+        _ => false,
+    }
+}
+
+/// The steps from a message of this opcode to its status codes.
+pub fn path_to_codes(opcode: u8) -> Option<&'static [Step]>
+    ensures { option_map (λ path. path.now) result ≡ path_of opcode }
+{
+    match opcode {
+        opcode::STATUS_RESPONSE => Some(&[Step::Field(0)]),
+        opcode::REPORT_DATA => Some(&[
+            Step::Either(1, 2),
+            Step::Member,
+            Step::Field(0),
+            Step::Field(1),
+            Step::Field(0),
+        ]),
+        opcode::WRITE_RESPONSE => Some(&[
+            Step::Field(0),
+            Step::Member,
+            Step::Field(1),
+            Step::Field(0),
+        ]),
+        opcode::INVOKE_RESPONSE => Some(&[
+            Step::Field(1),
+            Step::Member,
+            Step::Field(1),
+            Step::Field(1),
+            Step::Field(0),
+        ]),
+        _ => None,
+    }
+}
