@@ -1,0 +1,3 @@
+pub mod Onward
+pub mod Over
+pub mod Short

@@ -1,6 +1,6 @@
 -- Where the status codes of a message stand, by its opcode (Matter Core Specification, chapter 10,
 -- Interaction Model Encoding).
-use Rattle.std.specs.Prelude.{◌≡◌, ℕ, Bool, true, false, ◌==◌, ◌||◌, List, [], ◌∷◌, Option, Some, None, option_map, if◌then◌else◌}
+use Rattle.std.specs.Prelude.{ℕ, ◌==◌, List, [], ◌∷◌, Option, Some, None, if◌then◌else◌}
 use Rattle.mt_codes.specs.declared.paths.Step.{Step}
 use Rattle.mt_codes.specs.declared.paths.Step.TheVariants.{Field, Either, Member}
 

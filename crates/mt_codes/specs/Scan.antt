@@ -1,7 +1,7 @@
 -- How a scan goes over the parts of an element.
-use Rattle.std.specs.Prelude.{◌≡◌, ℕ, ◌+◌, ◌-◌, Bool, true, false, ◌==◌, ◌&&◌, List, [], ◌∷◌, ◌++◌, Option, Some, None, is_none, slice_get, if◌then◌else◌}
+use Rattle.std.specs.Prelude.{ℕ, ◌+◌, ◌-◌, Bool, true, false, ◌==◌, ◌&&◌, List, [], ◌∷◌, ◌++◌, Option, Some, None, is_none, slice_get, if◌then◌else◌}
 use Rattle.mt_tlv.specs.declared.value.Tag.{Tag}
-use Rattle.mt_tlv.specs.Tree.{Tree, int, uint, bool, text, octets, null, bits32, bits64, structure, array, list}
+use Rattle.mt_tlv.specs.Tree.{int, uint, bool, text, octets, null, bits32, bits64, structure, array, list}
 use Rattle.mt_tlv.specs.Parts.{Piece, scalar, enter, leave}
 use Rattle.mt_tlv.specs.Parts as parts
 use Rattle.mt_codes.specs.declared.paths.Step.{Step}

@@ -44,11 +44,14 @@ fn count_on_path(path: &[Step], payload: &[u8], counts: &mut [u64; 256])
         passed_over: 0,
     };
     for _ in 0..payload.len() {
-        let Ok(Some(part)) = cursor.next() else {
-            return;
-        };
-        count(number_in(path, at, &part), counts);
-        at = behind(path, at, &part);
+        match cursor.next() {
+            Ok(Some(part)) => {
+                count(number_in(path, at, &part), counts);
+                at = behind(path, at, &part);
+            }
+            Ok(None) => return,
+            Err(_) => return,
+        }
     }
 }
 
