@@ -8,11 +8,15 @@ use Rattle.mt_codes.specs.declared.paths.Step.TheVariants.{Field, Either, Member
 abbrev pub status_response : List Step
 status_response = Field 0 ∷ []
 
--- ReportData: 1 attribute reports and 2 event reports, of which each may have 0 a status, with 1 Status, with 0 the code
-abbrev pub report_data : List Step
-report_data = Either 1 2 ∷ Member ∷ Field 0 ∷ Field 1 ∷ Field 0 ∷ []
+-- AttributeReport and EventReport: 0 AttributeStatus or EventStatus, with 1 Status, with 0 the code
+abbrev pub in_report : List Step
+in_report = Field 0 ∷ Field 1 ∷ Field 0 ∷ []
 
--- WriteResponse: 0 statuses, each with 1 Status, with 0 the code
+-- ReportData: 1 attribute reports and 2 event reports
+abbrev pub report_data : List Step
+report_data = Either 1 2 ∷ Member ∷ in_report
+
+-- WriteResponse: 0 AttributeStatuses, each with 1 Status, with 0 the code
 abbrev pub write_response : List Step
 write_response = Field 0 ∷ Member ∷ Field 1 ∷ Field 0 ∷ []
 

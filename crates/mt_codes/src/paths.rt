@@ -51,32 +51,36 @@ fn is_context(number: u8, tag: Tag) -> bool
     }
 }
 
-/// The steps from a message of this opcode to its status codes.
+/// The number of a Status, and of a StatusResponse.
+const CODE: Step = Step::Field(0);
+
+/// The Status of an AttributeStatus, an EventStatus or a CommandStatus.
+const STATUS: Step = Step::Field(1);
+
+/// The reports of a ReportData: of attributes, and of events.
+const REPORTS: Step = Step::Either(1, 2);
+
+/// The AttributeStatus or the EventStatus of a report.
+const REPORT_STATUS: Step = Step::Field(0);
+
+/// The AttributeStatuses of a WriteResponse.
+const STATUSES: Step = Step::Field(0);
+
+/// The responses of an InvokeResponse.
+const RESPONSES: Step = Step::Field(1);
+
+/// The CommandStatus of a response to a command.
+const COMMAND_STATUS: Step = Step::Field(1);
+
+/// The steps from a message of this opcode to its status codes. None: it has none.
 pub fn path_to_codes(opcode: u8) -> Option<&'static [Step]>
     ensures { option_map (λ path. path.now) result ≡ path_of opcode }
 {
     match opcode {
-        opcode::STATUS_RESPONSE => Some(&[Step::Field(0)]),
-        opcode::REPORT_DATA => Some(&[
-            Step::Either(1, 2),
-            Step::Member,
-            Step::Field(0),
-            Step::Field(1),
-            Step::Field(0),
-        ]),
-        opcode::WRITE_RESPONSE => Some(&[
-            Step::Field(0),
-            Step::Member,
-            Step::Field(1),
-            Step::Field(0),
-        ]),
-        opcode::INVOKE_RESPONSE => Some(&[
-            Step::Field(1),
-            Step::Member,
-            Step::Field(1),
-            Step::Field(1),
-            Step::Field(0),
-        ]),
+        opcode::STATUS_RESPONSE => Some(&[CODE]),
+        opcode::REPORT_DATA => Some(&[REPORTS, Step::Member, REPORT_STATUS, STATUS, CODE]),
+        opcode::WRITE_RESPONSE => Some(&[STATUSES, Step::Member, STATUS, CODE]),
+        opcode::INVOKE_RESPONSE => Some(&[RESPONSES, Step::Member, COMMAND_STATUS, STATUS, CODE]),
         _ => None,
     }
 }
