@@ -4,25 +4,29 @@ use Rattle.std.specs.Prelude.{ℕ, ◌==◌, List, [], ◌∷◌, Option, Some, 
 use Rattle.mt_codes.specs.declared.paths.Step.{Step}
 use Rattle.mt_codes.specs.declared.paths.Step.TheVariants.{Field, Either, Member}
 
+-- AttributeStatus, EventStatus and CommandStatus: 1 Status, with 0 the code
+abbrev pub in_status : List Step
+in_status = Field 1 ∷ Field 0 ∷ []
+
+-- AttributeReport and EventReport: 0 AttributeStatus or EventStatus
+abbrev pub in_report : List Step
+in_report = Field 0 ∷ in_status
+
 -- StatusResponse: 0 status
 abbrev pub status_response : List Step
 status_response = Field 0 ∷ []
 
--- AttributeReport and EventReport: 0 AttributeStatus or EventStatus, with 1 Status, with 0 the code
-abbrev pub in_report : List Step
-in_report = Field 0 ∷ Field 1 ∷ Field 0 ∷ []
-
--- ReportData: 1 attribute reports and 2 event reports
+-- ReportData: 1 AttributeReports and 2 EventReports
 abbrev pub report_data : List Step
 report_data = Either 1 2 ∷ Member ∷ in_report
 
--- WriteResponse: 0 AttributeStatuses, each with 1 Status, with 0 the code
+-- WriteResponse: 0 AttributeStatuses
 abbrev pub write_response : List Step
-write_response = Field 0 ∷ Member ∷ Field 1 ∷ Field 0 ∷ []
+write_response = Field 0 ∷ Member ∷ in_status
 
--- InvokeResponse: 1 responses, of which each may have 1 CommandStatus, with 1 Status, with 0 the code
+-- InvokeResponse: 1 responses, each with 0 CommandData or 1 CommandStatus
 abbrev pub invoke_response : List Step
-invoke_response = Field 1 ∷ Member ∷ Field 1 ∷ Field 1 ∷ Field 0 ∷ []
+invoke_response = Field 1 ∷ Member ∷ Field 1 ∷ in_status
 
 -- the steps to the status codes of a message of this opcode
 abbrev pub path_of : ℕ → Option (List Step)

@@ -16,7 +16,7 @@ use mt_tlv::{Cursor, cursor_comes_over_the_element};
 
 /// Adds one to the count of each status code that the message of this opcode has, as often as the code
 /// stands in it. A count at its type's end stays there. The message is the element in front of the
-/// payload; where none is, the codes in front of the fault are counted.
+/// payload, whatever follows it; at a fault of the encoding the counting stops. It takes no memory.
 pub fn count_codes(opcode: u8, payload: &[u8], counts: &mut [u64; 256])
     // Of a message in front of the payload, in whatever widths, each code is counted.
     ensures counted { (tag : Tag) (message : Tree) (bytes rest : List ℕ) → IsElement tag message bytes → payload.now ≡ bytes ++ rest
@@ -32,7 +32,7 @@ pub fn count_codes(opcode: u8, payload: &[u8], counts: &mut [u64; 256])
     }
 }
 
-// Over the parts of an element each takes a byte at least, so there are no more than bytes.
+// Each part of an element takes a byte at least, so there are no more parts than bytes.
 fn count_on_path(path: &[Step], payload: &[u8], counts: &mut [u64; 256])
     ensures counted { (xs : List Piece) (end : Place) → Comes (start payload.now) xs end → next_at end ≡ Ok (None, end) → length xs ≤ length payload.now
         → AreCounted (all_told path.now outermost xs) counts.old counts.new }

@@ -20,19 +20,10 @@ pub fn number_in(path: &[Step], at: At, part: &Part<'_>) -> Option<u64>
     ensures { result ≡ told path.now at (piece part.now) }
 {
     match part {
-        Part::Scalar(tag, value) => match value {
-            Value::Uint(number) => {
-                if at.passed_over == 0
-                    && path.get(at.on_path).is_none()
-                    && is_on_path(path, at.on_path, *tag)
-                {
-                    Some(*number)
-                } else {
-                    None
-                }
-            }
-            _ => None,
-        },
+        Part::Scalar(tag, Value::Uint(number))
+            if at.passed_over == 0
+                && path.get(at.on_path).is_none()
+                && is_on_path(path, at.on_path, *tag) => { Some(*number) }
         _ => None,
     }
 }
