@@ -28,8 +28,10 @@ impl<R: Read + Drop> Source for ReaderSource<R> {
     ghost faults = { λ s. s.faults };
 
     fn read(&mut self, into: &mut [u8]) -> Result<usize, Failed> {
+        let room = into.len();
         if let Some(reader) = &mut self.reader
             && let Some(count) = read_again(reader, into)
+            && count <= room
         {
             return Ok(count);
         }
@@ -59,6 +61,7 @@ impl<W: Write + Drop> Sink for WriterSink<W> {
 
     fn write(&mut self, from: &[u8]) -> Result<usize, Failed> {
         if let Some(count) = write_again(&mut self.writer, from)
+            && count <= from.len()
             && (count > 0 || from.is_empty())
         {
             return Ok(count);
