@@ -1,36 +1,8 @@
 -- What was read and written, call after call.
-use Rattle.std.proofs.Common.{◌≡◌, ℕ, ◌+◌, ◌-◌, ◌<◌, ◌≤◌, List, [], ◌++◌, length, take, drop, Option, Some, None, refl, sym, ap, subst, ◌∙◌, append_assoc, arith, take-add}
+use Rattle.std.proofs.Common.{◌≡◌, ℕ, ◌+◌, ◌-◌, ◌<◌, List, [], ◌∷◌, ◌++◌, length, take, drop, get_or, Option, Some, None, refl, sym, ap, subst, ◌∙◌, append_assoc, arith, take-add}
 use Rattle.std.specs.Prelude.{IfSome}
-use Rattle.std.proofs.lemmas.List.{append-nil, take-append-drop, length-append, length-drop, take_all, nil_from_length}
-use Rattle.mt_outside.specs.Stream.{Rose, Gave, GavePart, ReadToEnd, Took, IsPrefix, TookPart}
-
--- Counts of faults.
-
-pub Rose-from : (a b c : ℕ) → a ≤ b → Rose b c → Rose a c
-Rose-from a b c le rose = omega arith
-
-pub Rose-later : (a b c : ℕ) → Rose a b → b ≤ c → Rose a c
-Rose-later a b c rose le = omega arith
-
--- Prefixes.
-
-pub IsPrefix-nil : (whole : List ℕ) → IsPrefix [] whole
-IsPrefix-nil whole = (whole, refl)
-
-pub IsPrefix-self : (whole : List ℕ) → IsPrefix whole whole
-IsPrefix-self whole = ([], sym (append-nil whole))
-
-pub IsPrefix-then : (a b c : List ℕ) → IsPrefix a b → IsPrefix b c → IsPrefix a c
-IsPrefix-then a b c p q =
-    (p.0 ++ q.0, q.1 ∙ ap (λ (x : List ℕ). x ++ q.0) p.1 ∙ append_assoc a p.0 q.0)
-
--- the same bytes in front of both
-pub IsPrefix-append : (x a b : List ℕ) → IsPrefix a b → IsPrefix (x ++ a) (x ++ b)
-IsPrefix-append x a b p = (p.0, ap (λ (w : List ℕ). x ++ w) p.1 ∙ sym (append_assoc x a p.0))
-
--- more bytes after the longer one
-pub IsPrefix-more : (a b y : List ℕ) → IsPrefix a b → IsPrefix a (b ++ y)
-IsPrefix-more a b y p = IsPrefix-then a b (b ++ y) p (y, refl)
+use Rattle.std.proofs.lemmas.List.{append-nil, drop_more, take-append-drop, length-append, length-drop, take_all, nil_from_length}
+use Rattle.mt_outside.specs.Stream.{Gave, GavePart, ReadToEnd, Took, IsProperPrefix, TookLess}
 
 -- What was given.
 
@@ -92,26 +64,19 @@ Took-then (Some w) b c x y p q =
 pub Took-same : (a b c : Option (List ℕ)) (x : List ℕ) → Took a b x → c ≡ b → Took a c x
 Took-same a b c x p e = rw e p
 
-pub TookPart-nil : (a : Option (List ℕ)) (all : List ℕ) → TookPart a a all
-TookPart-nil a all = ([], IsPrefix-nil all, Took-nil a)
+-- Less was taken than was to be.
 
-pub TookPart-whole : (a b : Option (List ℕ)) (all : List ℕ) → Took a b all → TookPart a b all
-TookPart-whole a b all p = (all, IsPrefix-self all, p)
+TookLess-front : (a b : Option (List ℕ)) (x all : List ℕ) → Took a b x → IsProperPrefix x all → TookLess a b all
+TookLess-front a b x all p q = (x, q, p)
 
-pub TookPart-front : (a b : Option (List ℕ)) (x all : List ℕ) → Took a b x → IsPrefix x all → TookPart a b all
-TookPart-front a b x all p q = (x, q, p)
+pub TookLess-more : (a b : Option (List ℕ)) (x y : List ℕ) → TookLess a b x → TookLess a b (x ++ y)
+TookLess-more a b x y p =
+    TookLess-front a b p.0 (x ++ y) p.2 (p.1.0, p.1.1 ++ y, ap (λ (w : List ℕ). w ++ y) p.1.2 ∙ append_assoc p.0 (p.1.0 ∷ p.1.1) y)
 
--- nothing more was taken
-pub TookPart-same : (a b c : Option (List ℕ)) (all : List ℕ) → TookPart a b all → c ≡ b → TookPart a c all
-TookPart-same a b c all p e = rw e p
-
--- a front of the front is a front
-pub TookPart-more : (a b : Option (List ℕ)) (x all : List ℕ) → TookPart a b x → IsPrefix x all → TookPart a b all
-TookPart-more a b x all p q = (p.0, IsPrefix-then p.0 x all p.1 q, p.2)
-
--- a part after what was taken whole
-pub TookPart-then : (a b c : Option (List ℕ)) (x y : List ℕ) → Took a b x → TookPart b c y → TookPart a c (x ++ y)
-TookPart-then a b c x y p q = (x ++ q.0, IsPrefix-append x q.0 y q.1, Took-then a b c x q.0 p q.2)
+-- less of a text after one that was taken whole
+pub TookLess-then : (a b c : Option (List ℕ)) (x y : List ℕ) → Took a b x → TookLess b c y → TookLess a c (x ++ y)
+TookLess-then a b c x y p q =
+    TookLess-front a c (x ++ q.0) (x ++ y) (Took-then a b c x q.0 p q.2) (q.1.0, q.1.1, ap (λ (w : List ℕ). x ++ w) q.1.2 ∙ sym (append_assoc x q.0 (q.1.0 ∷ q.1.1)))
 
 -- one more piece of what is to be written, the rest of which is spelled as the code slices it
 pub Took-next : (a b c : Option (List ℕ)) (at n : ℕ) (bytes : List ℕ) → Took a b (take at bytes) → Took b c (take n (take (length bytes - at) (drop at bytes))) → Took a c (take (at + n) bytes)
@@ -120,7 +85,11 @@ Took-next a b c at n bytes p q =
     let more : Took b c (take n (drop at bytes)) = subst (λ (x : List ℕ). Took b c (take n x)) whole q in
     rw take-add (Took-then a b c (take at bytes) (take n (drop at bytes)) p more)
 
--- the sink failed when the first bytes were taken
-pub Took-stopped : (a b c : Option (List ℕ)) (at : ℕ) (bytes : List ℕ) → Took a b (take at bytes) → c ≡ b → TookPart a c bytes
-Took-stopped a b c at bytes p e =
-    (take at bytes, (drop at bytes, sym (take-append-drop at bytes)), Took-same a b c (take at bytes) p e)
+-- the sink failed when the first bytes were taken, and there were more
+pub Took-stopped : (a b c : Option (List ℕ)) (at : ℕ) (bytes : List ℕ) → at < length bytes → Took a b (take at bytes) → c ≡ b → TookLess a c bytes
+Took-stopped a b c at bytes more p e =
+    TookLess-front a c (take at bytes) bytes (Took-same a b c (take at bytes) p e) (
+      get_or bytes at 0,
+      drop (at + 1) bytes,
+      sym (take-append-drop at bytes) ∙ ap (λ (w : List ℕ). take at bytes ++ w) (drop_more bytes at 0 more),
+    )

@@ -20,6 +20,3 @@ pub use memory::{MemSink, MemSource};
 pub use network::Peer;
 pub use stream::{Failed, Sink, Source};
 pub use whole::{ReadFault, read_all, write_all};
-
-#[cfg(test)]
-mod tests;

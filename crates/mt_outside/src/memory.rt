@@ -76,8 +76,6 @@ impl Source for MemSource {
         ensures listed { IsErr result ↔ Contains self.old.fail self.new.calls }
         ensures calls { self.new.calls ≡ one_more self.old.calls }
         ensures fail { self.new.fail ≡ self.old.fail }
-        ensures no_fault { IfOk result (λ _. self.new.faults ≡ self.old.faults) }
-        ensures one_fault { OnErr result (self.new.faults ≡ one_more self.old.faults) }
     {
         if self.failures.next_fails() {
             self.failures.count_fault();
@@ -155,8 +153,6 @@ impl Sink for MemSink {
         ensures listed { Contains self.old.fail self.new.calls → IsErr result }
         ensures calls { self.new.calls ≡ one_more self.old.calls }
         ensures fail { self.new.fail ≡ self.old.fail }
-        ensures no_fault { IfOk result (λ _. self.new.faults ≡ self.old.faults) }
-        ensures one_fault { OnErr result (self.new.faults ≡ one_more self.old.faults) }
     {
         if self.failures.next_fails() || self.bytes.extend_from_slice(from).is_err() {
             self.failures.count_fault();

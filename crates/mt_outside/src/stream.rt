@@ -3,7 +3,7 @@
 ghost use Rattle.std.specs.Prelude.{◌≡◌, ◌≤◌, ◌<◌, ℕ, List, [], Option, length, take, IfOk, IfSome, OnErr};
 ghost use Rattle.mt_outside.specs.Stream.{Gave, HasCause, Took};
 
-/// The object outside did not do what it was asked. Its count of faults rose.
+/// The object outside did not do what it was asked. Its count of faults rose by one.
 #[derive(Clone, Copy, Debug, PartialEq, Eq)]
 pub struct Failed;
 
@@ -12,8 +12,8 @@ pub trait Source {
     /// The bytes that are left, where the source can tell.
     ghost left: { Self → Option (List ℕ) };
 
-    /// How many calls have failed. A call that does not fail leaves the count; it never falls, and
-    /// stays at 2^64 - 1 once it is there.
+    /// How many calls have failed. Each that fails raises the count by one, up to 2^64 - 1, where it
+    /// stays; no other call changes it.
     ghost faults: { Self → ℕ };
 
     /// Reads the next bytes to the front of `into`, and answers how many there are.
@@ -33,8 +33,8 @@ pub trait Sink {
     /// The bytes that were written so far, where the sink can tell.
     ghost written: { Self → Option (List ℕ) };
 
-    /// How many calls have failed. A call that does not fail leaves the count; it never falls, and
-    /// stays at 2^64 - 1 once it is there.
+    /// How many calls have failed. Each that fails raises the count by one, up to 2^64 - 1, where it
+    /// stays; no other call changes it.
     ghost faults: { Self → ℕ };
 
     /// Writes bytes from the front of `from`, and answers how many. Of a piece that is not empty it

@@ -1,7 +1,7 @@
 //! Reading a source to its end, and writing all of some bytes.
 
 ghost use Rattle.std.specs.Prelude.{◌≡◌, ◌≢◌, ◌≤◌, ◌<◌, length, vec_len, IfOk, IfSome, OnOk, OnErr};
-ghost use Rattle.mt_outside.specs.Stream.{GavePart, HasCause, ReadToEnd, Rose, Took, TookPart};
+ghost use Rattle.mt_outside.specs.Stream.{GavePart, HasCause, ReadToEnd, RoseByOne, Took, TookLess};
 
 use crate::stream::{Failed, Sink, Source};
 use std::alloc::Global;
@@ -33,7 +33,7 @@ pub fn read_all<A: Source>(
     ensures too_long { result ≡ Err ReadFault.TooLong →
         IfSome (A.left source.old) (λ left. limit < length left) }
     ensures failed { result ≡ Err ReadFault.Failed →
-        Rose (A.faults source.old) (A.faults source.new) }
+        RoseByOne (A.faults source.old) (A.faults source.new) }
     ensures part { OnErr result (GavePart (A.left source.old) (A.left source.new)) }
     ensures never_falls { A.faults source.old ≤ A.faults source.new }
     ensures calm { result ≢ Err ReadFault.Failed → A.faults source.new ≡ A.faults source.old }
@@ -57,10 +57,10 @@ pub fn read_all<A: Source>(
 }
 
 /// Writes all of the bytes, in as many calls as the sink asks for.
-/// Where it fails, the front of them that was taken stays written.
+/// Where it fails, fewer than all of them were taken, and those stay written.
 pub fn write_all<W: Sink>(sink: &mut W, bytes: &[u8]) -> Result<(), Failed>
     ensures took { OnOk result (Took (W.written sink.old) (W.written sink.new) bytes.now) }
-    ensures part { OnErr result (TookPart (W.written sink.old) (W.written sink.new) bytes.now) }
+    ensures less { OnErr result (TookLess (W.written sink.old) (W.written sink.new) bytes.now) }
     ensures cause { HasCause (W.faults sink.old) (W.faults sink.new) result }
 {
     let mut at = 0;
