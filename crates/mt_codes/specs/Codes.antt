@@ -1,18 +1,11 @@
 -- The status codes of a message, as a TLV tree.
 use Rattle.std.specs.Prelude.{◌≡◌, ℕ, ◌+◌, ◌-◌, ◌^◌, ◌<◌, min, Bool, true, false, ◌==◌, ◌||◌, List, [], ◌∷◌, ◌++◌, Option, Some, None, count_by, slice_index, if◌then◌else◌}
 use Rattle.mt_tlv.specs.declared.value.Tag.{Tag}
-use Rattle.mt_tlv.specs.declared.value.Tag.TheVariants.{Anonymous, Context, Common, Implicit, Full}
 use Rattle.mt_tlv.specs.Tree.{Tree, int, uint, bool, text, octets, null, bits32, bits64, structure, array, list, Elements, none, more}
+use Rattle.mt_model.specs.Trees.{is_context}
 use Rattle.mt_codes.specs.declared.paths.Step.{Step}
 use Rattle.mt_codes.specs.declared.paths.Step.TheVariants.{Field, Either, Member}
 use Rattle.mt_codes.specs.Paths.{path_of}
-
-abbrev pub is_context : ℕ → Tag → Bool
-is_context n Anonymous = false
-is_context n (Context k) = k == n
-is_context n (Common k) = false
-is_context n (Implicit k) = false
-is_context n (Full v p k) = false
 
 -- whether a step goes from a container to its member under this tag
 abbrev pub picks : Step → Tag → Bool

@@ -13,6 +13,3 @@ mod place;
 
 pub use counting::count_codes;
 pub use laws::items_have_their_codes;
-
-#[cfg(test)]
-mod tests;

@@ -2,7 +2,8 @@
 
 ghost use Rattle.std.specs.Prelude.{◌≡◌, option_map};
 ghost use Rattle.mt_codes.specs.Paths.{path_of};
-ghost use Rattle.mt_codes.specs.Codes.{is_context, picks};
+ghost use Rattle.mt_codes.specs.Codes.{picks};
+ghost use Rattle.mt_model.specs.Trees.{is_context};
 ghost use Rattle.mt_codes.specs.Scan.{goes_into};
 
 use mt_model::opcode;

@@ -11,6 +11,7 @@ pub mod Repeats
 pub mod Runs
 pub mod Same
 pub mod Signed
+pub mod Small
 pub mod Tags
 pub mod Takes
 pub mod Texts

@@ -5,13 +5,21 @@ ghost use Rattle.std.specs.Prelude.{◌≡◌, ◌≢◌, ◌≤◌, ◌++◌, �
 ghost use Rattle.mt_tlv.specs.declared.value.Tag.{Tag};
 ghost use Rattle.mt_tlv.specs.declared.fault.TlvFault.{TlvFault};
 ghost use Rattle.mt_tlv.specs.declared.fault.TlvFault.TheVariants.{Short, SameTag, Memory};
+ghost use Rattle.mt_tlv.specs.declared.value.Value.{Value};
 ghost use Rattle.mt_tlv.specs.Tree.{Tree};
+ghost use Rattle.mt_tlv.specs.View.{tree, value_of};
 ghost use Rattle.mt_tlv.specs.Narrow.{narrow};
 ghost use Rattle.mt_tlv.specs.Limits.{IsTag, IsAllowed, IsElement, deepest, longest};
 ghost use Rattle.mt_tlv.specs.Reading.{element_at};
 ghost use Rattle.mt_tlv.specs.Parts.{start, next_at};
 ghost use Rattle.mt_tlv.specs.Repeats.{IsRepeating};
 ghost use Rattle.mt_tlv.specs.Runs.{parts_of, Comes, ComesToTheEnd, behind, Faults};
+
+/// A value is what its tree says, and a tree is that of its value: neither tells more than the other.
+pub fn values_are_trees()
+    ensures value { (v : Value) → value_of (tree v) ≡ v }
+    ensures tree { (t : Tree) → tree (value_of t) ≡ t }
+{}
 
 /// No element begins another, and bytes are the element of one tag and one value at most.
 pub fn no_element_begins_another()

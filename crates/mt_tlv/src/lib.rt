@@ -27,11 +27,8 @@ pub use fault::TlvFault;
 pub use laws::{
     cursor_comes_over_the_element, cursor_ends_or_meets_a_fault, cursor_goes_over_repeated_tags,
     cursor_meets_the_fault, element_is_read, later_bytes_change_nothing, narrow_is_element,
-    no_element_begins_another, written_is_read,
+    no_element_begins_another, values_are_trees, written_is_read,
 };
 pub use reading::read;
 pub use value::{Members, Tag, Value};
-pub use writing::write;
-
-#[cfg(test)]
-mod tests;
+pub use writing::{write, write_unsigned};
