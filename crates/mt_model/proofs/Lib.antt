@@ -1,8 +1,11 @@
 pub mod Bare
 pub mod Entries
 pub mod Fabrics
+pub mod FirstField
 pub mod OfFabric
 pub mod Order
 pub mod Places
 pub mod Ranges
+pub mod Replaced
+pub mod Setting
 pub mod Sizes

@@ -1,7 +1,6 @@
 -- The entries of a fabric in ascending entries are a part of them.
-use Rattle.std.proofs.Common.{◌≡◌, ℕ, zero, suc, ◌+◌, ◌<◌, ◌≤◌, ◌==◌, nat_le, nat_lt, subst, Bool, true, false, not, List, [], ◌∷◌, refl, sym, ap, ◌∙◌, length, filter, get_or, take, drop, get_or-drop, length-drop, arith}
-use Rattle.std.specs.List.{AllWithin}
-use Rattle.std.specs.List.Sorted.{IsPartitionedBy, IsPartitionPoint}
+use Rattle.std.proofs.Common.{◌≡◌, ℕ, zero, suc, ◌+◌, ◌<◌, ◌≤◌, ◌==◌, ◌&&◌, nat_le, nat_lt, Bool, true, false, not, List, [], ◌∷◌, refl, sym, ap, length, get_or, drop, add-one, drop-cons, arith}
+use Rattle.std.specs.List.Sorted.{IsPartitionedBy}
 use Rattle.std.proofs.lemmas.Bool.{and_from, and_parts, leb-true, le-leb}
 use Rattle.mt_model.specs.texts.Config.{ascend_from}
 use Rattle.mt_model.specs.declared.tables.access.AclEntry.{AclEntry}
@@ -43,6 +42,9 @@ lower_parts fabric least es up i j d le h x = lower_back fabric (get_or es i d) 
 pub no_higher_parts : (fabric least : ℕ) (es : List AclEntry) → ascend_from least es ≡ true → IsPartitionedBy (is_no_higher fabric) es
 no_higher_parts fabric least es up i j d le h x = no_higher_back fabric (get_or es i d) (get_or es j d) (pairs_ascend least es up i j d le h) x
 
+pub lower_is_no_higher : (fabric : ℕ) (e : AclEntry) → is_lower fabric e ≡ true → is_no_higher fabric e ≡ true
+lower_is_no_higher fabric e x = grind (arith, x)
+
 pub lower_is_other : (fabric : ℕ) (e : AclEntry) → is_lower fabric e ≡ true → is_own fabric e ≡ false
 lower_is_other fabric e x = grind (arith, x)
 
@@ -58,3 +60,8 @@ ascending-drop zero least [] up = refl
 ascending-drop zero least (e ∷ es) up = and_from (nat_le 0 e.fabric) (ascend_from e.fabric es) (le-leb 0 e.fabric (omega arith)) (and_parts _ _ up).1
 ascending-drop (suc n) least [] up = refl
 ascending-drop (suc n) least (e ∷ es) up = ascending-drop n e.fabric es (and_parts _ _ up).1
+
+-- entries from one on ascend where it is no lower and those behind it ascend
+pub ascends_at : (entries : List AclEntry) (i before : ℕ) (entry : AclEntry) → i < length entries → entry ≡ get_or entries i entry
+    → ascend_from before (drop i entries) ≡ (nat_le before entry.fabric && ascend_from entry.fabric (drop (i + 1) entries))
+ascends_at entries i before entry lt is = rw (add-one, drop-cons entries i entry lt) (ap (λ (e : AclEntry). nat_le before e.fabric && ascend_from e.fabric (drop (suc i) entries)) (sym is))

@@ -1,7 +1,6 @@
 -- The rows of a place in ascending rows are a part of them.
-use Rattle.std.proofs.Common.{◌≡◌, ℕ, zero, suc, ◌+◌, ◌<◌, ◌≤◌, ◌⊎◌, inl, inr, subst, Bool, true, false, not, List, [], ◌∷◌, refl, sym, ap, ◌∙◌, length, filter, get_or, take, drop, get_or-drop, length-drop, arith}
-use Rattle.std.specs.List.{AllWithin}
-use Rattle.std.specs.List.Sorted.{IsPartitionedBy, IsPartitionPoint}
+use Rattle.std.proofs.Common.{◌≡◌, ℕ, ◌<◌, ◌≤◌, ◌⊎◌, inl, inr, subst, Bool, true, false, not, List, sym, get_or, arith}
+use Rattle.std.specs.List.Sorted.{IsPartitionedBy}
 use Rattle.std.proofs.lemmas.Bool.{cases_order, false_from_ne_true, both_ways, not-true, not-false, not_from_false}
 use Rattle.mt_model.proofs.Order.{ascending_pairs, before_back, after_on, before_not_same, after_not_same, neither_same}
 use Rattle.mt_model.specs.rows.Order.{stands_before, are_ascending}
@@ -16,7 +15,7 @@ is_before place row = stands_before row.place place
 abbrev pub is_no_later : Place → Row → Bool
 is_no_later place row = not (stands_before place row.place)
 
-same_or_less : (i j : ℕ) → i ≤ j → (i ≡ j) ⊎ (i < j)
+pub same_or_less : (i j : ℕ) → i ≤ j → (i ≡ j) ⊎ (i < j)
 same_or_less i j le = elim (cases_order i j) [
   | inl same ↦ inl same
   | inr apart ↦ elim apart [ inl lt ↦ inr lt | inr gt ↦ absurd (omega arith) ]

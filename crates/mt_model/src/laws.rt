@@ -1,11 +1,13 @@
 //! Laws of the order of rows and of the form of access control entries, over the definitions alone, and the
 //! numbers of the opcodes and limits. Each is the contract of a function that does nothing.
 
-ghost use Rattle.std.specs.Prelude.{◌≡◌, ℕ, IsTrue, List, Some, filter, map};
+ghost use Rattle.std.specs.Prelude.{◌≡◌, ◌≤◌, ◌++◌, ℕ, IsTrue, List, Some, filter, map, not};
+ghost use Rattle.std.specs.List.{list_all};
 ghost use Rattle.mt_tlv.specs.declared.value.Value.{Value};
 ghost use Rattle.mt_model.specs.texts.Config.{are_numbered_from, ascend_from};
 ghost use Rattle.mt_model.specs.tables.Entries.{entry_in, entry_value};
 ghost use Rattle.mt_model.specs.rows.Order.{are_ascending, entry_rows, fabric_rows, fabrics_ascend, in_order};
+ghost use Rattle.mt_model.specs.rows.Setting.{is_above, is_at, is_below, is_entry_above, is_entry_below, is_entry_of, with_entries, with_rows};
 ghost use Rattle.mt_model.specs.rows.Sight.{seen_by, stands_at};
 ghost use Rattle.mt_model.specs.declared.tables.access.AclEntry.{AclEntry};
 ghost use Rattle.mt_model.specs.declared.tables.fabric.Fabric.{Fabric};
@@ -46,6 +48,24 @@ pub fn numbered_fabrics_ascend()
 /// What a fabric sees of rows in order is in order.
 pub fn in_order_sees()
     ensures { (fabric other : ℕ) (rows : List Row) → map (seen_by fabric) (in_order other rows) ≡ in_order other (map (seen_by fabric) rows) }
+{}
+
+/// Rows that ascend still do where those of one fabric at a place are set. What stands below and above these are all
+/// the others.
+pub fn set_rows_stand_in_order()
+    ensures ascending { (rows : List Row) (place : Place) (fabric : ℕ) (values : List Value) → IsTrue (are_ascending rows)
+        → IsTrue (are_ascending (with_rows place fabric values rows)) }
+    ensures others { (rows : List Row) (place : Place) (fabric : ℕ) → IsTrue (are_ascending rows)
+        → filter (is_below place fabric) rows ++ filter (is_above place fabric) rows ≡ filter (λ (row : Row). not (is_at place fabric row)) rows }
+{}
+
+/// Entries that ascend by fabric still do where those of one fabric are set to entries of that fabric. What stands
+/// below and above these are all the others.
+pub fn set_entries_stand_in_order()
+    ensures ascending { (entries new : List AclEntry) (least fabric : ℕ) → least ≤ fabric → IsTrue (ascend_from least entries)
+        → IsTrue (list_all (is_entry_of fabric) new) → IsTrue (ascend_from least (with_entries fabric new entries)) }
+    ensures others { (entries : List AclEntry) (fabric : ℕ) → IsTrue (ascend_from 0 entries)
+        → filter (is_entry_below fabric) entries ++ filter (is_entry_above fabric) entries ≡ filter (λ (entry : AclEntry). not (is_entry_of fabric entry)) entries }
 {}
 
 /// The value that an access control entry is written as is read as that entry.

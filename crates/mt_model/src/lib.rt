@@ -2,6 +2,7 @@
 //! fields; a list type is seen by contracts as a list.
 #![tactic(auto)]
 
+mod fields;
 mod laws;
 pub mod limits;
 mod listed;
@@ -11,10 +12,11 @@ mod rows;
 mod tables;
 mod texts;
 
+pub use fields::{field, structure_of, take_field};
 pub use laws::{
     entries_are_in_order, entries_are_read_again, fabrics_are_in_order, in_order_sees,
     limits_are_these, numbered_fabrics_ascend, opcodes_are_those_of_the_standard,
-    rows_of_a_place_are_in_order,
+    rows_of_a_place_are_in_order, set_entries_stand_in_order, set_rows_stand_in_order,
 };
 pub use listed::{ExactCopy, Listed};
 pub use messages::message::{
@@ -31,9 +33,12 @@ pub use node::state::{
     ChangeNumber, ChangeNumbers, NodeSession, NodeSessions, NodeState, Standing, Version, Versions,
 };
 pub use rows::place::{Place, Row, Rows, device_type};
+pub use rows::setting::{set_entries, set_rows};
+pub use rows::shown::{shown_items, shown_value};
 pub use rows::sight::{Sight, View, sees};
 pub use tables::access::{
-    AclEntries, AclEntry, Actor, Auth, Privilege, Subjects, Target, Targets, entries_of,
+    AclEntries, AclEntry, Actor, Auth, Privilege, Subjects, Target, Targets, entries_ascend_from,
+    entries_of,
 };
 pub use tables::fabric::{Credentials, Fabric, Fabrics, is_operational};
 pub use tables::network::{Armed, Network, Networks, Roots};
@@ -42,6 +47,3 @@ pub use texts::config::{
 };
 pub use texts::recording::{Event, Events, Sent, SentList, To};
 pub use texts::verdicts::{TableVerdicts, Verdicts};
-
-#[cfg(test)]
-mod tests;

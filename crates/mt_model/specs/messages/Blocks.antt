@@ -37,6 +37,14 @@ event_path_tree path = list (optional_number 1 path.endpoint (optional_number 2 
 abbrev pub path_of : Place → Path
 path_of place = record { endpoint = Some place.endpoint; cluster = Some place.cluster; leaf = Some place.leaf; index = Whole }
 
+-- the place that a path without a wildcard names
+abbrev pub place_in : Option ℕ → Option ℕ → Option ℕ → Option Place
+place_in (Some endpoint) (Some cluster) (Some leaf) = Some (record { endpoint = endpoint; cluster = cluster; leaf = leaf })
+place_in _ _ _ = None
+
+abbrev pub place_named : Path → Option Place
+place_named path = place_in path.endpoint path.cluster path.leaf
+
 -- Status: 0 code
 abbrev pub status_tree : ℕ → Tree
 status_tree code = structure (more (Context 0) (uint code) none)

@@ -105,11 +105,16 @@ abbrev pub entry_with : Option Privilege → Option Auth → Option (List ℕ) �
 entry_with (Some privilege) (Some auth) (Some subjects) (Some targets) (Some fabric) = Some (record { privilege = privilege; auth = auth; subjects = subjects; targets = targets; fabric = fabric })
 entry_with _ _ _ _ _ = None
 
-abbrev pub entry_in : Value → Option AclEntry
-entry_in (values.Struct es) = entry_with
+-- the entry of this fabric that fields are, whose targets are read so: 1 privilege, 2 mode, 3 subjects, 4 targets
+abbrev pub entry_of : (Tree → Option Target) → Option ℕ → Elements → Option AclEntry
+entry_of target fabric es = entry_with
     (option_and_then privilege_numbered (option_and_then number_in (field_in 1 es)))
     (option_and_then mode_numbered (option_and_then number_in (field_in 2 es)))
     (option_and_then (list_in number_in) (field_in 3 es))
-    (option_and_then (list_in target_in) (field_in 4 es))
-    (option_and_then number_in (field_in 254 es))
+    (option_and_then (list_in target) (field_in 4 es))
+    fabric
+
+-- 254 fabric index
+abbrev pub entry_in : Value → Option AclEntry
+entry_in (values.Struct es) = entry_of target_in (option_and_then number_in (field_in 254 es)) es
 entry_in value = None

@@ -1,7 +1,7 @@
 //! The messages of the interaction model: what is asked, and what is answered.
 
 ghost use Rattle.std.specs.Prelude.{◌≡◌};
-ghost use Rattle.mt_model.specs.messages.Blocks.{path_of};
+ghost use Rattle.mt_model.specs.messages.Blocks.{path_of, place_named};
 
 use crate::listed::{ExactCopy, Listed};
 use crate::node::state::Versions;
@@ -28,6 +28,22 @@ pub struct Path {
     /// The id of the attribute or event.
     pub leaf: Option<u32>,
     pub index: Index,
+}
+
+impl Path {
+    /// The place that the path names, None where it has a wildcard.
+    pub fn place(&self) -> Option<Place>
+        ensures { result ≡ place_named self.now }
+    {
+        match (self.endpoint, self.cluster, self.leaf) {
+            (Some(endpoint), Some(cluster), Some(leaf)) => Some(Place {
+                endpoint,
+                cluster,
+                leaf,
+            }),
+            _ => None,
+        }
+    }
 }
 
 // The path that names the place as a whole.

@@ -40,8 +40,8 @@ impl ExactCopy for ChangeNumber {
     }
 }
 
-/// The change numbers of attributes, in the order of their places. An attribute that never changed
-/// since the start has none.
+/// The change numbers of attributes, in the order of their places. Every attribute has one, which is 0
+/// where it has not changed since the start.
 pub type ChangeNumbers = Listed<ChangeNumber>;
 
 /// How a session of the present boot stands.

@@ -3,9 +3,11 @@
 ghost use Rattle.std.specs.Prelude.{◌≡◌, ◌↔◌, ◌++◌, ◌∷◌, [], IsTrue, IfOk, OnOk, OnErr, length, filter, not};
 ghost use Rattle.mt_model.specs.rows.Devices.{device_of};
 ghost use Rattle.mt_model.specs.rows.Order.{are_ascending, may_follow, stands_before};
+ghost use Rattle.mt_model.specs.rows.Setting.{is_at};
 ghost use Rattle.mt_model.specs.rows.Sight.{stands_at};
 
 use crate::listed::ExactCopy;
+use crate::rows::setting::rows_within;
 use mt_tlv::Value;
 use std::alloc::{AllocError, Global};
 use std::marker::Model;
@@ -138,6 +140,15 @@ impl Rows {
         &rest[..end]
     }
 
+    /// The rows of a fabric at a place, lent, in the order of the list.
+    pub fn of(&self, place: &Place, fabric: u8) -> &[Row]
+        ensures { result.now ≡ filter (is_at place.now fabric) self.now }
+    {
+        let rows = self.rows.as_slice();
+        let (begin, end) = rows_within(rows, place, fabric);
+        &rows[begin..end]
+    }
+
     /// Adds a row at the end, which it may follow.
     pub fn push(&mut self, row: Row) -> Result<(), AllocError>
         requires { IsTrue (are_ascending (self.old ++ row ∷ [])) }
@@ -160,7 +171,7 @@ impl ExactCopy for Rows {
 }
 
 // Whether the first place stands before the second: by endpoint, then by cluster, then by leaf.
-fn stands_before(place: &Place, other: &Place) -> bool
+pub(crate) fn stands_before(place: &Place, other: &Place) -> bool
     ensures { result ≡ stands_before place.now other.now }
 {
     if place.endpoint != other.endpoint {

@@ -4,6 +4,7 @@ ghost use Rattle.std.specs.Prelude.{◌≡◌, ◌==◌, List, filter, IfOk, IsT
 ghost use Rattle.mt_tlv.specs.View.{elements};
 ghost use Rattle.mt_model.specs.texts.Config.{ascend_from};
 ghost use Rattle.mt_model.specs.rows.Order.{fabrics_ascend};
+ghost use Rattle.mt_model.specs.rows.Shown.{shown_items, shown_value};
 ghost use Rattle.mt_model.specs.rows.Sight.{bare_elements, bare_value, is_acl, is_bench_list, is_nocs, is_sensitive, is_sensitive_field, seen_by, version_in};
 ghost use Rattle.mt_model.specs.declared.tables.access.AclEntry.{AclEntry};
 ghost use Rattle.mt_model.specs.declared.rows.place.Place.{Place};
@@ -11,6 +12,7 @@ ghost use Rattle.mt_model.specs.declared.rows.place.Row.{Row};
 ghost use Rattle.mt_model.specs.declared.node.state.Version.{Version};
 
 use crate::rows::place::{Place, Row, Rows};
+use crate::rows::shown::{shown_items, shown_value};
 use crate::tables::access::{AclEntries, AclEntry};
 use crate::tables::fabric::Fabrics;
 use crate::tables::network::{Armed, Networks, Roots};
@@ -32,6 +34,29 @@ pub trait Sight {
     /// The rows of a place.
     fn rows_at(&self, place: &Place) -> Result<Rows, AllocError>
         ensures { IfOk result (λ rows. rows ≡ rows_of self.now place.now) };
+
+    /// The items of a place's list as a fabric sees them, by ascending fabric and in their order; where
+    /// `own` is set, the fabric's own alone. Whatever keeps the rows need not build what is not shown.
+    fn items_shown(
+        &self,
+        alloc: Global,
+        place: &Place,
+        fabric: u8,
+        own: bool,
+    ) -> Result<Members, AllocError>
+        ensures { IfOk result (λ items. items ≡ shown_items fabric own (rows_of self.now place.now)) }
+    {
+        let rows = self.rows_at(place)?;
+        shown_items(alloc, fabric, own, rows.as_slice())
+    }
+
+    /// The value of a place that has one row, as a fabric sees it; null where there is none.
+    fn value_shown(&self, alloc: Global, place: &Place, fabric: u8) -> Result<Value, AllocError>
+        ensures { IfOk result (λ value. value ≡ shown_value fabric (rows_of self.now place.now)) }
+    {
+        let rows = self.rows_at(place)?;
+        shown_value(alloc, fabric, rows.as_slice())
+    }
 
     /// The data version of a cluster on an endpoint, 0 where there is none.
     fn version(&self, endpoint: u16, cluster: u32) -> u32

@@ -1,6 +1,6 @@
 //! Who acts on the node, and what a fabric's access control entries are.
 
-ghost use Rattle.std.specs.Prelude.{◌≡◌, ◌==◌, not, nat_lt, filter, IsTrue};
+ghost use Rattle.std.specs.Prelude.{◌≡◌, ◌↔◌, ◌==◌, not, nat_lt, filter, IsTrue};
 ghost use Rattle.mt_model.specs.declared.tables.access.AclEntry.{AclEntry};
 ghost use Rattle.mt_model.specs.tables.Access.{includes};
 ghost use Rattle.mt_model.specs.texts.Config.{ascend_from};
@@ -91,6 +91,31 @@ pub struct AclEntry {
     pub fabric: u8,
 }
 
+impl AclEntry {
+    /// Whether the other entry is the same in all that it says.
+    pub fn equals(&self, other: &AclEntry) -> bool
+        ensures { IsTrue result ↔ (self.now ≡ other.now) }
+    {
+        self.fabric == other.fabric
+            && self.privilege == other.privilege
+            && self.auth == other.auth
+            && are_same_subjects(self.subjects.as_slice(), other.subjects.as_slice())
+            && are_same_targets(self.targets.as_slice(), other.targets.as_slice())
+    }
+}
+
+fn are_same_subjects(subjects: &[u64], others: &[u64]) -> bool
+    ensures { IsTrue result ↔ (subjects.now ≡ others.now) }
+{
+    subjects == others
+}
+
+fn are_same_targets(targets: &[Target], others: &[Target]) -> bool
+    ensures { IsTrue result ↔ (targets.now ≡ others.now) }
+{
+    targets == others
+}
+
 impl ExactCopy for AclEntry {
     fn copy(&self) -> Result<AclEntry, AllocError> {
         Ok(AclEntry {
@@ -106,7 +131,23 @@ impl ExactCopy for AclEntry {
 /// Entries, by ascending fabric and in each fabric's own order.
 pub type AclEntries = Listed<AclEntry>;
 
-/// The entries of a fabric, in their order: of entries that ascend by fabric they stand together.
+/// Whether the entries ascend by fabric, the first of them from this fabric on.
+#[tactic(auto, using(crate::proofs::OfFabric::ascends_at))]
+pub fn entries_ascend_from(fabric: u8, entries: &[AclEntry]) -> bool
+    ensures { result ≡ ascend_from fabric entries.now }
+{
+    let mut before = fabric;
+    for entry in entries {
+        if entry.fabric < before {
+            return false;
+        }
+        before = entry.fabric;
+    }
+    true
+}
+
+/// The entries of a fabric, in their order: of entries that ascend by fabric they stand together. A caller
+/// knows that they ascend by the type that has them, as `View` and a valid state, or asks `entries_ascend_from`.
 pub fn entries_of(entries: &[AclEntry], fabric: u8) -> &[AclEntry]
     requires { IsTrue (ascend_from 1 entries.now) }
     ensures { result.now ≡ filter (λ (entry : AclEntry). entry.fabric == fabric) entries.now }
