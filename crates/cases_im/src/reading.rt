@@ -27,7 +27,8 @@ pub(crate) fn number(word: &str) -> io::Result<u64> {
     Ok(number)
 }
 
-fn narrow_number(word: &str) -> io::Result<u32> {
+/// A number of at most 32 bits.
+pub(crate) fn narrow_number(word: &str) -> io::Result<u32> {
     u32::try_from(number(word)?).ok().ok_or(no_case())
 }
 
@@ -66,15 +67,35 @@ pub(crate) fn place(word: &str) -> io::Result<Place> {
     })
 }
 
-/// The path of a place as a whole.
+/// ENDPOINT/CLUSTER/ID, with `*` for a wildcard.
 pub(crate) fn path(word: &str) -> io::Result<Path> {
-    let place = place(word)?;
+    let (endpoint, ids) = word.split_once('/').ok_or(no_case())?;
+    let (cluster, leaf) = ids.split_once('/').ok_or(no_case())?;
+    let endpoint = short_or_any(endpoint)?;
+    let cluster = number_or_any(cluster)?;
+    let leaf = number_or_any(leaf)?;
     Ok(Path {
-        endpoint: Some(place.endpoint),
-        cluster: Some(place.cluster),
-        leaf: Some(place.leaf),
+        endpoint,
+        cluster,
+        leaf,
         index: Index::Whole,
     })
+}
+
+/// A number of at most 32 bits, or none as `*`.
+pub(crate) fn number_or_any(word: &str) -> io::Result<Option<u32>> {
+    if word == "*" {
+        return Ok(None);
+    }
+    Ok(Some(narrow_number(word)?))
+}
+
+/// A number of at most 16 bits, or none as `*`.
+pub(crate) fn short_or_any(word: &str) -> io::Result<Option<u16>> {
+    if word == "*" {
+        return Ok(None);
+    }
+    Ok(u16::try_from(number(word)?).ok())
 }
 
 /// Bytes as pieces of hex with `,` between them. A piece may say with `*` how many times it stands there.

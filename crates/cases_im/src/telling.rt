@@ -69,8 +69,8 @@ fn tell_paths(rt: &HostRuntime, paths: &[Path], events: &[Path]) -> io::Result<(
     Ok(())
 }
 
-// ENDPOINT/CLUSTER/ID, with `*` for a wildcard, and `+` or the number of the item behind it.
-fn tell_path(rt: &HostRuntime, path: &Path) -> io::Result<()> {
+/// ENDPOINT/CLUSTER/ID, with `*` for a wildcard, and `+` or the number of the item behind it.
+pub(crate) fn tell_path(rt: &HostRuntime, path: &Path) -> io::Result<()> {
     print!(rt; " ")?;
     match path.endpoint {
         Some(endpoint) => print!(rt; "{endpoint:x}")?,
@@ -128,8 +128,8 @@ fn tell_command(
     tell_value(rt, fields)
 }
 
-// A value as the bytes of its narrow encoding, at the end of a line.
-fn tell_value(rt: &HostRuntime, value: &Value) -> io::Result<()> {
+/// A value as the bytes of its narrow encoding, at the end of a line.
+pub(crate) fn tell_value(rt: &HostRuntime, value: &Value) -> io::Result<()> {
     let alloc = rt.alloc();
     let mut bytes = Vec::new(alloc);
     write(&Tag::Anonymous, value, &mut bytes)?;

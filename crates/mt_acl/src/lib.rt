@@ -14,6 +14,3 @@ mod validity;
 pub use granting::{Grant, grants};
 pub use laws::{later_tags_are_named, own_entries_alone_grant};
 pub use validity::{EntryFault, valid};
-
-#[cfg(test)]
-mod tests;

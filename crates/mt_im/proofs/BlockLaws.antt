@@ -3,64 +3,36 @@ use Rattle.std.proofs.Common.{◌≡◌, ◌∙◌, sym, subst, ap, ℕ, Bool, t
 use Rattle.mt_tlv.specs.declared.value.Value.{Value}
 use Rattle.mt_tlv.specs.declared.value.Value.TheVariants as values
 use Rattle.mt_tlv.specs.Tree.{Tree, int, uint, bool, text, octets, null, bits32, bits64, structure, array, list, Elements, none}
-use Rattle.mt_tlv.specs.View.{tree}
+use Rattle.mt_tlv.specs.View.{tree, value_of}
 use Rattle.mt_model.specs.declared.messages.message.Index.{Index}
 use Rattle.mt_model.specs.declared.messages.message.Index.TheVariants.{Whole, Append, At}
 use Rattle.mt_model.specs.declared.messages.message.Path.{Path}
 use Rattle.mt_model.specs.declared.messages.message.WriteItem.{WriteItem}
 use Rattle.mt_model.specs.declared.rows.place.Place.{Place}
 use Rattle.mt_model.specs.declared.node.state.Version.{Version}
-use Rattle.mt_im.specs.Blocks.{◌>>=◌, field_of, number_in, unsigned_in, structure_in, list_in, required_at, number_at, optional_number_at, optional_truth_at, not_true, index_in, index_at, attribute_path_in, event_path_in, event_filter_in, version_in, version_filter_in, is_concrete, concrete_path_in, write_item_in, command_path_in, arguments_in, command_data_in}
-use Rattle.mt_model.specs.Trees.{value_of}
+use Rattle.mt_im.specs.Blocks.{◌>>=◌, number_in, unsigned_in, list_in, required_at, number_at, optional_number_at, optional_truth_at, not_true, index_in, index_at, attribute_path_in, event_path_in, event_filter_in, version_in, version_filter_in, is_concrete, concrete_path_in, write_item_in, command_path_in, arguments_in, command_data_in}
+use Rattle.mt_model.specs.Trees.{field_in, structure_in}
 use Rattle.mt_im.specs.Fields.{HasNo, HasField}
 use Rattle.mt_im.specs.Spelling.{IndexSpells, AttributePathSpells, EventPathSpells, EventFilterSpells, ClusterPathSpells, VersionFilterSpells, IsConcrete, AttributeDataSpells, CommandPathSpells, CommandDataSpells}
 use Rattle.mt_im.proofs.FieldLaws.{bind_some, field_found, field_missing, field_only, field_none, number_found, number_only, list_found, structure_found, Ties, required_found, has_number_at, number_read_at, has_unsigned, may_have_number, optional_number_read, must_be_false, optional_truth_read}
 
--- ---- values
-
-pub tree_value : (v : Tree) → tree (value_of v) ≡ v
-tree_value (int z) = refl
-tree_value (uint n) = refl
-tree_value (bool b) = refl
-tree_value (text s) = refl
-tree_value (octets s) = refl
-tree_value null = refl
-tree_value (bits32 n) = refl
-tree_value (bits64 n) = refl
-tree_value (structure es) = refl
-tree_value (array es) = refl
-tree_value (list es) = refl
-
-pub value_tree : (v : Value) → value_of (tree v) ≡ v
-value_tree (values.Int z) = refl
-value_tree (values.Uint n) = refl
-value_tree (values.Bool b) = refl
-value_tree (values.Text s) = refl
-value_tree (values.Octets s) = refl
-value_tree values.Null = refl
-value_tree (values.Bits32 n) = refl
-value_tree (values.Bits64 n) = refl
-value_tree (values.Struct es) = refl
-value_tree (values.Array es) = refl
-value_tree (values.List es) = refl
-
 -- ---- paths
 
-numbered : (es : Elements) (i : Index) (v : Tree) → field_of 5 es ≡ Some v → (number_in 16 v >>= λ n. Some (At n)) ≡ Some i → IndexSpells i es
+numbered : (es : Elements) (i : Index) (v : Tree) → field_in 5 es ≡ Some v → (number_in 16 v >>= λ n. Some (At n)) ≡ Some i → IndexSpells i es
 numbered es i v e h =
     let p = bind_some (number_in 16 v) (λ n. Some (At n)) i h in
     let q = number_found 16 v p.0 p.1 in
     let same : At p.0 ≡ i = cc in
     subst (λ (j : Index). IndexSpells j es) same (field_found 5 es (uint p.0) (e ∙ ap Some q.0), q.1)
 
-index_step : (es : Elements) (i : Index) (there : Option Tree) → field_of 5 es ≡ there → index_in there ≡ Some i → IndexSpells i es
+index_step : (es : Elements) (i : Index) (there : Option Tree) → field_in 5 es ≡ there → index_in there ≡ Some i → IndexSpells i es
 index_step es i None e h = let same : Whole ≡ i = cc in subst (λ (j : Index). IndexSpells j es) same (field_missing 5 es e)
 index_step es i (Some null) e h = let same : Append ≡ i = cc in subst (λ (j : Index). IndexSpells j es) same (field_found 5 es null e)
 index_step es i (Some v) e h = numbered es i v e h
 
 index_found : (es : Elements) (i : Index) → index_at es ≡ Some i → IndexSpells i es
 unfolding index_at
-index_found es i h = index_step es i (field_of 5 es) refl h
+index_found es i h = index_step es i (field_in 5 es) refl h
 
 index_only : (es : Elements) (i : Index) → IndexSpells i es → index_at es ≡ Some i
 unfolding index_at
@@ -220,42 +192,44 @@ concrete_path_only : (v : Tree) (path : Path) → AttributePathSpells path v →
 unfolding concrete_path_in
 concrete_path_only v path s c = rw (attribute_path_only v path s, c.endpoint, c.cluster, c.attribute) refl
 
-write_item_found : (v : Tree) (item : WriteItem) → write_item_in v ≡ Some item → AttributeDataSpells item v
-unfolding write_item_in
-write_item_found v item h =
-    let l = bind_some (structure_in v) _ item h in
-    let version = bind_some (optional_number_at 32 0 l.0) _ item l.2 in
-    let path = bind_some (required_at concrete_path_in 1 l.0) _ item version.2 in
-    let place = required_found concrete_path_in 1 l.0 path.0 path.1 in
-    let p = concrete_path_found place.0 path.0 place.2 in
-    let value = bind_some (field_of 2 l.0) _ item path.2 in
-    let made : WriteItem = record { path = path.0; version = version.0; value = value_of value.0 } in
-    let same : made ≡ item = cc in
-    subst (λ (x : WriteItem). AttributeDataSpells x v) same (record {
-      fields = l.0;
-      path = place.0;
-      form = structure_found v l.0 l.1;
-      version = may_have_number 32 0 l.0 version.0 version.1;
-      has_path = place.1;
-      is_path = p.0;
-      concrete = p.1;
-      value = field_found 2 l.0 (tree (value_of value.0)) (value.1 ∙ ap Some (sym (tree_value value.0)));
-    })
+-- By the law of values and their trees.
+module _ (tree_value : (t : Tree) → tree (value_of t) ≡ t) (value_tree : (v : Value) → value_of (tree v) ≡ v) where
+  write_item_found : (v : Tree) (item : WriteItem) → write_item_in v ≡ Some item → AttributeDataSpells item v
+  unfolding write_item_in
+  write_item_found v item h =
+      let l = bind_some (structure_in v) _ item h in
+      let version = bind_some (optional_number_at 32 0 l.0) _ item l.2 in
+      let path = bind_some (required_at concrete_path_in 1 l.0) _ item version.2 in
+      let place = required_found concrete_path_in 1 l.0 path.0 path.1 in
+      let p = concrete_path_found place.0 path.0 place.2 in
+      let value = bind_some (field_in 2 l.0) _ item path.2 in
+      let made : WriteItem = record { path = path.0; version = version.0; value = value_of value.0 } in
+      let same : made ≡ item = cc in
+      subst (λ (x : WriteItem). AttributeDataSpells x v) same (record {
+        fields = l.0;
+        path = place.0;
+        form = structure_found v l.0 l.1;
+        version = may_have_number 32 0 l.0 version.0 version.1;
+        has_path = place.1;
+        is_path = p.0;
+        concrete = p.1;
+        value = field_found 2 l.0 (tree (value_of value.0)) (value.1 ∙ ap Some (sym (tree_value value.0)));
+      })
 
-write_item_only : (v : Tree) (item : WriteItem) → AttributeDataSpells item v → write_item_in v ≡ Some item
-unfolding write_item_in
-write_item_only v item s =
-    rw (
-      s.form,
-      optional_number_read 32 0 s.fields item.version s.version,
-      field_only 1 s.fields s.path s.has_path,
-      concrete_path_only s.path item.path s.is_path s.concrete,
-      field_only 2 s.fields (tree item.value) s.value,
-      value_tree item.value,
-    ) refl
+  write_item_only : (v : Tree) (item : WriteItem) → AttributeDataSpells item v → write_item_in v ≡ Some item
+  unfolding write_item_in
+  write_item_only v item s =
+      rw (
+        s.form,
+        optional_number_read 32 0 s.fields item.version s.version,
+        field_only 1 s.fields s.path s.has_path,
+        concrete_path_only s.path item.path s.is_path s.concrete,
+        field_only 2 s.fields (tree item.value) s.value,
+        value_tree item.value,
+      ) refl
 
-pub write_item_ties : Ties write_item_in AttributeDataSpells
-write_item_ties = record { found = write_item_found; only = write_item_only }
+  pub write_item_ties : Ties write_item_in AttributeDataSpells
+  write_item_ties = record { found = write_item_found; only = write_item_only }
 
 -- ---- commands
 
@@ -281,35 +255,37 @@ unfolding command_path_in
 command_path_only v command s =
     rw (s.form, number_read_at 16 0 s.fields command.endpoint s.endpoint, number_read_at 32 1 s.fields command.cluster s.cluster, number_read_at 32 2 s.fields command.leaf s.leaf) refl
 
-arguments_step : (es : Elements) (there : Option Tree) → field_of 1 es ≡ there → HasField 1 (tree (arguments_in there)) es ⊎ HasNo 1 es × (tree (arguments_in there) ≡ structure none)
-arguments_step es None e = inr (field_missing 1 es e, refl)
-arguments_step es (Some v) e = inl (field_found 1 es (tree (value_of v)) (e ∙ ap Some (sym (tree_value v))))
+-- By the law of values and their trees.
+module _ (tree_value : (t : Tree) → tree (value_of t) ≡ t) (value_tree : (v : Value) → value_of (tree v) ≡ v) where
+  arguments_step : (es : Elements) (there : Option Tree) → field_in 1 es ≡ there → HasField 1 (tree (arguments_in there)) es ⊎ HasNo 1 es × (tree (arguments_in there) ≡ structure none)
+  arguments_step es None e = inr (field_missing 1 es e, refl)
+  arguments_step es (Some v) e = inl (field_found 1 es (tree (value_of v)) (e ∙ ap Some (sym (tree_value v))))
 
-arguments_only : (es : Elements) (fields : Value) → HasField 1 (tree fields) es ⊎ HasNo 1 es × (tree fields ≡ structure none) → arguments_in (field_of 1 es) ≡ fields
-arguments_only es fields (inl h) = rw (field_only 1 es (tree fields) h) (value_tree fields)
-arguments_only es fields (inr h) = rw (field_none 1 es h.0) (sym (ap value_of h.1) ∙ value_tree fields)
+  arguments_only : (es : Elements) (fields : Value) → HasField 1 (tree fields) es ⊎ HasNo 1 es × (tree fields ≡ structure none) → arguments_in (field_in 1 es) ≡ fields
+  arguments_only es fields (inl h) = rw (field_only 1 es (tree fields) h) (value_tree fields)
+  arguments_only es fields (inr h) = rw (field_none 1 es h.0) (sym (ap value_of h.1) ∙ value_tree fields)
 
-command_data_found : (v : Tree) (command : Place × Value) → command_data_in v ≡ Some command → CommandDataSpells command v
-unfolding command_data_in
-command_data_found v command h =
-    let l = bind_some (structure_in v) _ command h in
-    let path = bind_some (required_at command_path_in 0 l.0) _ command l.2 in
-    let place = required_found command_path_in 0 l.0 path.0 path.1 in
-    let made : Place × Value = (path.0, arguments_in (field_of 1 l.0)) in
-    let same : made ≡ command = cc in
-    subst (λ (c : Place × Value). CommandDataSpells c v) same (record {
-      fields = l.0;
-      path = place.0;
-      form = structure_found v l.0 l.1;
-      has_path = place.1;
-      is_path = command_path_found place.0 path.0 place.2;
-      value = arguments_step l.0 (field_of 1 l.0) refl;
-    })
+  command_data_found : (v : Tree) (command : Place × Value) → command_data_in v ≡ Some command → CommandDataSpells command v
+  unfolding command_data_in
+  command_data_found v command h =
+      let l = bind_some (structure_in v) _ command h in
+      let path = bind_some (required_at command_path_in 0 l.0) _ command l.2 in
+      let place = required_found command_path_in 0 l.0 path.0 path.1 in
+      let made : Place × Value = (path.0, arguments_in (field_in 1 l.0)) in
+      let same : made ≡ command = cc in
+      subst (λ (c : Place × Value). CommandDataSpells c v) same (record {
+        fields = l.0;
+        path = place.0;
+        form = structure_found v l.0 l.1;
+        has_path = place.1;
+        is_path = command_path_found place.0 path.0 place.2;
+        value = arguments_step l.0 (field_in 1 l.0) refl;
+      })
 
-command_data_only : (v : Tree) (command : Place × Value) → CommandDataSpells command v → command_data_in v ≡ Some command
-unfolding command_data_in
-command_data_only v command s =
-    rw (s.form, field_only 0 s.fields s.path s.has_path, command_path_only s.path command.0 s.is_path) (ap (λ (fields : Value). Some (command.0, fields)) (arguments_only s.fields command.1 s.value))
+  command_data_only : (v : Tree) (command : Place × Value) → CommandDataSpells command v → command_data_in v ≡ Some command
+  unfolding command_data_in
+  command_data_only v command s =
+      rw (s.form, field_only 0 s.fields s.path s.has_path, command_path_only s.path command.0 s.is_path) (ap (λ (fields : Value). Some (command.0, fields)) (arguments_only s.fields command.1 s.value))
 
-pub command_data_ties : Ties command_data_in CommandDataSpells
-command_data_ties = record { found = command_data_found; only = command_data_only }
+  pub command_data_ties : Ties command_data_in CommandDataSpells
+  command_data_ties = record { found = command_data_found; only = command_data_only }

@@ -7,7 +7,8 @@ use Rattle.mt_im.specs.declared.fault.ImFault.{ImFault}
 use Rattle.mt_im.specs.declared.fault.ImFault.TheVariants.{Tlv, Missing, TooManyPaths, Memory}
 use Rattle.mt_im.specs.declared.messages.Kind.{Kind}
 use Rattle.mt_im.specs.declared.messages.Kind.TheVariants as kinds
-use Rattle.mt_im.specs.Blocks.{field_of, number_in, truth_in, optional_truth_at, not_true, blocks_in, attribute_path_in, event_path_in, event_filter_in, version_filter_in, write_item_in, command_in}
+use Rattle.mt_im.specs.Blocks.{number_in, truth_in, optional_truth_at, not_true, blocks_in, attribute_path_in, event_path_in, event_filter_in, version_filter_in, write_item_in, command_in}
+use Rattle.mt_model.specs.Trees.{field_in}
 use Rattle.mt_im.specs.Reading.{◌>>=◌, Gives, form, require, field_at, revision_at, within, blocks_at, minimum_at, selection_at, status_at, read_at, subscribe_at, write_at, invoke_at, timed_at, fields_at}
 
 -- The fault is not that the encoding was short of memory.
@@ -32,7 +33,7 @@ kept_missing n = λ e. cc
 kept_require : (ns : List ℕ) (es : Elements) → IsKept (require ns es)
 unfolding require
 kept_require [] es = tt
-kept_require (n ∷ ns) es = kept_if (is_some (field_of n es)) (require ns es) (Err (Missing n)) (kept_require ns es) (kept_missing n)
+kept_require (n ∷ ns) es = kept_if (is_some (field_in n es)) (require ns es) (Err (Missing n)) (kept_require ns es) (kept_missing n)
 
 kept_within : (count most : ℕ) (request : Request) → IsKept (within count most request)
 kept_within count most request = kept_if (nat_le count most) (Ok request) (Err TooManyPaths) tt (λ e. cc)

@@ -4,7 +4,8 @@ use Rattle.std.proofs.lemmas.Bool.{eqb-true, eq-eqb, ltb-true, lt-ltb}
 use Rattle.mt_tlv.specs.declared.value.Tag.{Tag}
 use Rattle.mt_tlv.specs.declared.value.Tag.TheVariants.{Anonymous, Context, Common, Implicit, Full}
 use Rattle.mt_tlv.specs.Tree.{Tree, uint, bool, structure, array, list, Elements, none, more}
-use Rattle.mt_im.specs.Blocks.{◌>>=◌, is_context, field_of, number_in, unsigned_in, truth_in, structure_in, list_in, array_in, required_at, number_at, optional_number_in, optional_number_at, optional_truth_in, optional_truth_at, not_true, blocks_of, blocks_in, optional_blocks_in, optional_blocks_at}
+use Rattle.mt_im.specs.Blocks.{◌>>=◌, number_in, unsigned_in, truth_in, list_in, array_in, required_at, number_at, optional_number_in, optional_number_at, optional_truth_in, optional_truth_at, not_true, blocks_of, blocks_in, optional_blocks_in, optional_blocks_at}
+use Rattle.mt_model.specs.Trees.{is_context, field_in, structure_in}
 use Rattle.mt_im.specs.Fields.{HasNo, HasField, HasNumber, MayHaveNumber, HasTruth, MayHaveTruth, AreBlocks, HasBlocks, MayHaveBlocks}
 
 -- what a chain that gives something has read on the way
@@ -33,34 +34,30 @@ not_context n tag false h other = h
 
 -- ---- the first field of a number
 
-found_step : (n : ℕ) (tag : Tag) (w : Tree) (es : Elements) (v : Tree) (b : Bool) → is_context n tag ≡ b → (if b then Some w else field_of n es) ≡ Some v
-    → (field_of n es ≡ Some v → HasField n v es) → HasField n v (more tag w es)
+found_step : (n : ℕ) (tag : Tag) (w : Tree) (es : Elements) (v : Tree) (b : Bool) → is_context n tag ≡ b → (if b then Some w else field_in n es) ≡ Some v
+    → (field_in n es ≡ Some v → HasField n v es) → HasField n v (more tag w es)
 found_step n tag w es v true e h rest = inl (context_true n tag e, cc)
 found_step n tag w es v false e h rest = inr (context_false n tag e, rest h)
 
-pub field_found : (n : ℕ) (es : Elements) (v : Tree) → field_of n es ≡ Some v → HasField n v es
-unfolding field_of
+pub field_found : (n : ℕ) (es : Elements) (v : Tree) → field_in n es ≡ Some v → HasField n v es
 field_found n none v h = cc
 field_found n (more tag w es) v h = found_step n tag w es v (is_context n tag) refl h (field_found n es v)
 
-missing_step : (n : ℕ) (tag : Tag) (w : Tree) (es : Elements) (b : Bool) → is_context n tag ≡ b → (if b then Some w else field_of n es) ≡ None
-    → (field_of n es ≡ None → HasNo n es) → HasNo n (more tag w es)
+missing_step : (n : ℕ) (tag : Tag) (w : Tree) (es : Elements) (b : Bool) → is_context n tag ≡ b → (if b then Some w else field_in n es) ≡ None
+    → (field_in n es ≡ None → HasNo n es) → HasNo n (more tag w es)
 missing_step n tag w es true e h rest = absurd cc
 missing_step n tag w es false e h rest = (context_false n tag e, rest h)
 
-pub field_missing : (n : ℕ) (es : Elements) → field_of n es ≡ None → HasNo n es
-unfolding field_of
+pub field_missing : (n : ℕ) (es : Elements) → field_in n es ≡ None → HasNo n es
 field_missing n none h = tt
 field_missing n (more tag w es) h = missing_step n tag w es (is_context n tag) refl h (field_missing n es)
 
-pub field_only : (n : ℕ) (es : Elements) (v : Tree) → HasField n v es → field_of n es ≡ Some v
-unfolding field_of
+pub field_only : (n : ℕ) (es : Elements) (v : Tree) → HasField n v es → field_in n es ≡ Some v
 field_only n none v h = absurd h
 field_only n (more tag w es) v (inl p) = rw (context_is n tag p.0) (ap Some p.1)
 field_only n (more tag w es) v (inr p) = rw (not_context n tag (is_context n tag) refl p.0) (field_only n es v p.1)
 
-pub field_none : (n : ℕ) (es : Elements) → HasNo n es → field_of n es ≡ None
-unfolding field_of
+pub field_none : (n : ℕ) (es : Elements) → HasNo n es → field_in n es ≡ None
 field_none n none h = refl
 field_none n (more tag w es) h = rw (not_context n tag (is_context n tag) refl h.0) (field_none n es h.1)
 
@@ -105,7 +102,7 @@ pub record Ties {X : Type 0} (read : Tree → Option X) (Spells : X → Tree →
   pub only : (v : Tree) (x : X) → Spells x v → read v ≡ Some x
 
 pub required_found : {X : Type 0} (read : Tree → Option X) (n : ℕ) (es : Elements) (x : X) → required_at read n es ≡ Some x → (v : Tree) × HasField n v es × (read v ≡ Some x)
-required_found read n es x h = let p = bind_some (field_of n es) read x h in (p.0, field_found n es p.0 p.1, p.2)
+required_found read n es x h = let p = bind_some (field_in n es) read x h in (p.0, field_found n es p.0 p.1, p.2)
 
 pub required_only : {X : Type 0} (read : Tree → Option X) (n : ℕ) (es : Elements) (v : Tree) → HasField n v es → required_at read n es ≡ read v
 required_only read n es v h = rw (field_only n es v h) refl
@@ -135,7 +132,7 @@ has_truth n es b h = let p = required_found truth_in n es b h in subst (λ (v : 
 
 -- ---- fields that may be missing
 
-may_have_step : (bits n : ℕ) (es : Elements) (o : Option ℕ) (there : Option Tree) → field_of n es ≡ there → optional_number_in bits there ≡ Some o → MayHaveNumber bits n o es
+may_have_step : (bits n : ℕ) (es : Elements) (o : Option ℕ) (there : Option Tree) → field_in n es ≡ there → optional_number_in bits there ≡ Some o → MayHaveNumber bits n o es
 may_have_step bits n es None None e h = field_missing n es e
 may_have_step bits n es (Some k) None e h = absurd cc
 may_have_step bits n es o (Some v) e h =
@@ -146,14 +143,14 @@ may_have_step bits n es o (Some v) e h =
 
 pub may_have_number : (bits n : ℕ) (es : Elements) (o : Option ℕ) → optional_number_at bits n es ≡ Some o → MayHaveNumber bits n o es
 unfolding optional_number_at
-may_have_number bits n es o h = may_have_step bits n es o (field_of n es) refl h
+may_have_number bits n es o h = may_have_step bits n es o (field_in n es) refl h
 
 pub optional_number_read : (bits n : ℕ) (es : Elements) (o : Option ℕ) → MayHaveNumber bits n o es → optional_number_at bits n es ≡ Some o
 unfolding optional_number_at
 optional_number_read bits n es None h = rw (field_none n es h) refl
 optional_number_read bits n es (Some k) h = rw (field_only n es (uint k) h.0, number_only bits k h.1) refl
 
-may_be_step : (n : ℕ) (es : Elements) (b : Bool) (there : Option Tree) → field_of n es ≡ there → optional_truth_in there ≡ Some b → MayHaveTruth n b es
+may_be_step : (n : ℕ) (es : Elements) (b : Bool) (there : Option Tree) → field_in n es ≡ there → optional_truth_in there ≡ Some b → MayHaveTruth n b es
 may_be_step n es true None e h = absurd cc
 may_be_step n es false None e h = inr (field_missing n es e)
 may_be_step n es true (Some v) e h = field_found n es (bool true) (e ∙ ap Some (truth_found v true h))
@@ -161,7 +158,7 @@ may_be_step n es false (Some v) e h = inl (field_found n es (bool false) (e ∙ 
 
 pub may_have_truth : (n : ℕ) (es : Elements) (b : Bool) → optional_truth_at n es ≡ Some b → MayHaveTruth n b es
 unfolding optional_truth_at
-may_have_truth n es b h = may_be_step n es b (field_of n es) refl h
+may_have_truth n es b h = may_be_step n es b (field_in n es) refl h
 
 pub optional_truth_read : (n : ℕ) (es : Elements) (b : Bool) → MayHaveTruth n b es → optional_truth_at n es ≡ Some b
 unfolding optional_truth_at
@@ -200,23 +197,23 @@ module _ {X : Type 0} (read : Tree → Option X) (Spells : X → Tree → Type 0
   blocks_read (more tag v es) [] h = absurd h
   blocks_read (more tag v es) (x ∷ xs) h = rw (ties.only v x h.0, blocks_read es xs h.1) refl
 
-  has_array : (n : ℕ) (es : Elements) (xs : List X) (v : Tree) → field_of n es ≡ Some v → blocks_in read v ≡ Some xs → HasBlocks n Spells xs es
+  has_array : (n : ℕ) (es : Elements) (xs : List X) (v : Tree) → field_in n es ≡ Some v → blocks_in read v ≡ Some xs → HasBlocks n Spells xs es
   has_array n es xs v e h =
       let p = bind_some (array_in v) (blocks_of read) xs h in
       (p.0, field_found n es (array p.0) (e ∙ ap Some (array_found v p.0 p.1)), are_blocks p.0 xs p.2)
 
   pub has_blocks : (n : ℕ) (es : Elements) (xs : List X) → required_at (blocks_in read) n es ≡ Some xs → HasBlocks n Spells xs es
-  has_blocks n es xs h = let p = bind_some (field_of n es) (blocks_in read) xs h in has_array n es xs p.0 p.1 p.2
+  has_blocks n es xs h = let p = bind_some (field_in n es) (blocks_in read) xs h in has_array n es xs p.0 p.1 p.2
 
   pub required_blocks_read : (n : ℕ) (es : Elements) (xs : List X) → HasBlocks n Spells xs es → required_at (blocks_in read) n es ≡ Some xs
   required_blocks_read n es xs h = required_only (blocks_in read) n es (array h.0) h.1 ∙ blocks_read h.0 xs h.2
 
-  may_have_array : (n : ℕ) (es : Elements) (xs : List X) (there : Option Tree) → field_of n es ≡ there → optional_blocks_in read there ≡ Some xs → MayHaveBlocks n Spells xs es
+  may_have_array : (n : ℕ) (es : Elements) (xs : List X) (there : Option Tree) → field_in n es ≡ there → optional_blocks_in read there ≡ Some xs → MayHaveBlocks n Spells xs es
   may_have_array n es xs None e h = inr (field_missing n es e, cc)
   may_have_array n es xs (Some v) e h = inl (has_array n es xs v e h)
 
   pub may_have_blocks : (n : ℕ) (es : Elements) (xs : List X) → optional_blocks_at read n es ≡ Some xs → MayHaveBlocks n Spells xs es
-  may_have_blocks n es xs h = may_have_array n es xs (field_of n es) refl h
+  may_have_blocks n es xs h = may_have_array n es xs (field_in n es) refl h
 
   pub optional_blocks_read : (n : ℕ) (es : Elements) (xs : List X) → MayHaveBlocks n Spells xs es → optional_blocks_at read n es ≡ Some xs
   optional_blocks_read n es xs (inl h) = rw (field_only n es (array h.0) h.1) (blocks_read h.0 xs h.2)

@@ -11,7 +11,8 @@ use Rattle.mt_im.specs.declared.fault.ImFault.TheVariants.{Missing, Form, TooMan
 use Rattle.mt_im.specs.declared.messages.Kind.{Kind}
 use Rattle.mt_im.specs.declared.messages.Kind.TheVariants as kinds
 use Rattle.mt_im.specs.Fields.{greatest}
-use Rattle.mt_im.specs.Blocks.{field_of, number_in, unsigned_in, truth_in, required_at, optional_truth_at, not_true, blocks_in, optional_blocks_at, attribute_path_in, event_path_in, event_filter_in, version_filter_in, write_item_in, command_in}
+use Rattle.mt_im.specs.Blocks.{number_in, unsigned_in, truth_in, required_at, optional_truth_at, not_true, blocks_in, optional_blocks_at, attribute_path_in, event_path_in, event_filter_in, version_filter_in, write_item_in, command_in}
+use Rattle.mt_model.specs.Trees.{field_in}
 use Rattle.mt_im.specs.Faults.{required, missing, if_malformed, malformed, IsLowest}
 use Rattle.mt_im.specs.Reading.{◌>>=◌, form, require, within, selection_at, status_at, read_at, subscribe_at, write_at, invoke_at, timed_at, fields_at}
 
@@ -66,13 +67,13 @@ fault_of [] = Ok tt
 fault_of (n ∷ ns) = Err (Missing n)
 
 abbrev lacking_of : List ℕ → Elements → List ℕ
-lacking_of ns es = filter (λ n. is_none (field_of n es)) ns
+lacking_of ns es = filter (λ n. is_none (field_in n es)) ns
 
 require_is : (ns : List ℕ) (es : Elements) → require ns es ≡ fault_of (lacking_of ns es)
 unfolding require
 require_is [] es = refl
 require_is (n ∷ ns) es =
-    elim (field_of n es) as (λ o. (if is_some o then require ns es else Err (Missing n)) ≡ fault_of (if is_none o then n ∷ lacking_of ns es else lacking_of ns es)) [
+    elim (field_in n es) as (λ o. (if is_some o then require ns es else Err (Missing n)) ≡ fault_of (if is_none o then n ∷ lacking_of ns es else lacking_of ns es)) [
       | None ↦ refl
       | Some v ↦ require_is ns es
     ]
@@ -261,7 +262,7 @@ form_told read (m ∷ ms) bad n h first = absurd cc
 
 pub lowest_missing : (kind : Kind) (es : Elements) (n : ℕ) → (fields_at kind es ≡ Err (Missing n)) ↔ IsLowest n (missing kind es)
 lowest_missing kind es n =
-    let rises = rises_filter (λ m. is_none (field_of m es)) 0 (required kind) (required_rises kind) in (
+    let rises = rises_filter (λ m. is_none (field_in m es)) 0 (required kind) (required_rises kind) in (
       λ e. first_is_lowest 0 n (missing kind es) rises (missing_only (fields_at kind es) (missing kind es) (malformed kind es) n (fields_tell kind es) e),
       λ lowest. missing_told (fields_at kind es) (missing kind es) (malformed kind es) n (fields_tell kind es) (lowest_is_first 0 n (missing kind es) rises lowest),
     )

@@ -2,6 +2,7 @@
 use Rattle.std.proofs.Common.{◌≡◌, ◌∙◌, sym, subst, ap, ℕ, ◌+◌, ◌≤◌, nat_le, Bool, true, false, List, [], ◌∷◌, length, Option, Some, None, Result, Ok, Err, refl, if◌then◌else◌}
 use Rattle.std.proofs.lemmas.Bool.{leb-true, le-leb}
 use Rattle.mt_tlv.specs.Tree.{Tree, uint, bool, array, Elements, none, more}
+use Rattle.mt_tlv.specs.View.{tree, value_of}
 use Rattle.mt_tlv.specs.declared.value.Value.{Value}
 use Rattle.mt_model.specs.declared.limits.TheConstants.{PATHS, WRITE_ITEMS}
 use Rattle.mt_model.specs.declared.messages.message.Path.{Path}
@@ -239,100 +240,102 @@ subscribe_only es keep floor ceiling paths events minimum filtered versions numb
       field_only 255 es (uint number) revision,
     ) (within_only (length paths + length events) PATHS _ few)
 
-pub write_found : (es : Elements) (request : Request) → write_at es ≡ Ok request → IsReadFrom WRITE_REQUEST request es
-unfolding write_at
-write_found es request h =
-    let needed = bind_ok (require (1 ∷ 2 ∷ 255 ∷ []) es) _ request h in
-    let suppress = bind_ok (form 0 (optional_truth_at 0 es)) _ request needed.2 in
-    let timed = bind_ok (field_at truth_in 1 es) _ request suppress.2 in
-    let items = bind_ok (field_at (blocks_in write_item_in) 2 es) _ request timed.2 in
-    let chunks = bind_ok (form 3 (not_true (optional_truth_at 3 es))) _ request items.2 in
-    let number = bind_ok (revision_at es) _ request chunks.2 in
-    let few = within_found (length items.0) WRITE_ITEMS (requests.Write suppress.0 timed.0 items.0) request number.2 in
-    subst (λ (r : Request). IsReadFrom WRITE_REQUEST r es) few.1 (record {
-      number = number.0;
-      revision = revision_found es number.0 number.1;
-      code = refl;
-      table = record {
-        suppress_response = may_have_truth 0 es suppress.0 (form_ok 0 _ suppress.0 suppress.1);
-        timed_request = has_truth 1 es timed.0 (form_ok 1 _ timed.0 timed.1);
-        writes = has_blocks write_item_in AttributeDataSpells write_item_ties 2 es items.0 (form_ok 2 _ items.0 items.1);
-        more_chunks = must_be_false 3 es chunks.0 (form_ok 3 _ chunks.0 chunks.1);
-      };
-      in_limits = few.0;
-    })
+-- By the law of values and their trees.
+module _ (tree_value : (t : Tree) → tree (value_of t) ≡ t) (value_tree : (v : Value) → value_of (tree v) ≡ v) where
+  pub write_found : (es : Elements) (request : Request) → write_at es ≡ Ok request → IsReadFrom WRITE_REQUEST request es
+  unfolding write_at
+  write_found es request h =
+      let needed = bind_ok (require (1 ∷ 2 ∷ 255 ∷ []) es) _ request h in
+      let suppress = bind_ok (form 0 (optional_truth_at 0 es)) _ request needed.2 in
+      let timed = bind_ok (field_at truth_in 1 es) _ request suppress.2 in
+      let items = bind_ok (field_at (blocks_in write_item_in) 2 es) _ request timed.2 in
+      let chunks = bind_ok (form 3 (not_true (optional_truth_at 3 es))) _ request items.2 in
+      let number = bind_ok (revision_at es) _ request chunks.2 in
+      let few = within_found (length items.0) WRITE_ITEMS (requests.Write suppress.0 timed.0 items.0) request number.2 in
+      subst (λ (r : Request). IsReadFrom WRITE_REQUEST r es) few.1 (record {
+        number = number.0;
+        revision = revision_found es number.0 number.1;
+        code = refl;
+        table = record {
+          suppress_response = may_have_truth 0 es suppress.0 (form_ok 0 _ suppress.0 suppress.1);
+          timed_request = has_truth 1 es timed.0 (form_ok 1 _ timed.0 timed.1);
+          writes = has_blocks write_item_in AttributeDataSpells (write_item_ties tree_value value_tree) 2 es items.0 (form_ok 2 _ items.0 items.1);
+          more_chunks = must_be_false 3 es chunks.0 (form_ok 3 _ chunks.0 chunks.1);
+        };
+        in_limits = few.0;
+      })
 
-pub write_only : (es : Elements) (suppress timed : Bool) (items : List WriteItem) (number : ℕ) → FieldsSpell (requests.Write suppress timed items) es
-    → HasField 255 (uint number) es → length items ≤ WRITE_ITEMS → write_at es ≡ Ok (requests.Write suppress timed items)
-unfolding write_at
-write_only es suppress timed items number t revision few =
-    rw (
-      require_more 1 (2 ∷ 255 ∷ []) es (bool timed) t.timed_request (require_more 2 (255 ∷ []) es (array t.writes.0) t.writes.1 (require_revision es number revision)),
-      optional_truth_read 0 es suppress t.suppress_response,
-      field_only 1 es (bool timed) t.timed_request,
-      required_blocks_read write_item_in AttributeDataSpells write_item_ties 2 es items t.writes,
-      optional_truth_read 3 es false t.more_chunks,
-      field_only 255 es (uint number) revision,
-    ) (within_only (length items) WRITE_ITEMS _ few)
+  pub write_only : (es : Elements) (suppress timed : Bool) (items : List WriteItem) (number : ℕ) → FieldsSpell (requests.Write suppress timed items) es
+      → HasField 255 (uint number) es → length items ≤ WRITE_ITEMS → write_at es ≡ Ok (requests.Write suppress timed items)
+  unfolding write_at
+  write_only es suppress timed items number t revision few =
+      rw (
+        require_more 1 (2 ∷ 255 ∷ []) es (bool timed) t.timed_request (require_more 2 (255 ∷ []) es (array t.writes.0) t.writes.1 (require_revision es number revision)),
+        optional_truth_read 0 es suppress t.suppress_response,
+        field_only 1 es (bool timed) t.timed_request,
+        required_blocks_read write_item_in AttributeDataSpells (write_item_ties tree_value value_tree) 2 es items t.writes,
+        optional_truth_read 3 es false t.more_chunks,
+        field_only 255 es (uint number) revision,
+      ) (within_only (length items) WRITE_ITEMS _ few)
 
--- the one command among members
-one_command : (es : Elements) (command : Place × Value) → command_among es ≡ Some command → blocks_of command_data_in es ≡ Some (command ∷ [])
-unfolding blocks_of
-one_command none command h = absurd cc
-one_command (more tag v none) command h = rw h refl
-one_command (more tag v (more other w es)) command h = absurd cc
+  -- the one command among members
+  one_command : (es : Elements) (command : Place × Value) → command_among es ≡ Some command → blocks_of command_data_in es ≡ Some (command ∷ [])
+  unfolding blocks_of
+  one_command none command h = absurd cc
+  one_command (more tag v none) command h = rw h refl
+  one_command (more tag v (more other w es)) command h = absurd cc
 
-command_found : (es : Elements) (command : Place × Value) → required_at command_in 2 es ≡ Some command → HasBlocks 2 CommandDataSpells (command ∷ []) es
-command_found es command h =
-    let v = required_found command_in 2 es command h in
-    let inner = bind_some (array_in v.0) command_among command v.2 in (
-      inner.0,
-      subst (λ (x : Tree). HasField 2 x es) (array_found v.0 inner.0 inner.1) v.1,
-      are_blocks command_data_in CommandDataSpells command_data_ties inner.0 (command ∷ []) (one_command inner.0 command inner.2),
-    )
+  command_found : (es : Elements) (command : Place × Value) → required_at command_in 2 es ≡ Some command → HasBlocks 2 CommandDataSpells (command ∷ []) es
+  command_found es command h =
+      let v = required_found command_in 2 es command h in
+      let inner = bind_some (array_in v.0) command_among command v.2 in (
+        inner.0,
+        subst (λ (x : Tree). HasField 2 x es) (array_found v.0 inner.0 inner.1) v.1,
+        are_blocks command_data_in CommandDataSpells (command_data_ties tree_value value_tree) inner.0 (command ∷ []) (one_command inner.0 command inner.2),
+      )
 
-command_among_only : (inner : Elements) (command : Place × Value) → AreBlocks CommandDataSpells (command ∷ []) inner → command_among inner ≡ Some command
-command_among_only none command h = absurd h
-command_among_only (more tag v none) command h = command_data_ties.only v command h.0
-command_among_only (more tag v (more other w es)) command h = absurd h.1
+  command_among_only : (inner : Elements) (command : Place × Value) → AreBlocks CommandDataSpells (command ∷ []) inner → command_among inner ≡ Some command
+  command_among_only none command h = absurd h
+  command_among_only (more tag v none) command h = (command_data_ties tree_value value_tree).only v command h.0
+  command_among_only (more tag v (more other w es)) command h = absurd h.1
 
-command_only : (es : Elements) (command : Place × Value) → HasBlocks 2 CommandDataSpells (command ∷ []) es → required_at command_in 2 es ≡ Some command
-command_only es command h = required_only command_in 2 es (array h.0) h.1 ∙ command_among_only h.0 command h.2
+  command_only : (es : Elements) (command : Place × Value) → HasBlocks 2 CommandDataSpells (command ∷ []) es → required_at command_in 2 es ≡ Some command
+  command_only es command h = required_only command_in 2 es (array h.0) h.1 ∙ command_among_only h.0 command h.2
 
-pub invoke_found : (es : Elements) (request : Request) → invoke_at es ≡ Ok request → IsReadFrom INVOKE_REQUEST request es
-unfolding invoke_at
-invoke_found es request h =
-    let needed = bind_ok (require (0 ∷ 1 ∷ 2 ∷ 255 ∷ []) es) _ request h in
-    let suppress = bind_ok (field_at truth_in 0 es) _ request needed.2 in
-    let timed = bind_ok (field_at truth_in 1 es) _ request suppress.2 in
-    let command = bind_ok (field_at command_in 2 es) _ request timed.2 in
-    let number = bind_ok (revision_at es) _ request command.2 in
-    let same : requests.Invoke suppress.0 timed.0 command.0.0 command.0.1 ≡ request = cc in
-    subst (λ (r : Request). IsReadFrom INVOKE_REQUEST r es) same (record {
-      number = number.0;
-      revision = revision_found es number.0 number.1;
-      code = refl;
-      table = record {
-        suppress_response = has_truth 0 es suppress.0 (form_ok 0 _ suppress.0 suppress.1);
-        timed_request = has_truth 1 es timed.0 (form_ok 1 _ timed.0 timed.1);
-        invokes = command_found es command.0 (form_ok 2 _ command.0 command.1);
-      };
-      in_limits = tt;
-    })
+  pub invoke_found : (es : Elements) (request : Request) → invoke_at es ≡ Ok request → IsReadFrom INVOKE_REQUEST request es
+  unfolding invoke_at
+  invoke_found es request h =
+      let needed = bind_ok (require (0 ∷ 1 ∷ 2 ∷ 255 ∷ []) es) _ request h in
+      let suppress = bind_ok (field_at truth_in 0 es) _ request needed.2 in
+      let timed = bind_ok (field_at truth_in 1 es) _ request suppress.2 in
+      let command = bind_ok (field_at command_in 2 es) _ request timed.2 in
+      let number = bind_ok (revision_at es) _ request command.2 in
+      let same : requests.Invoke suppress.0 timed.0 command.0.0 command.0.1 ≡ request = cc in
+      subst (λ (r : Request). IsReadFrom INVOKE_REQUEST r es) same (record {
+        number = number.0;
+        revision = revision_found es number.0 number.1;
+        code = refl;
+        table = record {
+          suppress_response = has_truth 0 es suppress.0 (form_ok 0 _ suppress.0 suppress.1);
+          timed_request = has_truth 1 es timed.0 (form_ok 1 _ timed.0 timed.1);
+          invokes = command_found es command.0 (form_ok 2 _ command.0 command.1);
+        };
+        in_limits = tt;
+      })
 
-pub invoke_only : (es : Elements) (suppress timed : Bool) (command : Place) (fields : Value) (number : ℕ) → FieldsSpell (requests.Invoke suppress timed command fields) es
-    → HasField 255 (uint number) es → invoke_at es ≡ Ok (requests.Invoke suppress timed command fields)
-unfolding invoke_at
-invoke_only es suppress timed command fields number t revision =
-    rw (
-      require_more 0 (1 ∷ 2 ∷ 255 ∷ []) es (bool suppress) t.suppress_response
-          (require_more 1 (2 ∷ 255 ∷ []) es (bool timed) t.timed_request
-          (require_more 2 (255 ∷ []) es (array t.invokes.0) t.invokes.1 (require_revision es number revision))),
-      field_only 0 es (bool suppress) t.suppress_response,
-      field_only 1 es (bool timed) t.timed_request,
-      command_only es (command, fields) t.invokes,
-      field_only 255 es (uint number) revision,
-    ) refl
+  pub invoke_only : (es : Elements) (suppress timed : Bool) (command : Place) (fields : Value) (number : ℕ) → FieldsSpell (requests.Invoke suppress timed command fields) es
+      → HasField 255 (uint number) es → invoke_at es ≡ Ok (requests.Invoke suppress timed command fields)
+  unfolding invoke_at
+  invoke_only es suppress timed command fields number t revision =
+      rw (
+        require_more 0 (1 ∷ 2 ∷ 255 ∷ []) es (bool suppress) t.suppress_response
+            (require_more 1 (2 ∷ 255 ∷ []) es (bool timed) t.timed_request
+            (require_more 2 (255 ∷ []) es (array t.invokes.0) t.invokes.1 (require_revision es number revision))),
+        field_only 0 es (bool suppress) t.suppress_response,
+        field_only 1 es (bool timed) t.timed_request,
+        command_only es (command, fields) t.invokes,
+        field_only 255 es (uint number) revision,
+      ) refl
 
 pub timed_found : (es : Elements) (request : Request) → timed_at es ≡ Ok request → IsReadFrom TIMED_REQUEST request es
 unfolding timed_at

@@ -1,11 +1,10 @@
 -- Reading fields and blocks: what they hold, or None where they are malformed.
 use Rattle.std.specs.Prelude.{ℕ, ◌^◌, Bool, true, false, ◌&&◌, ◌==◌, nat_lt, List, [], ◌∷◌, Option, Some, None, is_some, if◌then◌else◌}
-use Rattle.mt_tlv.specs.declared.value.Tag.{Tag}
-use Rattle.mt_tlv.specs.declared.value.Tag.TheVariants.{Anonymous, Context, Common, Implicit, Full}
 use Rattle.mt_tlv.specs.declared.value.Value.{Value}
 use Rattle.mt_tlv.specs.declared.value.Value.TheVariants as values
 use Rattle.mt_tlv.specs.Tree.{Tree, int, uint, bool, text, octets, null, bits32, bits64, structure, array, list, Elements, none, more}
-use Rattle.mt_model.specs.Trees.{value_of}
+use Rattle.mt_tlv.specs.View.{value_of}
+use Rattle.mt_model.specs.Trees.{field_in, structure_in}
 use Rattle.mt_model.specs.declared.messages.message.Index.{Index}
 use Rattle.mt_model.specs.declared.messages.message.Index.TheVariants.{Whole, Append, At}
 use Rattle.mt_model.specs.declared.messages.message.Path.{Path}
@@ -19,19 +18,6 @@ None >>= f = None
 (Some x) >>= f = f x
 
 -- ---- fields
-
--- whether a tag is the context tag of this number
-abbrev pub is_context : ℕ → Tag → Bool
-is_context n Anonymous = false
-is_context n (Context k) = k == n
-is_context n (Common k) = false
-is_context n (Implicit k) = false
-is_context n (Full v p k) = false
-
--- the first field of this number
-unfoldable pub field_of : ℕ → Elements → Option Tree
-field_of n none = None
-field_of n (more tag v es) = if is_context n tag then Some v else field_of n es
 
 -- an unsigned number of at most this many bits
 abbrev pub number_in : ℕ → Tree → Option ℕ
@@ -47,11 +33,6 @@ abbrev pub truth_in : Tree → Option Bool
 truth_in (bool b) = Some b
 truth_in v = None
 
--- the members of a structure
-abbrev pub structure_in : Tree → Option Elements
-structure_in (structure es) = Some es
-structure_in v = None
-
 -- the members of a list
 abbrev pub list_in : Tree → Option Elements
 list_in (list es) = Some es
@@ -64,7 +45,7 @@ array_in v = None
 
 -- a field that must be there
 abbrev pub required_at : {X : Type 0} → (Tree → Option X) → ℕ → Elements → Option X
-required_at read n es = field_of n es >>= read
+required_at read n es = field_in n es >>= read
 
 -- a number that must be there
 unfoldable pub number_at : ℕ → ℕ → Elements → Option ℕ
@@ -76,7 +57,7 @@ optional_number_in bits (Some v) = number_in bits v >>= λ number. Some (Some nu
 
 -- a number that may be missing
 unfoldable pub optional_number_at : ℕ → ℕ → Elements → Option (Option ℕ)
-optional_number_at bits n es = optional_number_in bits (field_of n es)
+optional_number_at bits n es = optional_number_in bits (field_in n es)
 
 abbrev pub optional_truth_in : Option Tree → Option Bool
 optional_truth_in None = Some false
@@ -84,7 +65,7 @@ optional_truth_in (Some v) = truth_in v
 
 -- a truth value that may be missing
 unfoldable pub optional_truth_at : ℕ → Elements → Option Bool
-optional_truth_at n es = optional_truth_in (field_of n es)
+optional_truth_at n es = optional_truth_in (field_in n es)
 
 -- an optional truth value that must not be true
 abbrev pub not_true : Option Bool → Option (Unit {0})
@@ -107,7 +88,7 @@ optional_blocks_in read (Some v) = blocks_in read v
 
 -- an array of blocks that may be missing
 abbrev pub optional_blocks_at : {X : Type 0} → (Tree → Option X) → ℕ → Elements → Option (List X)
-optional_blocks_at read n es = optional_blocks_in read (field_of n es)
+optional_blocks_at read n es = optional_blocks_in read (field_in n es)
 
 -- ---- blocks
 
@@ -118,7 +99,7 @@ index_in (Some v) = number_in 16 v >>= λ n. Some (At n)
 
 -- the list index of a path
 unfoldable pub index_at : Elements → Option Index
-index_at es = index_in (field_of 5 es)
+index_at es = index_in (field_in 5 es)
 
 -- AttributePath
 unfoldable pub attribute_path_in : Tree → Option Path
@@ -172,7 +153,7 @@ write_item_in v =
     structure_in v >>= λ es.
     optional_number_at 32 0 es >>= λ version.
     required_at concrete_path_in 1 es >>= λ path.
-    field_of 2 es >>= λ value.
+    field_in 2 es >>= λ value.
     Some (record { path = path; version = version; value = value_of value })
 
 -- CommandPath
@@ -194,7 +175,7 @@ unfoldable pub command_data_in : Tree → Option (Place × Value)
 command_data_in v =
     structure_in v >>= λ es.
     required_at command_path_in 0 es >>= λ command.
-    Some (command, arguments_in (field_of 1 es))
+    Some (command, arguments_in (field_in 1 es))
 
 -- the one member
 abbrev pub only_member : Elements → Option Tree

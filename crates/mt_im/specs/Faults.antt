@@ -3,7 +3,8 @@ use Rattle.std.specs.Prelude.{ℕ, ◌≤◌, List, [], ◌∷◌, Option, Some,
 use Rattle.mt_tlv.specs.Tree.{Elements}
 use Rattle.mt_im.specs.declared.messages.Kind.{Kind}
 use Rattle.mt_im.specs.declared.messages.Kind.TheVariants as kinds
-use Rattle.mt_im.specs.Blocks.{field_of, number_in, unsigned_in, truth_in, required_at, optional_truth_at, not_true, blocks_in, optional_blocks_at, attribute_path_in, event_path_in, event_filter_in, version_filter_in, write_item_in, command_in}
+use Rattle.mt_im.specs.Blocks.{number_in, unsigned_in, truth_in, required_at, optional_truth_at, not_true, blocks_in, optional_blocks_at, attribute_path_in, event_path_in, event_filter_in, version_filter_in, write_item_in, command_in}
+use Rattle.mt_model.specs.Trees.{field_in}
 
 -- the fields that a message must have
 abbrev pub required : Kind → List ℕ
@@ -16,7 +17,7 @@ required kinds.Timed = 0 ∷ 255 ∷ []
 
 -- those of them that it lacks
 abbrev pub missing : Kind → Elements → List ℕ
-missing kind es = filter (λ n. is_none (field_of n es)) (required kind)
+missing kind es = filter (λ n. is_none (field_in n es)) (required kind)
 
 -- a tag, in front of others, where what is read under it has another form
 abbrev pub if_malformed : {X : Type 0} → ℕ → Option X → List ℕ → List ℕ

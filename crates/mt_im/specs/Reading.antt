@@ -16,7 +16,8 @@ use Rattle.mt_im.specs.declared.messages.Kind.{Kind}
 use Rattle.mt_im.specs.declared.messages.Kind.TheVariants as kinds
 use Rattle.mt_im.specs.declared.messages.Selection.{Selection}
 use Rattle.mt_im.specs.Fields.{greatest}
-use Rattle.mt_im.specs.Blocks.{field_of, number_in, unsigned_in, truth_in, structure_in, required_at, optional_truth_at, not_true, blocks_in, optional_blocks_at, attribute_path_in, event_path_in, event_filter_in, version_filter_in, write_item_in, command_in}
+use Rattle.mt_im.specs.Blocks.{number_in, unsigned_in, truth_in, required_at, optional_truth_at, not_true, blocks_in, optional_blocks_at, attribute_path_in, event_path_in, event_filter_in, version_filter_in, write_item_in, command_in}
+use Rattle.mt_model.specs.Trees.{field_in, structure_in}
 
 infixl 10 ◌>>=◌
 abbrev pub ◌>>=◌ : {A B : Type 0} → Result A ImFault → (A → Result B ImFault) → Result B ImFault
@@ -36,7 +37,7 @@ form n (Some x) = Ok x
 -- the first of these fields that is missing
 unfoldable pub require : List ℕ → Elements → Result (Unit {0}) ImFault
 require [] es = Ok tt
-require (n ∷ ns) es = if is_some (field_of n es) then require ns es else Err (Missing n)
+require (n ∷ ns) es = if is_some (field_in n es) then require ns es else Err (Missing n)
 
 -- a field that is there
 abbrev pub field_at : {X : Type 0} → (Tree → Option X) → ℕ → Elements → Result X ImFault

@@ -8,8 +8,8 @@ ghost use Rattle.mt_im.specs.Reading.{Gives, form, blocks_at, minimum_at, minimu
 
 use crate::blocks::{attribute_path, event_filter, event_path, version_filter, write_item};
 use crate::fault::ImFault;
-use crate::fields::{array_of, field};
-use mt_model::{Paths, Versions, Writes};
+use crate::fields::array_of;
+use mt_model::{Paths, Versions, Writes, field};
 use mt_tlv::{Tag, Value};
 use std::alloc::Global;
 use std::mem;

@@ -6,10 +6,9 @@ ghost use Rattle.mt_tlv.specs.View.{tree, elements};
 ghost use Rattle.mt_im.specs.Blocks.{index_at, attribute_path_in, event_path_in, event_filter_in, version_in, version_filter_in, is_concrete as is_concrete_path, concrete_path_in, write_item_in, command_path_in, command_data_in};
 
 use crate::fields::{
-    field, list_of, optional_truth, optional_u16, optional_u32, structure_of, take_field, u16_at,
-    u16_of, u32_at, u64_of,
+    list_of, optional_truth, optional_u16, optional_u32, u16_at, u16_of, u32_at, u64_of,
 };
-use mt_model::{Index, Path, Place, Version, WriteItem};
+use mt_model::{Index, Path, Place, Version, WriteItem, field, structure_of, take_field};
 use mt_tlv::{Members, Tag, Value};
 use std::alloc::Global;
 

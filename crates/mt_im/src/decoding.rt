@@ -15,7 +15,7 @@ ghost use Rattle.mt_im.specs.Reading.{Gives, message_in, request_in};
 use crate::fault::ImFault;
 use crate::messages::{kind_of, request_of};
 use mt_model::Request;
-use mt_tlv::{Tag, TlvFault, Value, element_is_read, read};
+use mt_tlv::{Tag, TlvFault, Value, element_is_read, read, values_are_trees};
 use std::alloc::Global;
 
 /// Decodes the request with this opcode that stands in front of the bytes, whatever follows it. Of several
@@ -31,6 +31,7 @@ pub fn decode(alloc: Global, opcode: u8, bytes: &[u8]) -> Result<Request, ImFaul
     ensures memory_alone { IfErr result (λ fault. fault ≢ Tlv tlv.Memory) }
 {
     element_is_read();
+    values_are_trees();
     request_in_front(alloc, opcode, bytes)
 }
 
@@ -39,6 +40,7 @@ fn request_in_front(alloc: Global, opcode: u8, bytes: &[u8]) -> Result<Request, 
     ensures exact { Gives (λ x. x) result (request_in opcode bytes.now) }
     ensures memory_alone { IfErr result (λ fault. fault ≢ Tlv tlv.Memory) }
 {
+    values_are_trees();
     let kind = kind_of(opcode)?;
     request_of(alloc, kind, message(alloc, bytes)?)
 }

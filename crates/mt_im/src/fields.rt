@@ -1,63 +1,17 @@
 //! Fields by their tags, and what they hold.
 
-ghost use Rattle.std.specs.Prelude.{◌≡◌, ◌<◌, ℕ, length, Some, None, MatchOption, slice_index_or, option_map};
-ghost use Rattle.mt_tlv.specs.declared.value.Tag.{Tag};
-ghost use Rattle.mt_tlv.specs.declared.value.Value.{Value};
+ghost use Rattle.std.specs.Prelude.{◌≡◌, option_map};
 ghost use Rattle.mt_tlv.specs.View.{tree, elements};
-ghost use Rattle.mt_im.specs.Blocks.{is_context as is_context_tag, field_of, number_in, unsigned_in, truth_in, structure_in, list_in, array_in, number_at, optional_number_at, optional_truth_at};
+ghost use Rattle.mt_im.specs.Blocks.{number_in, unsigned_in, truth_in, list_in, array_in, number_at, optional_number_at, optional_truth_at};
+ghost use Rattle.mt_model.specs.Trees.{field_in};
 ghost use Rattle.mt_im.specs.Reading.{require as required_fields, field_at, revision_at};
 
 use crate::fault::ImFault;
+use mt_model::field;
 use mt_tlv::{Tag, Value};
 
 /// The revision, which every message has.
 const REVISION: u8 = 255;
-
-/// The first field of this number among the members of a message or a block. It takes no memory.
-pub fn field(members: &[(Tag, Value)], number: u8) -> Option<&Value>
-    ensures { option_map (λ value. tree value.now) result ≡ field_of number (elements members.now) }
-{
-    let i = place_of(members, number)?;
-    Some(&members[i].1)
-}
-
-/// The first field of this number, moved out of the members.
-pub(crate) fn take_field(mut members: Vec<(Tag, Value)>, number: u8) -> Option<Value>
-    ensures { option_map tree result ≡ field_of number (elements members.items) }
-{
-    let i = place_of(&members, number)?;
-    Some(members.swap_remove(i).1)
-}
-
-// The place of the first field of this number.
-fn place_of(members: &[(Tag, Value)], number: u8) -> Option<usize>
-    ensures { MatchOption result (field_of number (elements members.now) ≡ None)
-        (λ i. (i < length members.now) × ((d : Tag × Value) → field_of number (elements members.now) ≡ Some (tree (slice_index_or members.now i d).1))) }
-{
-    for (i, member) in members.iter().enumerate() {
-        if is_context(member.0, number) {
-            return Some(i);
-        }
-    }
-    None
-}
-
-// Whether a tag is the context tag of this number.
-fn is_context(tag: Tag, number: u8) -> bool
-    ensures { result ≡ is_context_tag number tag }
-{
-    tag == Tag::Context(number)
-}
-
-/// The members of a structure.
-pub(crate) fn structure_of(value: &Value) -> Option<&[(Tag, Value)]>
-    ensures { option_map (λ members. elements members.now) result ≡ structure_in (tree value.now) }
-{
-    match value {
-        Value::Struct(members) => Some(members.as_slice()),
-        _ => None,
-    }
-}
 
 /// The members of a list.
 pub(crate) fn list_of(value: &Value) -> Option<&[(Tag, Value)]>

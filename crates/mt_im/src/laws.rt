@@ -15,7 +15,7 @@ ghost use Rattle.mt_im.specs.Reading.{kind_of, message_in, request_at, request_i
 ghost use Rattle.mt_im.specs.Requests.{opcode_of, request_tree};
 ghost use Rattle.mt_im.specs.Spelling.{RequestSpells};
 
-use mt_tlv::{element_is_read, written_is_read};
+use mt_tlv::{element_is_read, values_are_trees, written_is_read};
 
 /// A request that a tree spells within the limits is read from the tree, in whatever order and widths it is
 /// spelled; and so it is from bytes, whatever follows it.
@@ -26,19 +26,24 @@ pub fn request_is_read()
         → request_in opcode bytes ≡ Ok request }
 {
     element_is_read();
+    values_are_trees();
 }
 
 /// What is read from a tree is a request that the tree spells, within the limits.
 pub fn request_is_spelled()
     ensures { (opcode : ℕ) (request : Request) (v : Tree) → request_at opcode v ≡ Ok request
         → RequestSpells opcode request v × IsWithinLimits request }
-{}
+{
+    values_are_trees();
+}
 
 /// Under one opcode a tree spells one request at most within the limits.
 pub fn no_other_request()
     ensures { (opcode : ℕ) (request other : Request) (v : Tree) → RequestSpells opcode request v → IsWithinLimits request
         → RequestSpells opcode other v → IsWithinLimits other → request ≡ other }
-{}
+{
+    values_are_trees();
+}
 
 /// The numbers and values of a request that an element spells fit what it is encoded as. So what was decoded
 /// can be encoded, where that is not too long.
@@ -52,6 +57,7 @@ pub fn encoded_is_decoded()
     ensures decoded { (request : Request) (rest : List ℕ) → IsRequest request
         → request_in (opcode_of request) (narrow Anonymous (request_tree request) ++ rest) ≡ Ok request }
 {
+    values_are_trees();
     written_is_read();
 }
 

@@ -20,7 +20,6 @@ mod messages;
 
 pub use decoding::decode;
 pub use fault::ImFault;
-pub use fields::field;
 pub use laws::{
     encoded_is_decoded, no_other_request, request_is_read, request_is_spelled, spelled_fits,
     the_lowest_tag_is_told,

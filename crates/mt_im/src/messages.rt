@@ -10,14 +10,12 @@ ghost use Rattle.mt_im.specs.Reading.{Gives, form, field_at, selection_at, statu
 use crate::arrays::{attribute_paths, event_paths, minimum, version_filters, write_items};
 use crate::blocks::command_data;
 use crate::fault::ImFault;
-use crate::fields::{
-    optional_truth, require, revision, take_field, truth_field, u8_field, u16_field,
-};
+use crate::fields::{optional_truth, require, revision, truth_field, u8_field, u16_field};
 use mt_model::limits::{PATHS, WRITE_ITEMS};
 use mt_model::opcode::{
     INVOKE_REQUEST, READ_REQUEST, STATUS_RESPONSE, SUBSCRIBE_REQUEST, TIMED_REQUEST, WRITE_REQUEST,
 };
-use mt_model::{Paths, Place, Request, Versions, Writes};
+use mt_model::{Paths, Place, Request, Versions, Writes, take_field};
 use mt_tlv::{Tag, Value};
 use std::alloc::Global;
 

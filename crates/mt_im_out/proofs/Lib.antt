@@ -6,4 +6,3 @@ pub mod Only
 pub mod Puts
 pub mod Splits
 pub mod Tails
-pub mod Values

@@ -6,7 +6,8 @@ use Rattle.std.proofs.lemmas.Bool.{le-leb}
 use Rattle.std.proofs.lemmas.Bool.Decides.{nat_tests}
 use Rattle.std.proofs.lemmas.List.{append-nil}
 use Rattle.mt_tlv.specs.declared.value.Value.TheVariants as values
-use Rattle.mt_tlv.specs.Tree.{Elements, none, more}
+use Rattle.mt_tlv.specs.Tree.{Tree, Elements, none, more}
+use Rattle.mt_tlv.specs.View.{tree, value_of}
 use Rattle.mt_model.specs.messages.Blocks.{item_block}
 use Rattle.mt_model.specs.declared.limits.TheConstants.{ITEM_BYTES}
 use Rattle.mt_model.specs.declared.messages.message.Index.TheVariants.{Whole}
@@ -15,7 +16,6 @@ use Rattle.mt_model.specs.declared.messages.message.Item.TheVariants as items
 use Rattle.mt_model.specs.declared.messages.message.Path.{Path}
 use Rattle.mt_im_out.specs.Chunks.{fit, appended, split_list, split_item}
 use Rattle.mt_im_out.specs.Greedy.{trees, brought}
-use Rattle.mt_im_out.proofs.Values.{tree_value}
 
 pub fit_alone : (x : Item) → fit (x ∷ []) ≡ nat_le (length (item_block x)) ITEM_BYTES
 fit_alone x = ap (λ z. nat_le (length z) ITEM_BYTES) (append-nil (item_block x))
@@ -38,15 +38,15 @@ pub long_splits : (path : Path) (version : ℕ) (es : Elements) → ITEM_BYTES <
 long_splits path version es h = ap (λ b. if b then items.Attribute path version (values.Array es) ∷ [] else items.Attribute path version (values.Array none) ∷ appended path version es)
     (fit_alone (items.Attribute path version (values.Array es)) ∙ too_long (length (item_block (items.Attribute path version (values.Array es)))) h)
 
--- what the items bring that stand for a list
+-- What the items bring that stand for a list, by the law that the tree of a tree's value is the tree.
+module _ (tree_value : (t : Tree) → tree (value_of t) ≡ t) where
+  brought_by_appended : (path : Path) (version : ℕ) (elements : Elements) → flat_map brought (appended path version elements) ≡ trees elements
+  brought_by_appended path version none = refl
+  brought_by_appended path version (more tag element elements) = rw (tree_value element) (ap (λ ts. element ∷ ts) (brought_by_appended path version elements))
 
-brought_by_appended : (path : Path) (version : ℕ) (elements : Elements) → flat_map brought (appended path version elements) ≡ trees elements
-brought_by_appended path version none = refl
-brought_by_appended path version (more tag element elements) = rw (tree_value element) (ap (λ ts. element ∷ ts) (brought_by_appended path version elements))
-
-pub brought_by_split : (path : Path) (version : ℕ) (elements : Elements) → path.index ≡ Whole → flat_map brought (split_list path version elements) ≡ trees elements
-brought_by_split path version elements e =
-    elim (fit (items.Attribute path version (values.Array elements) ∷ [])) as (λ b. flat_map brought (if b then items.Attribute path version (values.Array elements) ∷ [] else items.Attribute path version (values.Array none) ∷ appended path version elements) ≡ trees elements) [
-      | true ↦ rw e (append-nil (trees elements))
-      | false ↦ rw e (brought_by_appended path version elements)
-    ]
+  pub brought_by_split : (path : Path) (version : ℕ) (elements : Elements) → path.index ≡ Whole → flat_map brought (split_list path version elements) ≡ trees elements
+  brought_by_split path version elements e =
+      elim (fit (items.Attribute path version (values.Array elements) ∷ [])) as (λ b. flat_map brought (if b then items.Attribute path version (values.Array elements) ∷ [] else items.Attribute path version (values.Array none) ∷ appended path version elements) ≡ trees elements) [
+        | true ↦ rw e (append-nil (trees elements))
+        | false ↦ rw e (brought_by_appended path version elements)
+      ]

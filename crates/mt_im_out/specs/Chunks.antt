@@ -5,7 +5,7 @@ use Rattle.mt_tlv.specs.declared.value.Tag.TheVariants.{Anonymous}
 use Rattle.mt_tlv.specs.declared.value.Value.TheVariants as values
 use Rattle.mt_tlv.specs.Tree.{Tree, Elements, none, more}
 use Rattle.mt_tlv.specs.Narrow.{narrow, narrow_elements}
-use Rattle.mt_model.specs.Trees.{value_of}
+use Rattle.mt_tlv.specs.View.{value_of}
 use Rattle.mt_model.specs.declared.limits.TheConstants.{ITEM_BYTES}
 use Rattle.mt_model.specs.declared.messages.message.Index.TheVariants.{Append}
 use Rattle.mt_model.specs.declared.messages.message.Item.{Item}

@@ -8,7 +8,8 @@ ghost use Rattle.mt_model.specs.messages.Blocks.{path_tree, event_path_tree, pat
 ghost use Rattle.mt_im.specs.Requests.{command_path_tree, command_tree};
 
 use crate::fields::{
-    LIST, STRUCTURE, close, open, open_field, write_endpoint, write_number, write_optional,
+    LIST, NULL, STRUCTURE, close, close_both, open, open_field, open_within, write_endpoint,
+    write_number, write_optional,
 };
 use mt_model::{Happened, Index, Item, Path, Place};
 use mt_tlv::{Tag, Value, write};
@@ -31,7 +32,7 @@ fn write_index(index: Index, out: &mut Vec<u8>) -> Result<(), AllocError>
 {
     match index {
         Index::Whole => Ok(()),
-        Index::Append => write(&Tag::Context(5), &Value::Null, out),
+        Index::Append => open_field(5, NULL, out),
         Index::At(number) => write_number(5, number as u64, out),
     }
 }
@@ -109,14 +110,12 @@ pub fn write_attribute(
 ) -> Result<(), AllocError>
     ensures { OnOk result (out.new.items ≡ out.old.items ++ item_block (items.Attribute path.now version value.now)) }
 {
-    open(STRUCTURE, out)?;
-    open_field(1, STRUCTURE, out)?;
+    open_within(1, out)?;
     write_number(0, version as u64, out)?;
     open_field(1, LIST, out)?;
     write_path(path, out)?;
     write(&Tag::Context(2), value, out)?;
-    close(out)?;
-    close(out)
+    close_both(out)
 }
 
 /// The block of a refused attribute path.

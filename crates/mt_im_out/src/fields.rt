@@ -8,7 +8,7 @@ ghost use Rattle.mt_model.specs.messages.Blocks.{optional_number};
 ghost use Rattle.mt_im.specs.Requests.{revision};
 ghost use Rattle.mt_im_out.specs.Messages.{optional_truth};
 
-use mt_tlv::{Tag, Value, write};
+use mt_tlv::{Tag, write_unsigned};
 use std::alloc::AllocError;
 
 /// The element type of a structure.
@@ -19,6 +19,14 @@ pub const ARRAY: u8 = 0x16;
 
 /// The element type of a list.
 pub const LIST: u8 = 0x17;
+
+/// The element type of null, which is whole with its tag.
+pub const NULL: u8 = 0x14;
+
+// The element types of the truth values, which are whole with their tag.
+const FALSE: u8 = 0x08;
+
+const TRUE: u8 = 0x09;
 
 // The element type that ends a container.
 const END: u8 = 0x18;
@@ -34,14 +42,26 @@ pub fn open(container: u8, out: &mut Vec<u8>) -> Result<(), AllocError>
     Ok(())
 }
 
-/// Opens a container under a context tag.
+/// Opens a container under a context tag, or writes an element that is whole with its tag.
 pub fn open_field(tag: u8, container: u8, out: &mut Vec<u8>) -> Result<(), AllocError>
     requires { container < 32 }
     ensures { OnOk result (out.new.items ≡ out.old.items ++ opening (Context tag) container) }
 {
-    out.push(CONTEXT + container)?;
-    out.push(tag)?;
-    Ok(())
+    out.extend_from_slice(&[CONTEXT + container, tag])
+}
+
+/// Opens a structure under a context tag in a structure with no tag.
+pub fn open_within(tag: u8, out: &mut Vec<u8>) -> Result<(), AllocError>
+    ensures { OnOk result (out.new.items ≡ out.old.items ++ (opening Anonymous STRUCTURE ++ opening (Context tag) STRUCTURE)) }
+{
+    out.extend_from_slice(&[STRUCTURE, CONTEXT + STRUCTURE, tag])
+}
+
+/// Closes the two innermost containers.
+pub fn close_both(out: &mut Vec<u8>) -> Result<(), AllocError>
+    ensures { OnOk result (out.new.items ≡ out.old.items ++ end_of_container ∷ end_of_container ∷ []) }
+{
+    out.extend_from_slice(&[END, END])
 }
 
 /// Closes the innermost container.
@@ -56,7 +76,7 @@ pub fn close(out: &mut Vec<u8>) -> Result<(), AllocError>
 pub fn write_number(tag: u8, number: u64, out: &mut Vec<u8>) -> Result<(), AllocError>
     ensures { OnOk result (out.new.items ≡ out.old.items ++ narrow (Context tag) (uint number)) }
 {
-    write(&Tag::Context(tag), &Value::Uint(number), out)
+    write_unsigned(&Tag::Context(tag), number, out)
 }
 
 /// An endpoint under a context tag, where there is one.
@@ -83,7 +103,7 @@ pub fn write_optional(tag: u8, number: Option<u32>, out: &mut Vec<u8>) -> Result
 pub fn write_bool(tag: u8, truth: bool, out: &mut Vec<u8>) -> Result<(), AllocError>
     ensures { OnOk result (out.new.items ≡ out.old.items ++ narrow (Context tag) (bool truth)) }
 {
-    write(&Tag::Context(tag), &Value::Bool(truth), out)
+    open_field(tag, if truth { TRUE } else { FALSE }, out)
 }
 
 /// A truth value under a context tag, where it is true.

@@ -12,6 +12,8 @@ ghost use Rattle.mt_model.specs.declared.messages.message.Reply.TheVariants.{Rep
 ghost use Rattle.mt_im_out.specs.Chunks.{Part, size_of, attribute_items, event_items, split_list, split_items, greedy, parts_of, report_payload, report_payloads, chunks_of};
 ghost use Rattle.mt_im_out.specs.Greedy.{IsShort, IsWithin, IsOfOneKind, AreFull, IsGreedySplit, IsShortPayload, trees, brought};
 
+use mt_tlv::values_are_trees;
+
 /// The payloads have the items and no others, in their order: those of attributes, with the lists split
 /// that are too long, and those of events. No payload has items of both kinds.
 pub fn payloads_have_the_items()
@@ -57,4 +59,6 @@ pub fn payloads_are_short()
 pub fn split_lists_have_the_elements()
     ensures { (path : Path) (version : ℕ) (elements : Elements) → path.index ≡ Whole
         → flat_map brought (split_list path version elements) ≡ trees elements }
-{}
+{
+    values_are_trees();
+}

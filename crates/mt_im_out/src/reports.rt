@@ -3,7 +3,7 @@
 ghost use Rattle.std.specs.Prelude.{◌≡◌, ◌<◌, ◌++◌, [], ◌∷◌, length, true, false, None, IfOk, OnOk};
 ghost use Rattle.mt_tlv.specs.Narrow.{narrow_elements};
 ghost use Rattle.mt_tlv.specs.Tree.{none};
-ghost use Rattle.mt_tlv.specs.View.{elements};
+ghost use Rattle.mt_tlv.specs.View.{elements, tree, value_of};
 ghost use Rattle.mt_tlv.specs.declared.value.Value.TheVariants as values;
 ghost use Rattle.mt_model.specs.declared.messages.message.Item.TheVariants as items;
 ghost use Rattle.mt_im.specs.Requests.{blocks};
@@ -18,9 +18,15 @@ use crate::fields::{
 use mt_model::limits::ITEM_BYTES;
 use mt_model::opcode::REPORT_DATA;
 use mt_model::{Index, Item, Path, Payload, Payloads};
-use mt_tlv::{Bytes, Members, Tag, Value};
+use mt_tlv::{Bytes, Members, Tag, Value, values_are_trees};
 use std::alloc::{AllocError, Global};
 use std::mem;
+
+// How many bytes a block is given first, so that it need not grow from a few bytes on.
+const FIRST_ROOM: usize = 64;
+
+// The most bytes that a payload has beside its blocks.
+const ROOM_BESIDE: usize = 32;
 
 /// The payloads of a report. `suppress` says that the last one wants no confirmation.
 pub fn report(
@@ -87,6 +93,7 @@ impl Packing {
         ensures { OnOk result (packed self.new ≡ put_all (packed self.old) (split_item item.now)) }
     {
         self.block.clear();
+        self.block.reserve(FIRST_ROOM)?;
         write_item(item, &mut self.block)?;
         if self.block.len() <= ITEM_BYTES {
             return self.put_block();
@@ -135,7 +142,6 @@ impl Packing {
         self.put_elements(path, version, elements.as_slice())
     }
 
-    #[tactic(auto, using(crate::proofs::Values::put_value))]
     fn put_elements(
         &mut self,
         path: &Path,
@@ -149,15 +155,24 @@ impl Packing {
             ..*path
         };
         'members: for (_, element) in members {
-            self.put_data(&end, version, element)?;
+            self.put_element(&end, version, element)?;
         }
         Ok(())
+    }
+
+    // An element of a list is data as any value is.
+    fn put_element(&mut self, path: &Path, version: u32, element: &Value) -> Result<(), AllocError>
+        ensures { OnOk result (packed self.new ≡ put (packed self.old) (item_block (items.Attribute path.now version (value_of (tree element.now))))) }
+    {
+        values_are_trees();
+        self.put_data(path, version, element)
     }
 
     fn put_data(&mut self, path: &Path, version: u32, value: &Value) -> Result<(), AllocError>
         ensures { OnOk result (packed self.new ≡ put (packed self.old) (item_block (items.Attribute path.now version value.now))) }
     {
         self.block.clear();
+        self.block.reserve(FIRST_ROOM)?;
         write_attribute(path, version, value, &mut self.block)?;
         self.put_block()
     }
@@ -165,7 +180,10 @@ impl Packing {
     fn put_block(&mut self) -> Result<(), AllocError>
         ensures { OnOk result (packed self.new ≡ put (packed self.old) self.old.block.items) }
     {
-        if self.joins() {
+        if self.begun.is_empty() {
+            mem::swap(&mut self.begun, &mut self.block);
+            Ok(())
+        } else if self.joins() {
             self.begun.extend_from_slice(&self.block)
         } else {
             self.begin_with_block()
@@ -274,7 +292,8 @@ fn report_of(
 ) -> Result<Payload, AllocError>
     ensures { IfOk result (λ payload. payload ≡ blocks_payload subscription attributes.now events.now follows suppress) }
 {
-    let mut out = Vec::new(alloc);
+    let blocks = attributes.len().saturating_add(events.len());
+    let mut out = Vec::with_capacity(alloc, blocks.saturating_add(ROOM_BESIDE))?;
     open(STRUCTURE, &mut out)?;
     write_optional(0, subscription, &mut out)?;
     write_blocks(1, attributes, &mut out)?;

@@ -3,11 +3,11 @@
 ghost use Rattle.std.specs.Prelude.{◌≡◌, ◌↔◌, ◌==◌, ◌++◌, ◌&&◌, All, IfOk, IsOk, IsTrue, OnOk, filter, map};
 ghost use Rattle.std.specs.List.{flat_map, list_any};
 ghost use Rattle.mt_meta.specs.Finding.{find_of};
-ghost use Rattle.mt_meta.specs.Places.{fits, is_global, is_named, is_not_global, place_of, places, places_of_cluster, places_of_endpoint};
+ghost use Rattle.mt_meta.specs.Places.{all_places, fits, is_global, is_named, is_not_global, place_of, places, places_of_cluster, places_of_endpoint};
 
 use crate::rows::AttributeRow;
 use crate::table::{attributes_of, clusters_of, endpoints, extensions_of, globals};
-use mt_model::{Path, Place, Places};
+use mt_model::{Index, Path, Place, Places};
 use std::alloc::{AllocError, Global};
 
 /// Why a path is not expanded.
@@ -33,6 +33,19 @@ pub fn expand(alloc: Global, path: &Path) -> Result<Places, ExpandFault>
         Ok(named) => Ok(Places::from_vec(named)),
         Err(_) => Err(ExpandFault::Memory),
     }
+}
+
+/// The places of all attributes, ascending by endpoint, cluster and attribute.
+pub fn all_places(alloc: Global) -> Result<Places, AllocError>
+    ensures { IfOk result (λ places. places ≡ all_places) }
+{
+    let everywhere = Path {
+        endpoint: None,
+        cluster: None,
+        leaf: None,
+        index: Index::Whole,
+    };
+    Ok(Places::from_vec(named(alloc, &everywhere)?))
 }
 
 /// Whether every cluster has the attribute.

@@ -1,5 +1,5 @@
 //! The node's endpoints, clusters, attributes, commands and events: what stands where, with which
-//! privileges and limits. Nothing but `expand` and `first_rows` takes memory.
+//! privileges and limits. Nothing but `expand`, `all_places` and `first_rows` takes memory.
 //!
 //! - `meta`: what is known of an attribute, a command or an event;
 //! - `rows`: the rows of the table;
@@ -20,7 +20,7 @@ mod meta;
 mod rows;
 mod table;
 
-pub use expansion::{ExpandFault, expand, is_global, is_not_global};
+pub use expansion::{ExpandFault, all_places, expand, is_global, is_not_global};
 pub use finding::{Asked, find, find_command, find_event, is_stored, privilege_asked, takes};
 pub use first::first_rows;
 pub use laws::{
@@ -36,6 +36,3 @@ pub use table::{
     attributes_of, clusters_of, commands_of, endpoints, events_of, extensions_of, fields_of,
     globals, responses_of,
 };
-
-#[cfg(test)]
-mod tests;

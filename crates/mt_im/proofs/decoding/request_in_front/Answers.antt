@@ -7,4 +7,4 @@ pub returns-clause-memory_alone : goal.returns-clause-memory_alone
 returns-clause-memory_alone c = kept_request c.in_ok-kind.kind _ c.request_of.result c.request_of.ensures
 
 pub returns-clause-found : goal.returns-clause-found
-returns-clause-found c = found_in_front c.args.opcode c.args.bytes.now c.in_ok-kind.kind _ c.request_of.result (sym c.in_ok-kind.ensures.value) c.in_ok-message.ensures.in_front c.request_of.ensures
+returns-clause-found c = found_in_front c.values_are_trees.ensures.tree c.values_are_trees.ensures.value c.args.opcode c.args.bytes.now c.in_ok-kind.kind _ c.request_of.result (sym c.in_ok-kind.ensures.value) c.in_ok-message.ensures.in_front c.request_of.ensures

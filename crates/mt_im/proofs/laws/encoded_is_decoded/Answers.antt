@@ -12,5 +12,5 @@ returns-clause-spelled c = λ request h. request_written request h.fits
 
 pub returns-clause-decoded : goal.returns-clause-decoded
 returns-clause-decoded c = λ request rest h.
-    element_only (opcode_of request) (narrow Anonymous (request_tree request) ++ rest) rest (request_tree request) request
+    element_only c.values_are_trees.ensures.tree c.values_are_trees.ensures.value (opcode_of request) (narrow Anonymous (request_tree request) ++ rest) rest (request_tree request) request
     (c.written_is_read.ensures Anonymous (request_tree request) rest tt (request_allowed request h.fits) h.short) (request_written request h.fits) h.within
