@@ -9,6 +9,9 @@
 //! - `report subscription now [opcode deadline payload..]`;
 //! - `resend now`;
 //! - `ends`;
+//! - `seal theirs|ours exchange opcode protocol vendor acknowledged payload`: a message of no exchange;
+//! - `counter`: the next own counter;
+//! - `copy`: the lines behind it go to copies; `drop`: all that is to be sent again is let go;
 //! - any other line is a title.
 #![tactic(auto)]
 

@@ -2,7 +2,7 @@
 
 use crate::words::{bytes, header, key, number, payloads, time, word};
 use mt_exchange::Exchanges;
-use mt_model::{Auth, SessionRow};
+use mt_model::{Auth, ExactCopy, SessionRow};
 use mt_session::{Opened, SealFault, Session};
 use mt_tlv::Bytes;
 use std::alloc::Global;
@@ -51,6 +51,13 @@ impl Stand {
             "report" => self.report(rt, words),
             "resend" => self.resend(rt, words),
             "ends" => self.ends(rt),
+            "seal" => self.seal(rt, words),
+            "counter" => println!(rt; "  {}", self.session.next_counter()),
+            "copy" => self.copy(),
+            "drop" => {
+                self.exchanges.drop_all();
+                Ok(())
+            }
             _ => Ok(()),
         }
     }
@@ -72,6 +79,22 @@ impl Stand {
             }
             Err(dropped) => println!(rt; "  {dropped:?}"),
         }
+    }
+
+    // A message that belongs to no exchange.
+    fn seal(&mut self, rt: &HostRuntime, words: &[&str]) -> io::Result<()> {
+        let payload = bytes(rt.alloc(), word(words, 7));
+        match self.session.seal(&header(words), &payload) {
+            Ok(datagram) => print_bytes(rt, datagram.as_slice()),
+            Err(fault) => println!(rt; "  {fault:?}"),
+        }
+    }
+
+    // What happens from here on happens to copies.
+    fn copy(&mut self) -> io::Result<()> {
+        self.session = self.session.copy()?;
+        self.exchanges = self.exchanges.copy()?;
+        Ok(())
     }
 
     fn receive(&mut self, rt: &HostRuntime, words: &[&str]) -> io::Result<()> {

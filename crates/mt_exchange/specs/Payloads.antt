@@ -4,7 +4,8 @@ use Rattle.mt_tlv.specs.declared.value.Tag.{Tag}
 use Rattle.mt_tlv.specs.declared.fault.TlvFault.{TlvFault}
 use Rattle.mt_tlv.specs.Tree.{Tree, Elements, none, bool}
 use Rattle.mt_tlv.specs.Reading.{element_at}
-use Rattle.mt_im.specs.Blocks.{field_of, number_in, structure_in}
+use Rattle.mt_im.specs.Blocks.{number_in}
+use Rattle.mt_model.specs.Trees.{field_in, structure_in}
 use Rattle.mt_im.specs.Reading.{request_in}
 use Rattle.mt_im.specs.declared.fault.ImFault.{ImFault}
 use Rattle.mt_model.specs.declared.messages.message.Payload.{Payload}
@@ -33,11 +34,11 @@ is_true_field _ = false
 
 -- the subscription of a report, its field 0
 abbrev pub subscription_in : List ℕ → Option ℕ
-subscription_in bytes = number_of_field (field_of 0 (fields bytes))
+subscription_in bytes = number_of_field (field_in 0 (fields bytes))
 
 -- whether a report wants no confirmation: its field 4 is true
 abbrev pub is_suppressed : List ℕ → Bool
-is_suppressed bytes = is_true_field (field_of 4 (fields bytes))
+is_suppressed bytes = is_true_field (field_in 4 (fields bytes))
 
 abbrev pub is_report : Payload → Bool
 is_report payload = payload.opcode == 5

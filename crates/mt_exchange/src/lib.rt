@@ -25,6 +25,3 @@ pub use exchange::{Exchange, Key, Owed};
 pub use exchanges::Exchanges;
 pub use lists::{Datagrams, EndTime, EndTimes, Ends};
 pub use turn::Turn;
-
-#[cfg(test)]
-mod tests;

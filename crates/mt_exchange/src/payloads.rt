@@ -5,10 +5,10 @@ ghost use Rattle.mt_exchange.specs.Payloads.{is_success as is_success_of, subscr
 ghost use Rattle.mt_tlv.specs.declared.value.Tag.{Tag};
 ghost use Rattle.mt_tlv.specs.declared.value.Value.{Value};
 ghost use Rattle.mt_tlv.specs.View.{tree, elements};
-ghost use Rattle.mt_im.specs.Blocks.{field_of, is_context as is_context_tag};
+ghost use Rattle.mt_model.specs.Trees.{field_in};
 
-use mt_im::{ImFault, decode, field};
-use mt_model::Request;
+use mt_im::{ImFault, decode};
+use mt_model::{Request, field};
 use mt_tlv::{Members, Tag, TlvFault, Value, read};
 use std::alloc::{AllocError, Global};
 

@@ -17,6 +17,3 @@ mod table;
 pub use fault::FabricFault;
 pub use laws::{the_index_is_the_least, valid_tables_stay_valid};
 pub use table::FabricTable;
-
-#[cfg(test)]
-mod tests;

@@ -13,6 +13,3 @@ mod undo;
 pub use failsafe::Failsafe;
 pub use fault::{Busy, FailsafeFault};
 pub use undo::{Saved, Undo};
-
-#[cfg(test)]
-mod tests;

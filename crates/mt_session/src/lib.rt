@@ -20,6 +20,3 @@ pub use fault::SealFault;
 pub use kept::Session;
 pub use laws::{datagram_has_its_length, mirror_opens_what_is_sealed, opened_is_what_is_sealed};
 pub use opening::{Dropped, Opened};
-
-#[cfg(test)]
-mod tests;
