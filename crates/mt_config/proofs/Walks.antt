@@ -1,9 +1,8 @@
 -- Rules on lists, tested item by item.
-use Rattle.std.proofs.Common.{◌≡◌, ℕ, suc, ◌+◌, ◌<◌, ◌==◌, Bool, true, false, not, ◌&&◌, nat_le, List, ◌∷◌, length, drop, get_or, refl, sym, ap, ◌∙◌, add-one}
+use Rattle.std.proofs.Common.{◌≡◌, ℕ, suc, ◌+◌, ◌<◌, ◌==◌, Bool, true, false, not, ◌&&◌, List, ◌∷◌, length, drop, get_or, refl, sym, ap, ◌∙◌, add-one}
 use Rattle.std.specs.List.{list_any}
 use Rattle.std.proofs.Math.Seq.{drop-cons}
-use Rattle.mt_model.specs.texts.Config.{are_numbered_from, ascend_from, none_alike}
-use Rattle.mt_model.specs.declared.tables.access.AclEntry.{AclEntry}
+use Rattle.mt_model.specs.texts.Config.{are_numbered_from, none_alike}
 use Rattle.mt_model.specs.declared.tables.fabric.Fabric.{Fabric}
 
 -- what is left from an item on
@@ -17,10 +16,6 @@ numbered_at fabrics i index fabric lt is = ap (are_numbered_from index) (drop_at
 pub apart_at : {X : Type 0} (alike : X → X → Bool) (xs : List X) (i : ℕ) (x : X) → i < length xs → x ≡ get_or xs i x
     → none_alike alike (drop i xs) ≡ (not (list_any (alike x) (drop (i + 1) xs)) && none_alike alike (drop (i + 1) xs))
 apart_at alike xs i x lt is = ap (none_alike alike) (drop_at xs i x lt is)
-
-pub ascends_at : (entries : List AclEntry) (i before : ℕ) (entry : AclEntry) → i < length entries → entry ≡ get_or entries i entry
-    → ascend_from before (drop i entries) ≡ (nat_le before entry.fabric && ascend_from entry.fabric (drop (i + 1) entries))
-ascends_at entries i before entry lt is = ap (ascend_from before) (drop_at entries i entry lt is)
 
 -- a test whose meaning does not hold answers no
 pub answers_no : (test : Bool) → ¬ (test ≡ true) → false ≡ test

@@ -3,7 +3,7 @@
 ghost use Rattle.std.specs.Prelude.{◌≡◌, bytes_eq, count_by, nat_le};
 ghost use Rattle.std.specs.List.{list_all, list_any};
 ghost use Rattle.std.specs.Str.{is_utf8};
-ghost use Rattle.mt_model.specs.texts.Config.{are_both_pase, are_credentials, are_csrs, are_entries, are_fabrics, are_joins, are_network_ids, are_numbered_from, are_roots, are_sessions, ascend_from, has_up_to, have_one_fabric, have_one_identity, have_one_label, have_one_session, is_cat_or_none, is_certificate, is_csr, is_entry, is_established, is_fabric, is_intermediate, is_join, is_label, is_of, is_root, is_session, none_alike};
+ghost use Rattle.mt_model.specs.texts.Config.{are_both_pase, are_credentials, are_csrs, are_entries, are_fabrics, are_joins, are_network_ids, are_numbered_from, are_roots, are_sessions, has_up_to, have_one_fabric, have_one_identity, have_one_label, have_one_session, is_cat_or_none, is_certificate, is_csr, is_entry, is_established, is_fabric, is_intermediate, is_join, is_label, is_of, is_root, is_session, none_alike};
 
 use mt_acl::valid;
 use mt_model::limits::{
@@ -12,7 +12,8 @@ use mt_model::limits::{
     SIGNATURE_BYTES, VERDICTS,
 };
 use mt_model::{
-    AclEntry, Auth, Credentials, CsrRow, Fabric, JoinRow, RootRow, SessionRow, is_operational,
+    AclEntry, Auth, Credentials, CsrRow, Fabric, JoinRow, RootRow, SessionRow, entries_ascend_from,
+    is_operational,
 };
 use mt_tlv::Bytes;
 
@@ -159,7 +160,7 @@ pub(crate) fn are_entries(fabrics: &[Fabric], entries: &[AclEntry]) -> bool
     are_all_entries(entries)
         && are_all_owned(fabrics, entries)
         && are_few(fabrics, entries)
-        && ascend(entries)
+        && entries_ascend_from(0, entries)
 }
 
 fn are_all_entries(entries: &[AclEntry]) -> bool
@@ -202,20 +203,6 @@ fn has_few(fabric: &Fabric, entries: &[AclEntry]) -> bool
     ensures { result ≡ nat_le (count_by (is_of fabric.now) entries.now) ENTRIES }
 {
     entries.iter().filter(|entry| is_of(fabric, *entry)).count() <= ENTRIES
-}
-
-#[tactic(auto, using(crate::proofs::Walks::ascends_at))]
-fn ascend(entries: &[AclEntry]) -> bool
-    ensures { result ≡ ascend_from 0 entries.now }
-{
-    let mut before = 0;
-    for entry in entries {
-        if entry.fabric < before {
-            return false;
-        }
-        before = entry.fabric;
-    }
-    true
 }
 
 /// Whether these may be the sessions of a configuration.

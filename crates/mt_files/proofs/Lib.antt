@@ -1,10 +1,12 @@
 pub mod Cuts
+pub mod Digits
 pub mod EventLines
+pub mod HexPairs
 pub mod Numbers
+pub mod Places
 pub mod ReadAgain
 pub mod Readings
 pub mod Recordings
 pub mod Shapes
 pub mod Spellings
-pub mod Texts
 pub mod Written

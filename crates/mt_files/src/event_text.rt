@@ -1,17 +1,22 @@
 //! The lines of events.
 
-ghost use Rattle.std.specs.Prelude.{◌≡◌, ◌∷◌, [], IfOk, codes, decimal, string_bytes};
+ghost use Rattle.std.specs.Prelude.{◌≡◌, ◌++◌, OnOk};
+ghost use Rattle.std.specs.Io.{StartsWith};
 ghost use Rattle.mt_files.specs.Event.{event_line};
-ghost use Rattle.mt_files.specs.Lines.{ended, line_of};
+ghost use Rattle.mt_files.specs.Lines.{ended};
 
-use crate::field::{fate_text, payload_text, peer_text};
-use crate::subject::subject_text;
+use crate::field::fate_text;
+use crate::subject::push_subject;
+use crate::writing::{
+    push_head, push_last_number, push_letter, push_message, push_number, push_payload, push_peer,
+};
 use mt_model::Event;
-use std::alloc::{AllocError, Global};
+use std::alloc::AllocError;
 
-/// The line of an event, with its end.
-pub fn line(alloc: Global, event: &Event) -> Result<String, AllocError>
-    ensures { IfOk result (λ line. string_bytes line ≡ ended (event_line event.now)) }
+/// Appends the line of an event, with its end. Where memory runs out, what was there stays in front.
+pub fn push_event(event: &Event, out: &mut Vec<u8>) -> Result<(), AllocError>
+    ensures written { OnOk result (out.new.items ≡ out.old.items ++ ended (event_line event.now)) }
+    ensures kept { StartsWith out.new.items out.old.items }
 {
     match event {
         Event::Ask {
@@ -22,73 +27,38 @@ pub fn line(alloc: Global, event: &Event) -> Result<String, AllocError>
             opcode,
             payload,
         } => {
-            let subject = subject_text(alloc, *node, *cats)?;
-            let code = hex::encode(alloc, [*opcode].as_slice())?;
-            let text = payload_text(alloc, payload.as_slice())?;
-            ask_line(
-                alloc,
-                *ms,
-                *fabric,
-                subject.as_str(),
-                code.as_str(),
-                text.as_str(),
-            )
+            push_head(b'A', *ms, out)?;
+            push_number(*fabric as u64, out)?;
+            push_subject(*node, *cats, out)?;
+            push_message(*opcode, payload.as_slice(), out)
         }
         Event::Datagram { ms, peer, bytes } => {
-            let address = peer_text(alloc, *peer)?;
-            let text = payload_text(alloc, bytes.as_slice())?;
-            datagram_line(alloc, *ms, address.as_str(), text.as_str())
+            push_head(b'D', *ms, out)?;
+            push_peer(*peer, out)?;
+            push_payload(bytes.as_slice(), out)
         }
-        Event::Tick { ms } => tick_line(alloc, *ms),
+        Event::Tick { ms } => {
+            push_letter(b'T', out)?;
+            push_last_number(*ms, out)
+        }
         Event::Report {
             ms,
             fabric,
             subscription,
-        } => report_line(alloc, *ms, *fabric, *subscription),
-        Event::Resend { ms, session } => resend_line(alloc, *ms, *session),
-        Event::Stop { calls, fate } => stop_line(alloc, *calls, fate_text(*fate)),
+        } => {
+            push_head(b'R', *ms, out)?;
+            push_number(*fabric as u64, out)?;
+            push_last_number(*subscription as u64, out)
+        }
+        Event::Resend { ms, session } => {
+            push_head(b'M', *ms, out)?;
+            push_last_number(*session as u64, out)
+        }
+        Event::Stop { calls, fate } => {
+            push_head(b'X', *calls, out)?;
+            out.extend_from_slice(fate_text(*fate).as_bytes())?;
+            out.push(b'\n')?;
+            Ok(())
+        }
     }
-}
-
-fn ask_line(
-    alloc: Global,
-    ms: u64,
-    fabric: u8,
-    subject: &str,
-    opcode: &str,
-    payload: &str,
-) -> Result<String, AllocError>
-    ensures { IfOk result (λ line. string_bytes line ≡ ended (line_of (codes "A" ∷ decimal ms ∷ decimal fabric ∷ subject.now ∷ opcode.now ∷ payload.now ∷ []))) }
-{
-    format!(in alloc; "A {ms} {fabric} {subject} {opcode} {payload}\n")
-}
-
-fn datagram_line(alloc: Global, ms: u64, peer: &str, bytes: &str) -> Result<String, AllocError>
-    ensures { IfOk result (λ line. string_bytes line ≡ ended (line_of (codes "D" ∷ decimal ms ∷ peer.now ∷ bytes.now ∷ []))) }
-{
-    format!(in alloc; "D {ms} {peer} {bytes}\n")
-}
-
-fn tick_line(alloc: Global, ms: u64) -> Result<String, AllocError>
-    ensures { IfOk result (λ line. string_bytes line ≡ ended (line_of (codes "T" ∷ decimal ms ∷ []))) }
-{
-    format!(in alloc; "T {ms}\n")
-}
-
-fn report_line(alloc: Global, ms: u64, fabric: u8, subscription: u32) -> Result<String, AllocError>
-    ensures { IfOk result (λ line. string_bytes line ≡ ended (line_of (codes "R" ∷ decimal ms ∷ decimal fabric ∷ decimal subscription ∷ []))) }
-{
-    format!(in alloc; "R {ms} {fabric} {subscription}\n")
-}
-
-fn resend_line(alloc: Global, ms: u64, session: u16) -> Result<String, AllocError>
-    ensures { IfOk result (λ line. string_bytes line ≡ ended (line_of (codes "M" ∷ decimal ms ∷ decimal session ∷ []))) }
-{
-    format!(in alloc; "M {ms} {session}\n")
-}
-
-fn stop_line(alloc: Global, calls: u64, fate: &str) -> Result<String, AllocError>
-    ensures { IfOk result (λ line. string_bytes line ≡ ended (line_of (codes "X" ∷ decimal calls ∷ fate.now ∷ []))) }
-{
-    format!(in alloc; "X {calls} {fate}\n")
 }

@@ -1,10 +1,10 @@
-//! What a single field tells, and how it is written.
+//! What a single field tells.
 
-ghost use Rattle.std.specs.Prelude.{◌≡◌, ◌≤◌, ◌*◌, ◌++◌, ◌==◌, ◌&&◌, ◌↔◌, IsTrue, IfOk, IfSome, string_bytes};
+ghost use Rattle.std.specs.Prelude.{◌≡◌, ◌≤◌, ◌*◌, if◌then◌else◌, length, Some, None, IfOk, IfSome};
 ghost use Rattle.mt_model.specs.declared.limits.TheConstants.{LAST_TIME};
-ghost use Rattle.mt_files.specs.Field.{bytes_in, digits_from, fate_in, fate_text, number_between, opcode_in, payload_in, payload_text, peer_in, peer_text, port_in, up_to};
+ghost use Rattle.hex.specs.Hex.{decode_of, hex_digit_value};
+ghost use Rattle.mt_files.specs.Field.{bytes_in, digits_from, fate_in, fate_text, number_between, ok_of, opcode_in, payload_in, peer_in, port_in, up_to};
 
-use hex::FromHexError;
 use mt_model::limits::LAST_TIME;
 use mt_outside::{Fate, Peer};
 use mt_tlv::Bytes;
@@ -60,21 +60,42 @@ pub fn payload(alloc: Global, most: usize, text: &[u8]) -> Result<Option<Bytes>,
     if text.len() > 2 * most {
         return Ok(None);
     }
-    match hex::decode(alloc, text) {
-        Ok(bytes) => Ok(Some(Bytes::from_vec(bytes))),
-        Err(FromHexError::OutOfMemory) => Err(AllocError),
-        Err(_) => Ok(None),
+    if text.len() % 2 != 0 {
+        return Ok(None);
     }
+    let mut bytes = vec![in alloc; 0u8; text.len() / 2]?;
+    if decode(text, bytes.as_mut_slice()) {
+        return Ok(Some(Bytes::from_vec(bytes)));
+    }
+    Ok(None)
 }
 
-/// Bytes in lower case hex, or `-` for no bytes.
-pub fn payload_text(alloc: Global, bytes: &[u8]) -> Result<String, AllocError>
-    ensures { IfOk result (λ text. string_bytes text ≡ payload_text bytes.now) }
+// Reads a byte from each two digits; false where one is none.
+fn decode(text: &[u8], bytes: &mut [u8]) -> bool
+    requires { length text.now ≡ 2 * length bytes.old }
+    ensures { ok_of (decode_of text.now) ≡ (if result then Some bytes.new else None) }
 {
-    if bytes.is_empty() {
-        return String::from_str(alloc, "-");
+    'bytes: for i in 0..bytes.len() {
+        let high = digit(text[2 * i]);
+        let low = digit(text[2 * i + 1]);
+        if high > 15 || low > 15 {
+            return false;
+        }
+        bytes[i] = high * 16 + low;
     }
-    hex::encode(alloc, bytes)
+    true
+}
+
+// The value of a hex digit, in either case; above 15 where it is none.
+fn digit(byte: u8) -> u8
+    ensures { hex_digit_value byte ≡ up_to 15 (Some result) }
+{
+    match byte {
+        b'0'..=b'9' => byte - b'0',
+        b'a'..=b'f' => byte - b'a' + 10,
+        b'A'..=b'F' => byte - b'A' + 10,
+        _ => 255,
+    }
 }
 
 /// An opcode in two hex digits.
@@ -119,15 +140,6 @@ fn port(text: &[u8]) -> Option<u16>
         Ok(()) => Some(u16::from_be_bytes(bytes)),
         Err(_) => None,
     }
-}
-
-/// A peer in 36 hex digits in lower case.
-pub fn peer_text(alloc: Global, peer: Peer) -> Result<String, AllocError>
-    ensures { IfOk result (λ text. string_bytes text ≡ peer_text peer) }
-{
-    let ip = hex::encode(alloc, peer.ip.as_slice())?;
-    let port = hex::encode(alloc, peer.port.to_be_bytes().as_slice())?;
-    format!(in alloc; "{ip}{port}")
 }
 
 /// What becomes of a disk that stops.

@@ -3,12 +3,13 @@
 //!
 //! - `line_fault`: what keeps a text from being a recording;
 //! - `lines`: lines and their fields;
-//! - `field`: what a single field tells, and its text;
+//! - `field`: what a single field tells;
 //! - `subject`: who asks, in a field;
 //! - `event`: what a line tells;
 //! - `event_text`: the line of an event;
 //! - `recording`: a recording read whole, and events as lines;
 //! - `output`: messages as lines;
+//! - `writing`: fields as they are written;
 //! - `laws`: what holds of recordings whatever the bytes.
 #![tactic(auto)]
 
@@ -21,6 +22,7 @@ mod lines;
 mod output;
 mod recording;
 mod subject;
+mod writing;
 
 pub use laws::{
     events_have_a_form, lines_are_single, numbers_have_one_spelling, recordings_are_read,

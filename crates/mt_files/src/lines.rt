@@ -4,6 +4,8 @@ ghost use Rattle.std.specs.Prelude.{◌≡◌, ◌==◌, ◌≢◌, ◌∷◌, [
 ghost use Rattle.std.specs.List.{position};
 ghost use Rattle.mt_files.specs.Lines.{fields_of, lines_of, parts_of};
 
+use memchr::memchr;
+
 /// The first line of a text that is not empty, without its end, and what stands behind it.
 pub fn cut_line(text: &[u8]) -> (&[u8], &[u8])
     requires { 0 < length text.now }
@@ -29,10 +31,11 @@ pub fn cut(separator: u8, text: &[u8]) -> Option<(&[u8], &[u8])>
 }
 
 // The place of the first such byte.
+#[tactic(auto, using(crate::proofs::Places::first_is_position))]
 fn place_of(byte: u8, text: &[u8]) -> Option<usize>
     ensures { result ≡ position (λ other. other == byte) text.now }
 {
-    text.iter().position(|other| *other == byte)
+    memchr(byte, text)
 }
 
 /// The field of a line that has one.

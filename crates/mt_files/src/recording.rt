@@ -5,9 +5,10 @@ ghost use Rattle.mt_files.specs.Event.{event_line};
 ghost use Rattle.mt_files.specs.Lines.{ended, lines_of};
 ghost use Rattle.mt_files.specs.Recording.{events_from, line_told, recording_of, time_at};
 
+use crate::event;
+use crate::event_text::push_event;
 use crate::line_fault::{LineFault, LineKind};
 use crate::lines::cut_line;
-use crate::{event, event_text};
 use mt_model::limits::{LINE_BYTES, RECORDING_BYTES, RECORDING_LINES};
 use mt_model::{Event, Events};
 use std::alloc::{AllocError, Global};
@@ -99,7 +100,12 @@ pub fn write_event(event: &Event, out: &mut Vec<u8>) -> Result<(), AllocError>
     ensures ok { OnOk result (out.new.items ≡ out.old.items ++ ended (event_line event.now)) }
     ensures err { OnErr result (out.new.items ≡ out.old.items) }
 {
-    let line = event_text::line(*out.allocator(), event)?;
-    out.extend_from_slice(line.as_bytes())?;
-    Ok(())
+    let before = out.len();
+    match push_event(event, out) {
+        Ok(()) => Ok(()),
+        Err(error) => {
+            out.truncate(before);
+            Err(error)
+        }
+    }
 }

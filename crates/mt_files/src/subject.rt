@@ -1,11 +1,13 @@
 //! Who asks: a node id and its CATs (Matter Core Specification, section 2.5.5, Node Identifier).
 
-ghost use Rattle.std.specs.Prelude.{◌≡◌, IfOk, string_bytes};
+ghost use Rattle.std.specs.Prelude.{◌≡◌, ◌++◌, ◌∷◌, [], OnOk};
+ghost use Rattle.std.specs.Io.{StartsWith};
 ghost use Rattle.mt_files.specs.Lines.{parts_of};
 ghost use Rattle.mt_files.specs.Subject.{cat_in, cat_text, cats_in, node_in, subject_in, subject_text};
 
 use crate::lines::cut;
-use std::alloc::{AllocError, Global};
+use crate::writing::push_hex;
+use std::alloc::AllocError;
 
 /// A node that asks, with its CATs; 0 stands for a CAT that is not there.
 #[derive(Clone, Copy)]
@@ -71,25 +73,27 @@ fn cat(text: &[u8]) -> Option<u32>
     }
 }
 
-/// A node id and the CATs that are not 0, each behind a `+`, in lower case hex.
-pub fn subject_text(alloc: Global, node: u64, cats: [u32; 3]) -> Result<String, AllocError>
-    ensures { IfOk result (λ text. string_bytes text ≡ subject_text node cats) }
+/// Appends a node id and the CATs that are not 0, each behind a `+`, in lower case hex, and a space.
+pub fn push_subject(node: u64, cats: [u32; 3], out: &mut Vec<u8>) -> Result<(), AllocError>
+    ensures written { OnOk result (out.new.items ≡ out.old.items ++ (subject_text node cats ++ 32 ∷ [])) }
+    ensures kept { StartsWith out.new.items out.old.items }
 {
-    let id = hex::encode(alloc, node.to_be_bytes().as_slice())?;
-    let [a, b, c] = cats;
-    let first = cat_text(alloc, a)?;
-    let second = cat_text(alloc, b)?;
-    let third = cat_text(alloc, c)?;
-    format!(in alloc; "{id}{first}{second}{third}")
+    push_hex(node.to_be_bytes().as_slice(), out)?;
+    for cat in &cats {
+        push_cat(*cat, out)?;
+    }
+    out.push(b' ')?;
+    Ok(())
 }
 
 // A CAT behind its `+`, and nothing for 0.
-fn cat_text(alloc: Global, cat: u32) -> Result<String, AllocError>
-    ensures { IfOk result (λ text. string_bytes text ≡ cat_text cat) }
+fn push_cat(cat: u32, out: &mut Vec<u8>) -> Result<(), AllocError>
+    ensures written { OnOk result (out.new.items ≡ out.old.items ++ cat_text cat) }
+    ensures kept { StartsWith out.new.items out.old.items }
 {
     if cat == 0 {
-        return Ok(String::new(alloc));
+        return Ok(());
     }
-    let digits = hex::encode(alloc, cat.to_be_bytes().as_slice())?;
-    format!(in alloc; "+{digits}")
+    out.push(b'+')?;
+    push_hex(cat.to_be_bytes().as_slice(), out)
 }

@@ -1,0 +1,11 @@
+use Rattle.std.proofs.Common.{ℕ, arith, slice_index, refl}
+use Rattle.hex.specs.Hex.{lower_digits}
+use Rattle.hex.proofs.Pairs.{encode_step, encode_done}
+use Rattle.mt_files.proofs.writing.encode.Goals as goal
+
+pub bytes-preserved : goal.bytes-preserved
+bytes-preserved c =
+    encode_step lower_digits c.args.bytes.now c.bytes.digits c.bytes.i _ _ (omega arith) (omega arith) c.digit-high.ensures c.digit-low.ensures c.bytes.invariant
+
+pub returns : goal.returns
+returns c = encode_done _ _ _ c.bytes.i (omega arith) (omega arith) c.bytes.invariant
