@@ -1,2 +1,3 @@
 pub mod Untagged
+pub mod Bare
 pub mod Nulls

@@ -1,11 +1,11 @@
 -- Values as trees, and as members of an array.
-use Rattle.std.specs.Prelude.{List, map}
-use Rattle.mt_tlv.specs.Tree.{Tree, int, uint, bool, text, octets, null, bits32, bits64, structure, array, list}
+use Rattle.std.specs.Prelude.{ℕ, List, map}
+use Rattle.mt_tlv.specs.Tree.{Tree, int, uint, bool, text, octets, null, bits32, bits64, structure, array, list, none, more}
 use Rattle.mt_tlv.specs.declared.value.Tag.{Tag}
-use Rattle.mt_tlv.specs.declared.value.Tag.TheVariants.{Anonymous}
+use Rattle.mt_tlv.specs.declared.value.Tag.TheVariants.{Anonymous, Context}
 use Rattle.mt_tlv.specs.declared.value.Value.{Value}
 use Rattle.mt_tlv.specs.declared.value.Value.TheVariants as values
-use Rattle.mt_model.specs.Trees.{value_of}
+use Rattle.mt_tlv.specs.View.{value_of}
 
 -- an item as a member of an array, without a tag
 abbrev pub member : {X : Type 0} → (X → Tree) → X → Tag × Value
@@ -13,3 +13,7 @@ member of x = (Anonymous, value_of (of x))
 
 abbrev pub members : {X : Type 0} → (X → Tree) → List X → List (Tag × Value)
 members of xs = map (member of) xs
+
+-- an item of which nothing is left but the field that names its fabric
+abbrev pub fabric_alone : ℕ → Value
+fabric_alone fabric = values.Struct (more (Context 254) (uint fabric) none)

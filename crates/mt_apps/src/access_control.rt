@@ -1,12 +1,13 @@
 //! Access Control: the entries as rows, and how many there can be.
 
-ghost use Rattle.std.specs.Prelude.{◌≡◌, IfOk, map};
+ghost use Rattle.std.specs.Prelude.{◌≡◌, ◌++◌, true, IfOk, OnOk, map};
 ghost use Rattle.mt_apps.specs.AccessControl.{access_control_value, entry_row};
 ghost use Rattle.mt_model.specs.tables.Entries.{entry_value, mode_number, privilege_number, subjects_tree, targets_tree};
-ghost use Rattle.mt_model.specs.rows.Sight.{is_acl};
+ghost use Rattle.mt_model.specs.rows.Shown.{shown_item, shown_items};
+ghost use Rattle.mt_model.specs.rows.Sight.{is_acl, seen_by};
 ghost use Rattle.mt_tlv.specs.View.{tree};
 
-use crate::arrays::{FABRIC_INDEX, array_of};
+use crate::arrays::{FABRIC_INDEX, array_of, fabric_alone, is_shown_whole};
 use mt_meta::clusters::access_control::{
     ACCESS_CONTROL_ENTRIES_PER_FABRIC, ACL, CLUSTER, SUBJECTS_PER_ACCESS_CONTROL_ENTRY,
     TARGETS_PER_ACCESS_CONTROL_ENTRY,
@@ -57,6 +58,60 @@ fn entry_rows(alloc: Global, place: &Place, entries: &[AclEntry]) -> Result<Vec<
         })?;
     }
     Ok(rows)
+}
+
+/// The entries as items of the list that a fabric is shown; where `own` is set, its own alone. Of another's
+/// entry nothing is built but the field that names its fabric.
+pub(crate) fn acl_items(
+    alloc: Global,
+    entries: &[AclEntry],
+    place: &Place,
+    fabric: u8,
+    own: bool,
+) -> Result<Members, AllocError>
+    requires { is_acl place.now ≡ true }
+    ensures { IfOk result (λ items. items ≡ shown_items fabric own (map (entry_row place.now) entries.now)) }
+{
+    let mut items = Vec::with_capacity(alloc, entries.len())?;
+    for entry in entries {
+        push_entry(alloc, entry, place, fabric, own, &mut items)?;
+    }
+    Ok(Members::from_vec(items))
+}
+
+fn push_entry(
+    alloc: Global,
+    entry: &AclEntry,
+    place: &Place,
+    fabric: u8,
+    own: bool,
+    items: &mut Vec<(Tag, Value)>,
+) -> Result<(), AllocError>
+    requires { is_acl place.now ≡ true }
+    ensures { OnOk result (items.new.items ≡ items.old.items ++ shown_item fabric own (entry_row place.now entry.now)) }
+{
+    if own && entry.fabric != fabric {
+        return Ok(());
+    }
+    items.push((Tag::Anonymous, shown_entry(alloc, entry, place, fabric)?))?;
+    Ok(())
+}
+
+// An entry as a fabric sees it.
+#[tactic(auto, using(crate::proofs::Bare::own_entry, crate::proofs::Bare::bare_entry))]
+fn shown_entry(
+    alloc: Global,
+    entry: &AclEntry,
+    _place: &Place,
+    fabric: u8,
+) -> Result<Value, AllocError>
+    requires { is_acl _place.now ≡ true }
+    ensures { IfOk result (λ value. value ≡ (seen_by fabric (entry_row _place.now entry.now)).value) }
+{
+    if is_shown_whole(entry.fabric, fabric) {
+        return entry_value(alloc, entry);
+    }
+    fabric_alone(alloc, entry.fabric)
 }
 
 fn entry_value(alloc: Global, entry: &AclEntry) -> Result<Value, AllocError>

@@ -3,6 +3,7 @@
 //! cluster stands in the file of its name.
 //!
 //! - `rows`: the rows of a place;
+//! - `shown`: what of them is shown to a fabric;
 //! - `globals`: the attributes that every cluster has;
 //! - `descriptor`, `access_control`, `basic_information`, `general_commissioning`,
 //!   `network_commissioning`, `operational_credentials`: those of each cluster's own;
@@ -20,9 +21,8 @@ mod laws;
 mod network_commissioning;
 mod operational_credentials;
 mod rows;
+mod shown;
 
 pub use laws::places_have_their_rows;
 pub use rows::rows_at;
-
-#[cfg(test)]
-mod tests;
+pub use shown::{items_shown, value_shown};

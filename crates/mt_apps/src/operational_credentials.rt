@@ -1,12 +1,13 @@
 //! Operational Credentials: the certificates and the fabrics as rows, and the counts and roots.
 
-ghost use Rattle.std.specs.Prelude.{◌≡◌, IfOk, map};
+ghost use Rattle.std.specs.Prelude.{◌≡◌, ◌++◌, true, IfOk, OnOk, map};
 ghost use Rattle.mt_apps.specs.OperationalCredentials.{fabric_row, fabric_value, intermediate_tree, is_fabrics, noc_row, noc_value, operational_credentials_value};
 ghost use Rattle.mt_apps.specs.Seen.{parts_in};
-ghost use Rattle.mt_model.specs.rows.Sight.{is_nocs};
+ghost use Rattle.mt_model.specs.rows.Shown.{shown_item, shown_items};
+ghost use Rattle.mt_model.specs.rows.Sight.{is_nocs, seen_by};
 ghost use Rattle.mt_tlv.specs.View.{tree};
 
-use crate::arrays::{FABRIC_INDEX, array_of};
+use crate::arrays::{FABRIC_INDEX, array_of, fabric_alone, is_shown_whole};
 use mt_meta::clusters::operational_credentials::{
     CLUSTER, COMMISSIONED_FABRICS, FABRICS, NOCS, SUPPORTED_FABRICS, TRUSTED_ROOT_CERTIFICATES,
 };
@@ -59,6 +60,55 @@ fn noc_rows(alloc: Global, place: &Place, fabrics: &[Fabric]) -> Result<Vec<Row>
         })?;
     }
     Ok(rows)
+}
+
+/// The operational certificates as items of the list that a fabric is shown; where `own` is set, its own
+/// alone. Of another's item nothing is built but the field that names its fabric.
+pub(crate) fn noc_items(
+    alloc: Global,
+    fabrics: &[Fabric],
+    place: &Place,
+    fabric: u8,
+    own: bool,
+) -> Result<Members, AllocError>
+    requires { is_nocs place.now ≡ true }
+    ensures { IfOk result (λ items. items ≡ shown_items fabric own (map (noc_row place.now) fabrics.now)) }
+{
+    let mut items = Vec::with_capacity(alloc, fabrics.len())?;
+    for owner in fabrics {
+        push_noc(alloc, owner, place, fabric, own, &mut items)?;
+    }
+    Ok(Members::from_vec(items))
+}
+
+fn push_noc(
+    alloc: Global,
+    owner: &Fabric,
+    place: &Place,
+    fabric: u8,
+    own: bool,
+    items: &mut Vec<(Tag, Value)>,
+) -> Result<(), AllocError>
+    requires { is_nocs place.now ≡ true }
+    ensures { OnOk result (items.new.items ≡ items.old.items ++ shown_item fabric own (noc_row place.now owner.now)) }
+{
+    if own && owner.index != fabric {
+        return Ok(());
+    }
+    items.push((Tag::Anonymous, shown_noc(alloc, owner, place, fabric)?))?;
+    Ok(())
+}
+
+// An operational certificate as a fabric sees it.
+#[tactic(auto, using(crate::proofs::Bare::own_noc, crate::proofs::Bare::bare_noc))]
+fn shown_noc(alloc: Global, owner: &Fabric, _place: &Place, fabric: u8) -> Result<Value, AllocError>
+    requires { is_nocs _place.now ≡ true }
+    ensures { IfOk result (λ value. value ≡ (seen_by fabric (noc_row _place.now owner.now)).value) }
+{
+    if is_shown_whole(owner.index, fabric) {
+        return noc_value(alloc, owner);
+    }
+    fabric_alone(alloc, owner.index)
 }
 
 fn noc_value(alloc: Global, fabric: &Fabric) -> Result<Value, AllocError>
@@ -114,6 +164,44 @@ fn fabric_rows(alloc: Global, place: &Place, fabrics: &[Fabric]) -> Result<Vec<R
         })?;
     }
     Ok(rows)
+}
+
+/// The fabrics as items of the list that a fabric is shown, of which nothing is sensitive; where `own` is
+/// set, its own alone.
+pub(crate) fn fabric_items(
+    alloc: Global,
+    fabrics: &[Fabric],
+    place: &Place,
+    fabric: u8,
+    own: bool,
+) -> Result<Members, AllocError>
+    requires { is_fabrics place.now ≡ true }
+    ensures { IfOk result (λ items. items ≡ shown_items fabric own (map (fabric_row place.now) fabrics.now)) }
+{
+    let mut items = Vec::with_capacity(alloc, fabrics.len())?;
+    for owner in fabrics {
+        push_fabric(alloc, owner, place, fabric, own, &mut items)?;
+    }
+    Ok(Members::from_vec(items))
+}
+
+#[tactic(auto, using(crate::proofs::Bare::plain_fabric))]
+fn push_fabric(
+    alloc: Global,
+    owner: &Fabric,
+    _place: &Place,
+    fabric: u8,
+    own: bool,
+    items: &mut Vec<(Tag, Value)>,
+) -> Result<(), AllocError>
+    requires { is_fabrics _place.now ≡ true }
+    ensures { OnOk result (items.new.items ≡ items.old.items ++ shown_item fabric own (fabric_row _place.now owner.now)) }
+{
+    if own && owner.index != fabric {
+        return Ok(());
+    }
+    items.push((Tag::Anonymous, fabric_value(alloc, owner)?))?;
+    Ok(())
 }
 
 fn fabric_value(alloc: Global, fabric: &Fabric) -> Result<Value, AllocError>

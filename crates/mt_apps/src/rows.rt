@@ -56,8 +56,12 @@ fn value_rows(alloc: Global, place: &Place, value: Option<Value>) -> Result<Rows
     Ok(Rows::from_vec(vec![in alloc; row]?))
 }
 
-// The value that is computed at the place; None where there is none.
-fn computed_value(alloc: Global, view: &View, place: &Place) -> Result<Option<Value>, AllocError>
+/// The value that is computed at the place; None where there is none.
+pub(crate) fn computed_value(
+    alloc: Global,
+    view: &View,
+    place: &Place,
+) -> Result<Option<Value>, AllocError>
     ensures { IfOk result (λ value. value ≡ computed_value (parts_in view.now) place.now) }
 {
     match global_value(alloc, place.cluster, place.leaf)? {

@@ -1,11 +1,13 @@
--- Rows as a fabric sees them: their fabrics stay, so that the wanted ones can be chosen first.
-use Rattle.std.proofs.Common.{◌≡◌, ◌==◌, ◌||◌, ℕ, Bool, true, false, cond, List, [], ◌∷◌, refl, sym, ap, filter, map, if◌then◌else◌}
+-- What is shown of rows is made of what the reader's fabric sees of them.
+use Rattle.std.proofs.Common.{◌≡◌, ◌==◌, ◌||◌, ◌++◌, ℕ, Bool, true, false, not, cond, List, [], ◌∷◌, refl, sym, ap, filter, map, if◌then◌else◌}
+use Rattle.std.specs.List.{flat_map}
 use Rattle.mt_tlv.specs.Tree.{more}
 use Rattle.mt_tlv.specs.View.{elements, tree}
 use Rattle.mt_tlv.specs.declared.value.Tag.{Tag}
 use Rattle.mt_tlv.specs.declared.value.Tag.TheVariants.{Anonymous}
 use Rattle.mt_tlv.specs.declared.value.Value.{Value}
-use Rattle.mt_read.specs.Reading.{items_of, wanted_rows}
+use Rattle.mt_read.specs.Reading.{first_value, items_of, wanted_rows}
+use Rattle.mt_model.specs.rows.Shown.{shown_item, shown_items, shown_value}
 use Rattle.mt_model.specs.rows.Sight.{bare_value, seen_by}
 use Rattle.mt_model.specs.declared.tables.access.Actor.{Actor}
 use Rattle.mt_model.specs.declared.rows.place.Row.{Row}
@@ -16,25 +18,25 @@ fabric-seen fabric row = elim (row.fabric == fabric || row.fabric == 0) as (λ k
 abbrev is_own : ℕ → Row → Bool
 is_own fabric row = row.fabric == fabric
 
-one_more : (fabric : ℕ) (row : Row) (kept seen : List Row) (own own_seen : Bool) → own ≡ own_seen → map (seen_by fabric) kept ≡ seen
-    → map (seen_by fabric) (cond own (row ∷ kept) kept) ≡ cond own_seen (seen_by fabric row ∷ seen) seen
-one_more fabric row kept seen true true same e = ap (λ rows. seen_by fabric row ∷ rows) e
-one_more fabric row kept seen false false same e = e
-one_more fabric row kept seen true false same e = cc
-one_more fabric row kept seen false true same e = cc
+one_more : (fabric : ℕ) (row : Row) (rest : List (Tag × Value)) (seen : List Row) (own own_seen : Bool) → own ≡ own_seen → elements rest ≡ items_of seen
+    → elements ((if not own then [] else (Anonymous, (seen_by fabric row).value) ∷ []) ++ rest) ≡ items_of (cond own_seen (seen_by fabric row ∷ seen) seen)
+one_more fabric row rest seen true true same e = ap (λ es. more Anonymous (tree (seen_by fabric row).value) es) e
+one_more fabric row rest seen false false same e = e
+one_more fabric row rest seen true false same e = cc
+one_more fabric row rest seen false true same e = cc
 
-own-seen : (fabric : ℕ) (rows : List Row) → map (seen_by fabric) (filter (is_own fabric) rows) ≡ filter (is_own fabric) (map (seen_by fabric) rows)
-own-seen fabric [] = refl
-own-seen fabric (row ∷ rows) = one_more fabric row (filter (is_own fabric) rows) (filter (is_own fabric) (map (seen_by fabric) rows)) (is_own fabric row) (is_own fabric (seen_by fabric row)) (ap (λ owner. owner == fabric) (sym (fabric-seen fabric row))) (own-seen fabric rows)
+own_items : (fabric : ℕ) (rows : List Row) → shown_items fabric true rows ≡ items_of (filter (is_own fabric) (map (seen_by fabric) rows))
+own_items fabric [] = refl
+own_items fabric (row ∷ rows) = one_more fabric row (flat_map (shown_item fabric true) rows) (filter (is_own fabric) (map (seen_by fabric) rows)) (is_own fabric row) (is_own fabric (seen_by fabric row)) (ap (λ owner. owner == fabric) (sym (fabric-seen fabric row))) (own_items fabric rows)
 
-pub wanted-seen : (actor : Actor) (filtered : Bool) (rows : List Row) → map (seen_by actor.fabric) (wanted_rows actor filtered rows) ≡ wanted_rows actor filtered (map (seen_by actor.fabric) rows)
-wanted-seen actor true rows = own-seen actor.fabric rows
-wanted-seen actor false rows = refl
+all_items : (fabric : ℕ) (rows : List Row) → shown_items fabric false rows ≡ items_of (map (seen_by fabric) rows)
+all_items fabric [] = refl
+all_items fabric (row ∷ rows) = ap (λ es. more Anonymous (tree (seen_by fabric row).value) es) (all_items fabric rows)
 
--- a row as an item of a list
-abbrev pub item_of : ℕ → Row → Tag × Value
-item_of fabric row = (Anonymous, (seen_by fabric row).value)
+pub shown_as_items : (actor : Actor) (filtered : Bool) (rows : List Row) → shown_items actor.fabric filtered rows ≡ items_of (wanted_rows actor filtered (map (seen_by actor.fabric) rows))
+shown_as_items actor true rows = own_items actor.fabric rows
+shown_as_items actor false rows = all_items actor.fabric rows
 
-pub items-seen : (fabric : ℕ) (rows : List Row) → elements (map (item_of fabric) rows) ≡ items_of (map (seen_by fabric) rows)
-items-seen fabric [] = refl
-items-seen fabric (row ∷ rows) = ap (λ es. more Anonymous (tree (seen_by fabric row).value) es) (items-seen fabric rows)
+pub shown_as_first : (fabric : ℕ) (rows : List Row) → shown_value fabric rows ≡ first_value (map (seen_by fabric) rows)
+shown_as_first fabric [] = refl
+shown_as_first fabric (row ∷ rows) = refl

@@ -13,7 +13,7 @@ use Rattle.mt_meta.specs.Places.{is_not_global, places}
 use Rattle.mt_meta.specs.declared.clusters.TheConstants.{OPERATIONAL_CREDENTIALS}
 use Rattle.mt_meta.specs.declared.finding.Asked.TheVariants.{Read}
 use Rattle.mt_meta.specs.declared.meta.Meta.{Meta}
-use Rattle.mt_model.specs.messages.Blocks.{path_of}
+use Rattle.mt_model.specs.messages.Blocks.{path_of, place_named}
 use Rattle.mt_model.specs.rows.Seen.{Seen}
 use Rattle.mt_model.specs.messages.Status.{code_of}
 use Rattle.mt_model.specs.declared.tables.access.Actor.{Actor}
@@ -93,14 +93,6 @@ granted_items seen actor filtered versions place (Err status) = []
 abbrev pub wildcard_items : Seen → Actor → Bool → List Version → Place → List Item
 wildcard_items seen actor filtered versions place =
     if may_read seen actor place then granted_items seen actor filtered versions place (find_of place) else []
-
--- the place that a path without a wildcard names
-abbrev pub place_in : Option ℕ → Option ℕ → Option ℕ → Option Place
-place_in (Some endpoint) (Some cluster) (Some leaf) = Some (record { endpoint = endpoint; cluster = cluster; leaf = leaf })
-place_in _ _ _ = None
-
-abbrev pub place_named : Path → Option Place
-place_named path = place_in path.endpoint path.cluster path.leaf
 
 abbrev pub items_at : Seen → Actor → Bool → List Version → Path → Option Place → List Item
 items_at seen actor filtered versions path (Some place) = concrete_items seen actor filtered versions place

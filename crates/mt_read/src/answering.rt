@@ -2,7 +2,7 @@
 
 ghost use Rattle.std.specs.Prelude.{◌≡◌, ◌↔◌, ◌++◌, None, Some, IfOk, OnOk, option_to_list};
 ghost use Rattle.std.specs.List.{flat_map, list_any};
-ghost use Rattle.mt_read.specs.Reading.{path_items, place_named, read_answer, wildcard_items};
+ghost use Rattle.mt_read.specs.Reading.{path_items, read_answer, wildcard_items};
 ghost use Rattle.mt_model.specs.rows.Seen.{seen_as};
 ghost use Rattle.mt_meta.specs.Places.{is_not_global, places};
 
@@ -80,7 +80,7 @@ impl<'a, S: Sight> Reader<'a, S> {
         ensures { let seen = seen_as self.now.actor.now.fabric (S.rows_of self.now.sight.now) (S.versions self.now.sight.now) (S.all_entries self.now.sight.now) in
             OnOk result (items.new.items ≡ items.old.items ++ path_items seen self.now.actor.now self.now.filtered self.now.versions.now path.now) }
     {
-        match place_named(path) {
+        match path.place() {
             Some(place) => {
                 let item = self.concrete_item(&place)?;
                 push_one(item, items)
@@ -104,25 +104,12 @@ impl<'a, S: Sight> Reader<'a, S> {
         ensures { let seen = seen_as self.now.actor.now.fabric (S.rows_of self.now.sight.now) (S.versions self.now.sight.now) (S.all_entries self.now.sight.now) in
             OnOk result (items.new.items ≡ items.old.items ++ flat_map (wildcard_items seen self.now.actor.now self.now.filtered self.now.versions.now) places.now) }
     {
+        items.reserve(places.len())?;
         for place in places {
             let item = self.wildcard_item(place)?;
             push_one(item, items)?;
         }
         Ok(())
-    }
-}
-
-// The place that a path without a wildcard names.
-fn place_named(path: &Path) -> Option<Place>
-    ensures { result ≡ place_named path.now }
-{
-    match (path.endpoint, path.cluster, path.leaf) {
-        (Some(endpoint), Some(cluster), Some(leaf)) => Some(Place {
-            endpoint,
-            cluster,
-            leaf,
-        }),
-        _ => None,
     }
 }
 

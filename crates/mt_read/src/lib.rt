@@ -14,6 +14,3 @@ mod values;
 
 pub use answering::{ReadFault, read};
 pub use laws::denials_are_exact;
-
-#[cfg(test)]
-mod tests;
