@@ -3,10 +3,10 @@ use Rattle.std.proofs.Common.{◌≡◌, ◌&&◌, ◌^◌, ◌≤◌, ℕ, nat_
 use Rattle.std.proofs.lemmas.Bool.{leb-true, le-leb, lt-ltb}
 use Rattle.std.specs.Str.{is_utf8}
 use Rattle.mt_tlv.specs.Tree.{Tree, int, uint, bool, text, octets, null, bits32, bits64, structure, array, list, Elements}
-use Rattle.mt_tlv.specs.View.{elements, tree}
+use Rattle.mt_tlv.specs.View.{elements, tree, value_of}
 use Rattle.mt_tlv.specs.declared.value.Value.{Value}
 use Rattle.mt_tlv.specs.declared.value.Value.TheVariants as values
-use Rattle.mt_model.specs.Trees.{field_in, value_of}
+use Rattle.mt_model.specs.Trees.{field_in}
 use Rattle.mt_meta.specs.Forms as kept
 use Rattle.mt_meta.specs.Forms.{has_form, is_bench_item, is_binding_item, is_label_item}
 use Rattle.mt_meta.specs.Rows.{fabric_field, needed, optional}
@@ -19,7 +19,6 @@ use Rattle.mt_meta.specs.declared.rows.Form.{Form}
 use Rattle.mt_meta.specs.declared.rows.Form.TheVariants as forms
 use Rattle.mt_write.specs.Forms.{are_octets, are_within, has_type, have_types, is_bool, is_item, is_number, is_text, is_within, field_has_type, field_is_within, octets_fit, text_fits}
 use Rattle.mt_write.specs.Items.{kept_fields, kept_item, kept_value, tagged}
-use Rattle.mt_write.proofs.ValueTrees.{tree_of_value}
 
 pub and-both : (a b : Bool) → (a && b) ≡ true → (a ≡ true) × (b ≡ true)
 and-both true b h = (refl, h)
@@ -182,114 +181,115 @@ value-form kinds.Roots limit form v fits typed within = absurd cc
 value-form kinds.Labels limit form v fits typed within = absurd cc
 value-form kinds.Bench limit form v fits typed within = absurd cc
 
--- Items of lists.
-
-text-kept : (most : ℕ) (t : Tree) → is_text t ≡ true → text_fits 0 most t ≡ true → kept.is_text most (tree (value_of t)) ≡ true
-text-kept most t typed fits = subst (λ u. kept.is_text most u ≡ true) (sym (tree_of_value t)) (text-form most t typed fits)
-
-octets-kept : (most : ℕ) (t : Tree) → are_octets t ≡ true → octets_fit most t ≡ true → kept.are_octets most (tree (value_of t)) ≡ true
-octets-kept most t typed fits = subst (λ u. kept.are_octets most u ≡ true) (sym (tree_of_value t)) (octets-form most t typed fits)
-
-number-kept : (greatest bits : ℕ) (t : Tree) → ((n : ℕ) → nat_le n greatest ≡ true → nat_lt n (2 ^ bits) ≡ true) → is_number greatest t ≡ true → kept.is_number bits (tree (value_of t)) ≡ true
-number-kept greatest bits t lift typed = subst (λ u. kept.is_number bits u ≡ true) (sym (tree_of_value t)) (number-form greatest bits t lift typed)
-
 pub impossible : {A : Type 0} → false ≡ true → A
 impossible h = absurd cc
 
-label-form : (fabric : ℕ) (a b : Option Tree)
-    → (field_has_type (needed 0 (forms.Text 0 16)) a && (field_has_type (needed 1 (forms.Text 0 16)) b && true)) ≡ true
-    → (field_is_within (needed 0 (forms.Text 0 16)) a && (field_is_within (needed 1 (forms.Text 0 16)) b && true)) ≡ true
-    → is_label_item (structure (elements (tagged 0 (kept_value fabric (forms.Text 0 16) a) ++ (tagged 1 (kept_value fabric (forms.Text 0 16) b) ++ [])))) ≡ true
-label-form fabric None b typed within = impossible typed
-label-form fabric (Some t) None typed within = impossible ((and-both (is_text t) (false && true) typed).1)
-label-form fabric (Some t) (Some u) typed within =
-    let types = and-both (is_text t) (is_text u && true) typed in
-    let limits = and-both (text_fits 0 16 t) (text_fits 0 16 u && true) within in
-    let last_type = and-both (is_text u) true types.1 in
-    let last_limit = and-both (text_fits 0 16 u) true limits.1 in
-    and-true (kept.is_text 16 (tree (value_of t))) (kept.is_text 16 (tree (value_of u))) (text-kept 16 t types.0 limits.0) (text-kept 16 u last_type.0 last_limit.0)
+-- Items of lists, by the law that the tree of a tree's value is the tree.
 
-bench-form : (fabric : ℕ) (a b c : Option Tree) → nat_lt fabric (2 ^ 8) ≡ true
-    → (field_has_type (needed 1 (forms.Text 0 32)) a && (field_has_type (needed 2 (forms.Octets 64)) b && (field_has_type fabric_field c && true))) ≡ true
-    → (field_is_within (needed 1 (forms.Text 0 32)) a && (field_is_within (needed 2 (forms.Octets 64)) b && (field_is_within fabric_field c && true))) ≡ true
-    → is_bench_item (elements (tagged 1 (kept_value fabric (forms.Text 0 32) a) ++ (tagged 2 (kept_value fabric (forms.Octets 64) b) ++ (tagged 254 (kept_value fabric forms.FabricIndex c) ++ [])))) ≡ true
-bench-form fabric None b c fits typed within = impossible typed
-bench-form fabric (Some t) None c fits typed within = impossible ((and-both (is_text t) (false && (field_has_type fabric_field c && true)) typed).1)
-bench-form fabric (Some t) (Some u) c fits typed within =
-    let types = and-both (is_text t) (are_octets u && (field_has_type fabric_field c && true)) typed in
-    let limits = and-both (text_fits 0 32 t) (octets_fit 64 u && (field_is_within fabric_field c && true)) within in
-    let secret_type = and-both (are_octets u) (field_has_type fabric_field c && true) types.1 in
-    let secret_limit = and-both (octets_fit 64 u) (field_is_within fabric_field c && true) limits.1 in
-    let name = kept.is_text 32 (tree (value_of t)) in
-    let secret = kept.are_octets 64 (tree (value_of u)) in
-    and-true (name && secret) (nat_lt fabric (2 ^ 8)) (and-true name secret (text-kept 32 t types.0 limits.0) (octets-kept 64 u secret_type.0 secret_limit.0)) fits
+module _ (tree_value : (t : Tree) → tree (value_of t) ≡ t) where
+  text-kept : (most : ℕ) (t : Tree) → is_text t ≡ true → text_fits 0 most t ≡ true → kept.is_text most (tree (value_of t)) ≡ true
+  text-kept most t typed fits = subst (λ u. kept.is_text most u ≡ true) (sym (tree_value t)) (text-form most t typed fits)
 
--- a number that may be missing, as it is kept
-optional-form : (number greatest bits : ℕ) (o : Option Tree) → ((n : ℕ) → nat_le n greatest ≡ true → nat_lt n (2 ^ bits) ≡ true) → field_has_type (optional number (forms.Uint greatest)) o ≡ true
-    → kept.may_have (kept.is_number bits) (option_map (λ t. tree (value_of t)) o) ≡ true
-optional-form number greatest bits None lift typed = refl
-optional-form number greatest bits (Some t) lift typed = number-kept greatest bits t lift typed
+  octets-kept : (most : ℕ) (t : Tree) → are_octets t ≡ true → octets_fit most t ≡ true → kept.are_octets most (tree (value_of t)) ≡ true
+  octets-kept most t typed fits = subst (λ u. kept.are_octets most u ≡ true) (sym (tree_value t)) (octets-form most t typed fits)
 
-all-four : (a b c d : Bool) → a ≡ true → b ≡ true → c ≡ true → d ≡ true → (a && b && c && d) ≡ true
-all-four a b c d p q r s = and-true (a && b && c) d (and-true (a && b) c (and-true a b p q) r) s
+  number-kept : (greatest bits : ℕ) (t : Tree) → ((n : ℕ) → nat_le n greatest ≡ true → nat_lt n (2 ^ bits) ≡ true) → is_number greatest t ≡ true → kept.is_number bits (tree (value_of t)) ≡ true
+  number-kept greatest bits t lift typed = subst (λ u. kept.is_number bits u ≡ true) (sym (tree_value t)) (number-form greatest bits t lift typed)
 
-binding-kept : (fabric : ℕ) (a b c d : Option Tree) → nat_lt fabric (2 ^ 8) ≡ true
-    → kept.may_have (kept.is_number 64) (option_map (λ t. tree (value_of t)) a) ≡ true
-    → kept.may_have (kept.is_number 16) (option_map (λ t. tree (value_of t)) b) ≡ true
-    → kept.may_have (kept.is_number 32) (option_map (λ t. tree (value_of t)) c) ≡ true
-    → is_binding_item (elements (tagged 1 (kept_value fabric (forms.Uint 0xffffffffffffffff) a) ++ (tagged 3 (kept_value fabric (forms.Uint 0xffff) b) ++ (tagged 4 (kept_value fabric (forms.Uint 0xffffffff) c) ++ (tagged 254 (kept_value fabric forms.FabricIndex d) ++ []))))) ≡ true
-binding-kept fabric None None None d fits p q r = all-four (true) (true) (true) (nat_lt fabric (2 ^ 8)) p q r fits
-binding-kept fabric None None (Some w) d fits p q r = all-four (true) (true) (kept.is_number 32 (tree (value_of w))) (nat_lt fabric (2 ^ 8)) p q r fits
-binding-kept fabric None (Some u) None d fits p q r = all-four (true) (kept.is_number 16 (tree (value_of u))) (true) (nat_lt fabric (2 ^ 8)) p q r fits
-binding-kept fabric None (Some u) (Some w) d fits p q r = all-four (true) (kept.is_number 16 (tree (value_of u))) (kept.is_number 32 (tree (value_of w))) (nat_lt fabric (2 ^ 8)) p q r fits
-binding-kept fabric (Some t) None None d fits p q r = all-four (kept.is_number 64 (tree (value_of t))) (true) (true) (nat_lt fabric (2 ^ 8)) p q r fits
-binding-kept fabric (Some t) None (Some w) d fits p q r = all-four (kept.is_number 64 (tree (value_of t))) (true) (kept.is_number 32 (tree (value_of w))) (nat_lt fabric (2 ^ 8)) p q r fits
-binding-kept fabric (Some t) (Some u) None d fits p q r = all-four (kept.is_number 64 (tree (value_of t))) (kept.is_number 16 (tree (value_of u))) (true) (nat_lt fabric (2 ^ 8)) p q r fits
-binding-kept fabric (Some t) (Some u) (Some w) d fits p q r = all-four (kept.is_number 64 (tree (value_of t))) (kept.is_number 16 (tree (value_of u))) (kept.is_number 32 (tree (value_of w))) (nat_lt fabric (2 ^ 8)) p q r fits
+  label-form : (fabric : ℕ) (a b : Option Tree)
+      → (field_has_type (needed 0 (forms.Text 0 16)) a && (field_has_type (needed 1 (forms.Text 0 16)) b && true)) ≡ true
+      → (field_is_within (needed 0 (forms.Text 0 16)) a && (field_is_within (needed 1 (forms.Text 0 16)) b && true)) ≡ true
+      → is_label_item (structure (elements (tagged 0 (kept_value fabric (forms.Text 0 16) a) ++ (tagged 1 (kept_value fabric (forms.Text 0 16) b) ++ [])))) ≡ true
+  label-form fabric None b typed within = impossible typed
+  label-form fabric (Some t) None typed within = impossible ((and-both (is_text t) (false && true) typed).1)
+  label-form fabric (Some t) (Some u) typed within =
+      let types = and-both (is_text t) (is_text u && true) typed in
+      let limits = and-both (text_fits 0 16 t) (text_fits 0 16 u && true) within in
+      let last_type = and-both (is_text u) true types.1 in
+      let last_limit = and-both (text_fits 0 16 u) true limits.1 in
+      and-true (kept.is_text 16 (tree (value_of t))) (kept.is_text 16 (tree (value_of u))) (text-kept 16 t types.0 limits.0) (text-kept 16 u last_type.0 last_limit.0)
 
-binding-form : (fabric : ℕ) (a b c d : Option Tree) → nat_lt fabric (2 ^ 8) ≡ true
-    → (field_has_type (optional 1 (forms.Uint 0xffffffffffffffff)) a && (field_has_type (optional 3 (forms.Uint 0xffff)) b && (field_has_type (optional 4 (forms.Uint 0xffffffff)) c && (field_has_type fabric_field d && true)))) ≡ true
-    → is_binding_item (elements (tagged 1 (kept_value fabric (forms.Uint 0xffffffffffffffff) a) ++ (tagged 3 (kept_value fabric (forms.Uint 0xffff) b) ++ (tagged 4 (kept_value fabric (forms.Uint 0xffffffff) c) ++ (tagged 254 (kept_value fabric forms.FabricIndex d) ++ []))))) ≡ true
-binding-form fabric a b c d fits typed =
-    let last = field_has_type fabric_field d && true in
-    let third = field_has_type (optional 4 (forms.Uint 0xffffffff)) c in
-    let second = field_has_type (optional 3 (forms.Uint 0xffff)) b in
-    let first = and-both (field_has_type (optional 1 (forms.Uint 0xffffffffffffffff)) a) (second && (third && last)) typed in
-    let rest = and-both second (third && last) first.1 in
-    let end = and-both third last rest.1 in
-    binding-kept fabric a b c d fits (optional-form 1 0xffffffffffffffff 64 a below-64 first.0) (optional-form 3 0xffff 16 b below-16 rest.0) (optional-form 4 0xffffffff 32 c below-32 end.0)
+  bench-form : (fabric : ℕ) (a b c : Option Tree) → nat_lt fabric (2 ^ 8) ≡ true
+      → (field_has_type (needed 1 (forms.Text 0 32)) a && (field_has_type (needed 2 (forms.Octets 64)) b && (field_has_type fabric_field c && true))) ≡ true
+      → (field_is_within (needed 1 (forms.Text 0 32)) a && (field_is_within (needed 2 (forms.Octets 64)) b && (field_is_within fabric_field c && true))) ≡ true
+      → is_bench_item (elements (tagged 1 (kept_value fabric (forms.Text 0 32) a) ++ (tagged 2 (kept_value fabric (forms.Octets 64) b) ++ (tagged 254 (kept_value fabric forms.FabricIndex c) ++ [])))) ≡ true
+  bench-form fabric None b c fits typed within = impossible typed
+  bench-form fabric (Some t) None c fits typed within = impossible ((and-both (is_text t) (false && (field_has_type fabric_field c && true)) typed).1)
+  bench-form fabric (Some t) (Some u) c fits typed within =
+      let types = and-both (is_text t) (are_octets u && (field_has_type fabric_field c && true)) typed in
+      let limits = and-both (text_fits 0 32 t) (octets_fit 64 u && (field_is_within fabric_field c && true)) within in
+      let secret_type = and-both (are_octets u) (field_has_type fabric_field c && true) types.1 in
+      let secret_limit = and-both (octets_fit 64 u) (field_is_within fabric_field c && true) limits.1 in
+      let name = kept.is_text 32 (tree (value_of t)) in
+      let secret = kept.are_octets 64 (tree (value_of u)) in
+      and-true (name && secret) (nat_lt fabric (2 ^ 8)) (and-true name secret (text-kept 32 t types.0 limits.0) (octets-kept 64 u secret_type.0 secret_limit.0)) fits
 
--- An item that is kept is a structure.
+  -- a number that may be missing, as it is kept
+  optional-form : (number greatest bits : ℕ) (o : Option Tree) → ((n : ℕ) → nat_le n greatest ≡ true → nat_lt n (2 ^ bits) ≡ true) → field_has_type (optional number (forms.Uint greatest)) o ≡ true
+      → kept.may_have (kept.is_number bits) (option_map (λ t. tree (value_of t)) o) ≡ true
+  optional-form number greatest bits None lift typed = refl
+  optional-form number greatest bits (Some t) lift typed = number-kept greatest bits t lift typed
 
-struct-step : (b : Bool) (w v : Value) (P : Value → Type 0) → (if b then Some w else None) ≡ Some v → (b ≡ true → P w) → P v
-struct-step true w v P h each = let e : w ≡ v = cc in subst P e (each refl)
-struct-step false w v P h each = absurd cc
+  all-four : (a b c d : Bool) → a ≡ true → b ≡ true → c ≡ true → d ≡ true → (a && b && c && d) ≡ true
+  all-four a b c d p q r s = and-true (a && b && c) d (and-true (a && b) c (and-true a b p q) r) s
 
-kept-struct : (fields : List Field) (fabric : ℕ) (t : Tree) (v : Value) (P : Value → Type 0) → is_item fields t ≡ true → kept_item fields fabric t ≡ Some v
-    → ((es : Elements) → have_types fields es ≡ true → are_within fields es ≡ true → P (values.Struct (elements (kept_fields fabric fields es)))) → P v
-kept-struct fields fabric (int z) v P typed found each = impossible typed
-kept-struct fields fabric (uint n) v P typed found each = impossible typed
-kept-struct fields fabric (bool b) v P typed found each = impossible typed
-kept-struct fields fabric (text s) v P typed found each = impossible typed
-kept-struct fields fabric (octets s) v P typed found each = impossible typed
-kept-struct fields fabric null v P typed found each = impossible typed
-kept-struct fields fabric (bits32 n) v P typed found each = impossible typed
-kept-struct fields fabric (bits64 n) v P typed found each = impossible typed
-kept-struct fields fabric (structure es) v P typed found each = struct-step (are_within fields es) (values.Struct (elements (kept_fields fabric fields es))) v P found (each es typed)
-kept-struct fields fabric (array es) v P typed found each = impossible typed
-kept-struct fields fabric (list es) v P typed found each = impossible typed
+  binding-kept : (fabric : ℕ) (a b c d : Option Tree) → nat_lt fabric (2 ^ 8) ≡ true
+      → kept.may_have (kept.is_number 64) (option_map (λ t. tree (value_of t)) a) ≡ true
+      → kept.may_have (kept.is_number 16) (option_map (λ t. tree (value_of t)) b) ≡ true
+      → kept.may_have (kept.is_number 32) (option_map (λ t. tree (value_of t)) c) ≡ true
+      → is_binding_item (elements (tagged 1 (kept_value fabric (forms.Uint 0xffffffffffffffff) a) ++ (tagged 3 (kept_value fabric (forms.Uint 0xffff) b) ++ (tagged 4 (kept_value fabric (forms.Uint 0xffffffff) c) ++ (tagged 254 (kept_value fabric forms.FabricIndex d) ++ []))))) ≡ true
+  binding-kept fabric None None None d fits p q r = all-four (true) (true) (true) (nat_lt fabric (2 ^ 8)) p q r fits
+  binding-kept fabric None None (Some w) d fits p q r = all-four (true) (true) (kept.is_number 32 (tree (value_of w))) (nat_lt fabric (2 ^ 8)) p q r fits
+  binding-kept fabric None (Some u) None d fits p q r = all-four (true) (kept.is_number 16 (tree (value_of u))) (true) (nat_lt fabric (2 ^ 8)) p q r fits
+  binding-kept fabric None (Some u) (Some w) d fits p q r = all-four (true) (kept.is_number 16 (tree (value_of u))) (kept.is_number 32 (tree (value_of w))) (nat_lt fabric (2 ^ 8)) p q r fits
+  binding-kept fabric (Some t) None None d fits p q r = all-four (kept.is_number 64 (tree (value_of t))) (true) (true) (nat_lt fabric (2 ^ 8)) p q r fits
+  binding-kept fabric (Some t) None (Some w) d fits p q r = all-four (kept.is_number 64 (tree (value_of t))) (true) (kept.is_number 32 (tree (value_of w))) (nat_lt fabric (2 ^ 8)) p q r fits
+  binding-kept fabric (Some t) (Some u) None d fits p q r = all-four (kept.is_number 64 (tree (value_of t))) (kept.is_number 16 (tree (value_of u))) (true) (nat_lt fabric (2 ^ 8)) p q r fits
+  binding-kept fabric (Some t) (Some u) (Some w) d fits p q r = all-four (kept.is_number 64 (tree (value_of t))) (kept.is_number 16 (tree (value_of u))) (kept.is_number 32 (tree (value_of w))) (nat_lt fabric (2 ^ 8)) p q r fits
 
-pub label-item : (fabric : ℕ) (t : Tree) (v : Value) → is_item (fields_of kinds.Labels) t ≡ true → kept_item (fields_of kinds.Labels) fabric t ≡ Some v → is_label_item (tree v) ≡ true
-unfolding fields_of
-label-item fabric t v typed found =
-    kept-struct (fields_of kinds.Labels) fabric t v (λ w. is_label_item (tree w) ≡ true) typed found (λ es types within. label-form fabric (field_in 0 es) (field_in 1 es) types within)
+  binding-form : (fabric : ℕ) (a b c d : Option Tree) → nat_lt fabric (2 ^ 8) ≡ true
+      → (field_has_type (optional 1 (forms.Uint 0xffffffffffffffff)) a && (field_has_type (optional 3 (forms.Uint 0xffff)) b && (field_has_type (optional 4 (forms.Uint 0xffffffff)) c && (field_has_type fabric_field d && true)))) ≡ true
+      → is_binding_item (elements (tagged 1 (kept_value fabric (forms.Uint 0xffffffffffffffff) a) ++ (tagged 3 (kept_value fabric (forms.Uint 0xffff) b) ++ (tagged 4 (kept_value fabric (forms.Uint 0xffffffff) c) ++ (tagged 254 (kept_value fabric forms.FabricIndex d) ++ []))))) ≡ true
+  binding-form fabric a b c d fits typed =
+      let last = field_has_type fabric_field d && true in
+      let third = field_has_type (optional 4 (forms.Uint 0xffffffff)) c in
+      let second = field_has_type (optional 3 (forms.Uint 0xffff)) b in
+      let first = and-both (field_has_type (optional 1 (forms.Uint 0xffffffffffffffff)) a) (second && (third && last)) typed in
+      let rest = and-both second (third && last) first.1 in
+      let end = and-both third last rest.1 in
+      binding-kept fabric a b c d fits (optional-form 1 0xffffffffffffffff 64 a below-64 first.0) (optional-form 3 0xffff 16 b below-16 rest.0) (optional-form 4 0xffffffff 32 c below-32 end.0)
 
-pub bench-item : (limit fabric : ℕ) (t : Tree) (v : Value) → nat_lt fabric (2 ^ 8) ≡ true → is_item (fields_of kinds.Bench) t ≡ true → kept_item (fields_of kinds.Bench) fabric t ≡ Some v → has_form kinds.Bench limit v ≡ true
-unfolding fields_of
-bench-item limit fabric t v fits typed found =
-    kept-struct (fields_of kinds.Bench) fabric t v (λ w. has_form kinds.Bench limit w ≡ true) typed found (λ es types within. bench-form fabric (field_in 1 es) (field_in 2 es) (field_in 254 es) fits types within)
+  -- An item that is kept is a structure.
 
-pub binding-item : (limit fabric : ℕ) (t : Tree) (v : Value) → nat_lt fabric (2 ^ 8) ≡ true → is_item (fields_of kinds.Binding) t ≡ true → kept_item (fields_of kinds.Binding) fabric t ≡ Some v → has_form kinds.Binding limit v ≡ true
-unfolding fields_of
-binding-item limit fabric t v fits typed found =
-    kept-struct (fields_of kinds.Binding) fabric t v (λ w. has_form kinds.Binding limit w ≡ true) typed found (λ es types within. binding-form fabric (field_in 1 es) (field_in 3 es) (field_in 4 es) (field_in 254 es) fits types)
+  struct-step : (b : Bool) (w v : Value) (P : Value → Type 0) → (if b then Some w else None) ≡ Some v → (b ≡ true → P w) → P v
+  struct-step true w v P h each = let e : w ≡ v = cc in subst P e (each refl)
+  struct-step false w v P h each = absurd cc
+
+  kept-struct : (fields : List Field) (fabric : ℕ) (t : Tree) (v : Value) (P : Value → Type 0) → is_item fields t ≡ true → kept_item fields fabric t ≡ Some v
+      → ((es : Elements) → have_types fields es ≡ true → are_within fields es ≡ true → P (values.Struct (elements (kept_fields fabric fields es)))) → P v
+  kept-struct fields fabric (int z) v P typed found each = impossible typed
+  kept-struct fields fabric (uint n) v P typed found each = impossible typed
+  kept-struct fields fabric (bool b) v P typed found each = impossible typed
+  kept-struct fields fabric (text s) v P typed found each = impossible typed
+  kept-struct fields fabric (octets s) v P typed found each = impossible typed
+  kept-struct fields fabric null v P typed found each = impossible typed
+  kept-struct fields fabric (bits32 n) v P typed found each = impossible typed
+  kept-struct fields fabric (bits64 n) v P typed found each = impossible typed
+  kept-struct fields fabric (structure es) v P typed found each = struct-step (are_within fields es) (values.Struct (elements (kept_fields fabric fields es))) v P found (each es typed)
+  kept-struct fields fabric (array es) v P typed found each = impossible typed
+  kept-struct fields fabric (list es) v P typed found each = impossible typed
+
+  pub label-item : (fabric : ℕ) (t : Tree) (v : Value) → is_item (fields_of kinds.Labels) t ≡ true → kept_item (fields_of kinds.Labels) fabric t ≡ Some v → is_label_item (tree v) ≡ true
+  unfolding fields_of
+  label-item fabric t v typed found =
+      kept-struct (fields_of kinds.Labels) fabric t v (λ w. is_label_item (tree w) ≡ true) typed found (λ es types within. label-form fabric (field_in 0 es) (field_in 1 es) types within)
+
+  pub bench-item : (limit fabric : ℕ) (t : Tree) (v : Value) → nat_lt fabric (2 ^ 8) ≡ true → is_item (fields_of kinds.Bench) t ≡ true → kept_item (fields_of kinds.Bench) fabric t ≡ Some v → has_form kinds.Bench limit v ≡ true
+  unfolding fields_of
+  bench-item limit fabric t v fits typed found =
+      kept-struct (fields_of kinds.Bench) fabric t v (λ w. has_form kinds.Bench limit w ≡ true) typed found (λ es types within. bench-form fabric (field_in 1 es) (field_in 2 es) (field_in 254 es) fits types within)
+
+  pub binding-item : (limit fabric : ℕ) (t : Tree) (v : Value) → nat_lt fabric (2 ^ 8) ≡ true → is_item (fields_of kinds.Binding) t ≡ true → kept_item (fields_of kinds.Binding) fabric t ≡ Some v → has_form kinds.Binding limit v ≡ true
+  unfolding fields_of
+  binding-item limit fabric t v fits typed found =
+      kept-struct (fields_of kinds.Binding) fabric t v (λ w. has_form kinds.Binding limit w ≡ true) typed found (λ es types within. binding-form fabric (field_in 1 es) (field_in 3 es) (field_in 4 es) (field_in 254 es) fits types)

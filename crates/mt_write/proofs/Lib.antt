@@ -1,12 +1,12 @@
-pub mod Places
 pub mod Elements
 pub mod EachIn
 pub mod KeptEach
-pub mod ValueTrees
 pub mod Ends
 pub mod OwnValues
 pub mod Denied
+pub mod Steps
 pub mod Own
 pub mod KeptForms
 pub mod KeptLists
 pub mod Sound
+pub mod Nobody

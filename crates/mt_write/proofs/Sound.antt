@@ -2,12 +2,12 @@
 use Rattle.std.proofs.Common.{◌≡◌, ◌∙◌, ◌==◌, ◌&&◌, ◌||◌, ◌^◌, ◌≤◌, ℕ, nat_le, nat_lt, not, is_none, is_some, is_ok, Bool, true, false, List, [], ◌∷◌, Option, Some, None, Result, Ok, Err, length, unwrap_or, refl, sym, ap, subst, arith, if◌then◌else◌}
 use Rattle.std.specs.List.{list_all}
 use Rattle.std.proofs.lemmas.Bool.{eqb-true, eq-eqb, leb-true, le-leb}
-use Rattle.std.proofs.lemmas.List.Folds.{list_all-append}
 use Rattle.mt_tlv.specs.Tree.{Tree, int, uint, bool, text, octets, null, bits32, bits64, structure, array, list}
-use Rattle.mt_tlv.specs.View.{tree}
+use Rattle.mt_tlv.specs.View.{tree, value_of}
 use Rattle.mt_tlv.specs.declared.value.Value.{Value}
 use Rattle.mt_model.specs.texts.Config.{is_entry}
-use Rattle.mt_model.specs.tables.Entries.{entry_with}
+use Rattle.mt_model.specs.tables.Entries.{entry_of, entry_with}
+use Rattle.mt_model.specs.messages.Blocks.{place_named}
 use Rattle.mt_model.specs.rows.Seen.{Seen}
 use Rattle.mt_model.specs.rows.Sight.{same_place}
 use Rattle.mt_model.specs.declared.tables.access.AclEntry.{AclEntry}
@@ -18,11 +18,10 @@ use Rattle.mt_model.specs.declared.tables.access.Target.{Target}
 use Rattle.mt_model.specs.declared.node.action.NodeStep.{NodeStep}
 use Rattle.mt_model.specs.declared.node.action.NodeStep.TheVariants.{SetRow, SetEntries, PutNetwork, RemoveNetwork, ConnectNetwork, MoveNetwork}
 use Rattle.mt_model.specs.declared.messages.message.Index.{Index}
-use Rattle.mt_model.specs.declared.messages.message.Path.{Path}
 use Rattle.mt_model.specs.declared.messages.message.WriteItem.{WriteItem}
 use Rattle.mt_model.specs.declared.rows.place.Place.{Place}
 use Rattle.mt_model.specs.declared.messages.status.Status.{Status}
-use Rattle.mt_model.specs.declared.messages.status.Status.TheVariants.{UnsupportedAccess, UnsupportedWrite, NeedsTimedInteraction, DataVersionMismatch, InvalidDataType, ConstraintError}
+use Rattle.mt_model.specs.declared.messages.status.Status.TheVariants.{InvalidDataType, ConstraintError}
 use Rattle.mt_meta.specs.Finding.{find_of}
 use Rattle.mt_meta.specs.Forms.{has_form, is_label_item}
 use Rattle.mt_meta.specs.Stored.{is_stored}
@@ -34,15 +33,15 @@ use Rattle.mt_meta.specs.declared.meta.Meta.{Meta}
 use Rattle.mt_meta.specs.declared.rows.Form.{Form}
 use Rattle.mt_meta.specs.declared.rows.Takes.{Takes}
 use Rattle.mt_meta.specs.declared.rows.Takes.TheVariants as takes
-use Rattle.mt_write.specs.declared.writing.Written.{Written}
-use Rattle.mt_write.specs.Entries.{entry_in, kept_entry, valid_entry}
+use Rattle.mt_write.specs.Entries.{kept_entry, target_in, valid_entry}
 use Rattle.mt_write.specs.Forms.{has_type, is_item, is_within}
 use Rattle.mt_write.specs.Items.{is_append, kept_item}
 use Rattle.mt_write.specs.Latest.{entries_now, entries_set, latest, newer, row_set, rows_now}
 use Rattle.mt_write.specs.Laws.{IsSoundSight, LeavesSound, are_entries_of, is_entry_of, is_sound_row, is_sound_step}
-use Rattle.mt_write.specs.Writing.{array_with, entries_step, entries_written, fabric_of, is_entry_list, is_numbered, is_outdated, item_step, list_with, may_write, members_of, new_rows, open_at, own_values, place_named, row_step, rows_with, rows_written, staying, with_all, with_item, with_step, written_at}
+use Rattle.mt_write.specs.Writing.{array_with, entries_step, entries_written, fabric_of, is_entry_list, list_with, members_of, new_rows, own_values, row_step, rows_with, rows_written, staying, written_at}
 use Rattle.mt_write.proofs.KeptForms.{and-both, and-true, bench-item, binding-item, impossible, label-item, value-form}
 use Rattle.mt_write.proofs.KeptLists.{labels-form, list-all, members-form}
+use Rattle.mt_write.proofs.Steps.{Passes, each_passes}
 
 if-true : {A : Type 0} (b : Bool) (x y z : A) → b ≡ true → (if b then x else y) ≡ z → x ≡ z
 if-true true x y z e h = h
@@ -78,71 +77,73 @@ scoped-sound stored meta fabric index value there xs each fits all h =
     let listed : list_with keep meta index value there ≡ Ok xs = if-true meta.scoped (list_with keep meta index value there) (array_with keep meta index value (members_of there)) (Ok xs) both.1 h in
     sound stored meta xs both.0 ((list-all keep meta (has_form meta.kind meta.limit) each index value there xs all listed).0) (or-left meta.scoped (length xs == 1) both.1)
 
-labels-sound : (stored : Bool) (meta : Meta) (fabric : ℕ) (index : Index) (value : Value) (there xs : List Value) → meta.kind ≡ kinds.Labels
-    → (stored && not meta.scoped) ≡ true → list_all (has_form meta.kind meta.limit) there ≡ true → rows_with meta fabric index value there ≡ Ok xs → is_sound_row stored xs (Ok meta) ≡ true
-labels-sound stored meta fabric index value there xs kind fits all h =
-    let keep = kept_item (fields_of meta.kind) fabric in
-    let both = and-both stored (not meta.scoped) fits in
-    let arrayed : array_with keep meta index value (members_of there) ≡ Ok xs = if-false meta.scoped (list_with keep meta index value there) (array_with keep meta index value (members_of there)) (Ok xs) (not-true meta.scoped both.1) h in
-    let each : (t : Tree) (x : Value) → is_item (fields_of meta.kind) t ≡ true → kept_item (fields_of meta.kind) fabric t ≡ Some x → is_label_item (tree x) ≡ true =
-    subst (λ (k : Kind). (t : Tree) (x : Value) → is_item (fields_of k) t ≡ true → kept_item (fields_of k) fabric t ≡ Some x → is_label_item (tree x) ≡ true) (sym kind) (label-item fabric) in
-    let members = members-form meta.limit there (subst (λ k. list_all (has_form k meta.limit) there ≡ true) kind all) in
-    let form = labels-form keep meta each index value (members_of there) xs members.0 members.1 arrayed in
-    sound stored meta xs both.0 (subst (λ k. list_all (has_form k meta.limit) xs ≡ true) (sym kind) form.0) (or-right meta.scoped (length xs == 1) form.1)
+-- By the law that the tree of a tree's value is the tree.
+module _ (tree_value : (t : Tree) → tree (value_of t) ≡ t) where
+  labels-sound : (stored : Bool) (meta : Meta) (fabric : ℕ) (index : Index) (value : Value) (there xs : List Value) → meta.kind ≡ kinds.Labels
+      → (stored && not meta.scoped) ≡ true → list_all (has_form meta.kind meta.limit) there ≡ true → rows_with meta fabric index value there ≡ Ok xs → is_sound_row stored xs (Ok meta) ≡ true
+  labels-sound stored meta fabric index value there xs kind fits all h =
+      let keep = kept_item (fields_of meta.kind) fabric in
+      let both = and-both stored (not meta.scoped) fits in
+      let arrayed : array_with keep meta index value (members_of there) ≡ Ok xs = if-false meta.scoped (list_with keep meta index value there) (array_with keep meta index value (members_of there)) (Ok xs) (not-true meta.scoped both.1) h in
+      let each : (t : Tree) (x : Value) → is_item (fields_of meta.kind) t ≡ true → kept_item (fields_of meta.kind) fabric t ≡ Some x → is_label_item (tree x) ≡ true =
+      subst (λ (k : Kind). (t : Tree) (x : Value) → is_item (fields_of k) t ≡ true → kept_item (fields_of k) fabric t ≡ Some x → is_label_item (tree x) ≡ true) (sym kind) (label-item tree_value fabric) in
+      let members = members-form meta.limit there (subst (λ k. list_all (has_form k meta.limit) there ≡ true) kind all) in
+      let form = labels-form keep meta each index value (members_of there) xs members.0 members.1 arrayed in
+      sound stored meta xs both.0 (subst (λ k. list_all (has_form k meta.limit) xs ≡ true) (sym kind) form.0) (or-right meta.scoped (length xs == 1) form.1)
 
-rows-with-sound : (stored : Bool) (meta : Meta) (kind : Kind) (fabric : ℕ) (index : Index) (value : Value) (there xs : List Value) → meta.kind ≡ kind → fits_list stored meta.scoped meta.limit kind ≡ true → is_entry_list kind ≡ false
-    → nat_lt fabric (2 ^ 8) ≡ true → list_all (has_form meta.kind meta.limit) there ≡ true → rows_with meta fabric index value there ≡ Ok xs → is_sound_row stored xs (Ok meta) ≡ true
-rows-with-sound stored meta kinds.Bool fabric index value there xs kind fits other small all h = impossible fits
-rows-with-sound stored meta kinds.Uint fabric index value there xs kind fits other small all h = impossible fits
-rows-with-sound stored meta kinds.Uint32 fabric index value there xs kind fits other small all h = impossible fits
-rows-with-sound stored meta kinds.NullableUint fabric index value there xs kind fits other small all h = impossible fits
-rows-with-sound stored meta kinds.NullableOctets fabric index value there xs kind fits other small all h = impossible fits
-rows-with-sound stored meta kinds.Null fabric index value there xs kind fits other small all h = impossible fits
-rows-with-sound stored meta kinds.Text fabric index value there xs kind fits other small all h = impossible fits
-rows-with-sound stored meta kinds.Numbers fabric index value there xs kind fits other small all h = impossible fits
-rows-with-sound stored meta kinds.Structure fabric index value there xs kind fits other small all h = impossible fits
-rows-with-sound stored meta kinds.DeviceTypes fabric index value there xs kind fits other small all h = impossible fits
-rows-with-sound stored meta kinds.Binding fabric index value there xs kind fits other small all h =
-    scoped-sound stored meta fabric index value there xs
-    (subst (λ (k : Kind). (t : Tree) (x : Value) → is_item (fields_of k) t ≡ true → kept_item (fields_of k) fabric t ≡ Some x → has_form k meta.limit x ≡ true) (sym kind) (λ t x typed found. binding-item meta.limit fabric t x small typed found))
-    fits all h
-rows-with-sound stored meta kinds.Acl fabric index value there xs kind fits other small all h = impossible (sym other)
-rows-with-sound stored meta kinds.Networks fabric index value there xs kind fits other small all h = impossible fits
-rows-with-sound stored meta kinds.Nocs fabric index value there xs kind fits other small all h = impossible fits
-rows-with-sound stored meta kinds.Fabrics fabric index value there xs kind fits other small all h = impossible fits
-rows-with-sound stored meta kinds.Roots fabric index value there xs kind fits other small all h = impossible fits
-rows-with-sound stored meta kinds.Labels fabric index value there xs kind fits other small all h = labels-sound stored meta fabric index value there xs kind fits all h
-rows-with-sound stored meta kinds.Bench fabric index value there xs kind fits other small all h =
-    scoped-sound stored meta fabric index value there xs
-    (subst (λ (k : Kind). (t : Tree) (x : Value) → is_item (fields_of k) t ≡ true → kept_item (fields_of k) fabric t ≡ Some x → has_form k meta.limit x ≡ true) (sym kind) (λ t x typed found. bench-item meta.limit fabric t x small typed found))
-    fits all h
+  rows-with-sound : (stored : Bool) (meta : Meta) (kind : Kind) (fabric : ℕ) (index : Index) (value : Value) (there xs : List Value) → meta.kind ≡ kind → fits_list stored meta.scoped meta.limit kind ≡ true → is_entry_list kind ≡ false
+      → nat_lt fabric (2 ^ 8) ≡ true → list_all (has_form meta.kind meta.limit) there ≡ true → rows_with meta fabric index value there ≡ Ok xs → is_sound_row stored xs (Ok meta) ≡ true
+  rows-with-sound stored meta kinds.Bool fabric index value there xs kind fits other small all h = impossible fits
+  rows-with-sound stored meta kinds.Uint fabric index value there xs kind fits other small all h = impossible fits
+  rows-with-sound stored meta kinds.Uint32 fabric index value there xs kind fits other small all h = impossible fits
+  rows-with-sound stored meta kinds.NullableUint fabric index value there xs kind fits other small all h = impossible fits
+  rows-with-sound stored meta kinds.NullableOctets fabric index value there xs kind fits other small all h = impossible fits
+  rows-with-sound stored meta kinds.Null fabric index value there xs kind fits other small all h = impossible fits
+  rows-with-sound stored meta kinds.Text fabric index value there xs kind fits other small all h = impossible fits
+  rows-with-sound stored meta kinds.Numbers fabric index value there xs kind fits other small all h = impossible fits
+  rows-with-sound stored meta kinds.Structure fabric index value there xs kind fits other small all h = impossible fits
+  rows-with-sound stored meta kinds.DeviceTypes fabric index value there xs kind fits other small all h = impossible fits
+  rows-with-sound stored meta kinds.Binding fabric index value there xs kind fits other small all h =
+      scoped-sound stored meta fabric index value there xs
+      (subst (λ (k : Kind). (t : Tree) (x : Value) → is_item (fields_of k) t ≡ true → kept_item (fields_of k) fabric t ≡ Some x → has_form k meta.limit x ≡ true) (sym kind) (λ t x typed found. binding-item tree_value meta.limit fabric t x small typed found))
+      fits all h
+  rows-with-sound stored meta kinds.Acl fabric index value there xs kind fits other small all h = impossible (sym other)
+  rows-with-sound stored meta kinds.Networks fabric index value there xs kind fits other small all h = impossible fits
+  rows-with-sound stored meta kinds.Nocs fabric index value there xs kind fits other small all h = impossible fits
+  rows-with-sound stored meta kinds.Fabrics fabric index value there xs kind fits other small all h = impossible fits
+  rows-with-sound stored meta kinds.Roots fabric index value there xs kind fits other small all h = impossible fits
+  rows-with-sound stored meta kinds.Labels fabric index value there xs kind fits other small all h = labels-sound stored meta fabric index value there xs kind fits all h
+  rows-with-sound stored meta kinds.Bench fabric index value there xs kind fits other small all h =
+      scoped-sound stored meta fabric index value there xs
+      (subst (λ (k : Kind). (t : Tree) (x : Value) → is_item (fields_of k) t ≡ true → kept_item (fields_of k) fabric t ≡ Some x → has_form k meta.limit x ≡ true) (sym kind) (λ t x typed found. bench-item tree_value meta.limit fabric t x small typed found))
+      fits all h
 
-value-step : (a t w : Bool) (v : Value) (xs : List Value) → ◌≡◌ {A = Result (List Value) Status} (if a || not t then Err InvalidDataType else if not w then Err ConstraintError else Ok (v ∷ [])) (Ok xs) → (t ≡ true) × (w ≡ true) × (v ∷ [] ≡ xs)
-value-step true t w v xs h = absurd cc
-value-step false false w v xs h = absurd cc
-value-step false true false v xs h = absurd cc
-value-step false true true v xs h = (refl, refl, cc)
+  value-step : (a t w : Bool) (v : Value) (xs : List Value) → ◌≡◌ {A = Result (List Value) Status} (if a || not t then Err InvalidDataType else if not w then Err ConstraintError else Ok (v ∷ [])) (Ok xs) → (t ≡ true) × (w ≡ true) × (v ∷ [] ≡ xs)
+  value-step true t w v xs h = absurd cc
+  value-step false false w v xs h = absurd cc
+  value-step false true false v xs h = absurd cc
+  value-step false true true v xs h = (refl, refl, cc)
 
-staying-step : (p : Value → Bool) (b : Bool) (there : List Value) → list_all p there ≡ true → list_all p (if b then there else []) ≡ true
-staying-step p true there all = all
-staying-step p false there all = refl
+  staying-step : (p : Value → Bool) (b : Bool) (there : List Value) → list_all p there ≡ true → list_all p (if b then there else []) ≡ true
+  staying-step p true there all = all
+  staying-step p false there all = refl
 
-new-rows-sound : (stored : Bool) (meta : Meta) (taken : Option Takes) (fabric : ℕ) (index : Index) (value : Value) (before xs : List Value) → fits_found stored (Ok meta) taken ≡ true → is_entry_list meta.kind ≡ false
-    → nat_lt fabric (2 ^ 8) ≡ true → list_all (has_form meta.kind meta.limit) before ≡ true → new_rows meta taken fabric index value before ≡ Ok xs → is_sound_row stored xs (Ok meta) ≡ true
-new-rows-sound stored meta None fabric index value before xs fits other small all h = impossible fits
-new-rows-sound stored meta (Some takes.Nothing) fabric index value before xs fits other small all h = absurd cc
-new-rows-sound stored meta (Some (takes.Value form)) fabric index value before xs fits other small all h =
-    let first = and-both (is_some meta.write) (stored && (not meta.scoped && fits_form meta.kind meta.limit form)) fits in
-    let second = and-both stored (not meta.scoped && fits_form meta.kind meta.limit form) first.1 in
-    let third = and-both (not meta.scoped) (fits_form meta.kind meta.limit form) second.1 in
-    let parts = value-step (is_append index) (has_type form (tree value)) (is_within form (tree value)) value xs h in
-    let form_of = value-form meta.kind meta.limit form value third.1 parts.0 parts.1 in
-    sound stored meta xs second.0
-    (subst (λ zs. list_all (has_form meta.kind meta.limit) zs ≡ true) parts.2 (and-true (has_form meta.kind meta.limit value) true form_of refl))
-    (or-right meta.scoped (length xs == 1) (subst (λ (zs : List Value). (length zs == 1) ≡ true) parts.2 refl))
-new-rows-sound stored meta (Some takes.Items) fabric index value before xs fits other small all h =
-    let both = and-both (is_some meta.write) (fits_list stored meta.scoped meta.limit meta.kind) fits in
-    rows-with-sound stored meta meta.kind fabric index value (staying index before) xs refl both.1 other small (staying-step (has_form meta.kind meta.limit) (is_append index) before all) h
+  new-rows-sound : (stored : Bool) (meta : Meta) (taken : Option Takes) (fabric : ℕ) (index : Index) (value : Value) (before xs : List Value) → fits_found stored (Ok meta) taken ≡ true → is_entry_list meta.kind ≡ false
+      → nat_lt fabric (2 ^ 8) ≡ true → list_all (has_form meta.kind meta.limit) before ≡ true → new_rows meta taken fabric index value before ≡ Ok xs → is_sound_row stored xs (Ok meta) ≡ true
+  new-rows-sound stored meta None fabric index value before xs fits other small all h = impossible fits
+  new-rows-sound stored meta (Some takes.Nothing) fabric index value before xs fits other small all h = absurd cc
+  new-rows-sound stored meta (Some (takes.Value form)) fabric index value before xs fits other small all h =
+      let first = and-both (is_some meta.write) (stored && (not meta.scoped && fits_form meta.kind meta.limit form)) fits in
+      let second = and-both stored (not meta.scoped && fits_form meta.kind meta.limit form) first.1 in
+      let third = and-both (not meta.scoped) (fits_form meta.kind meta.limit form) second.1 in
+      let parts = value-step (is_append index) (has_type form (tree value)) (is_within form (tree value)) value xs h in
+      let form_of = value-form meta.kind meta.limit form value third.1 parts.0 parts.1 in
+      sound stored meta xs second.0
+      (subst (λ zs. list_all (has_form meta.kind meta.limit) zs ≡ true) parts.2 (and-true (has_form meta.kind meta.limit value) true form_of refl))
+      (or-right meta.scoped (length xs == 1) (subst (λ (zs : List Value). (length zs == 1) ≡ true) parts.2 refl))
+  new-rows-sound stored meta (Some takes.Items) fabric index value before xs fits other small all h =
+      let both = and-both (is_some meta.write) (fits_list stored meta.scoped meta.limit meta.kind) fits in
+      rows-with-sound stored meta meta.kind fabric index value (staying index before) xs refl both.1 other small (staying-step (has_form meta.kind meta.limit) (is_append index) before all) h
 
 -- Entries.
 
@@ -174,7 +175,7 @@ entry-kept fabric null x h = absurd cc
 entry-kept fabric (bits32 n) x h = absurd cc
 entry-kept fabric (bits64 n) x h = absurd cc
 entry-kept fabric (structure es) x h =
-    let parts = valid-ok (entry_in fabric es) x h in
+    let parts = valid-ok (entry_of target_in (Some fabric) es) x h in
     and-true (is_entry x) (x.fabric == fabric) parts.0 (eq-eqb x.fabric fabric (entry-fabric _ _ _ _ fabric x parts.1))
 entry-kept fabric (array es) x h = absurd cc
 entry-kept fabric (list es) x h = absurd cc
@@ -217,25 +218,25 @@ acl-no-form kinds.Roots limit form acl fits = acl
 acl-no-form kinds.Labels limit form acl fits = acl
 acl-no-form kinds.Bench limit form acl fits = acl
 
-acl-limit : (stored scoped : Bool) (limit : ℕ) (kind : Kind) → is_entry_list kind ≡ true → fits_list stored scoped limit kind ≡ true → (limit == 4) ≡ true
-acl-limit stored scoped limit kinds.Bool acl fits = impossible acl
-acl-limit stored scoped limit kinds.Uint acl fits = impossible acl
-acl-limit stored scoped limit kinds.Uint32 acl fits = impossible acl
-acl-limit stored scoped limit kinds.NullableUint acl fits = impossible acl
-acl-limit stored scoped limit kinds.NullableOctets acl fits = impossible acl
-acl-limit stored scoped limit kinds.Null acl fits = impossible acl
-acl-limit stored scoped limit kinds.Text acl fits = impossible acl
-acl-limit stored scoped limit kinds.Numbers acl fits = impossible acl
-acl-limit stored scoped limit kinds.Structure acl fits = impossible acl
-acl-limit stored scoped limit kinds.DeviceTypes acl fits = impossible acl
-acl-limit stored scoped limit kinds.Binding acl fits = impossible acl
-acl-limit stored scoped limit kinds.Acl acl fits = (and-both scoped (limit == 4) fits).1
-acl-limit stored scoped limit kinds.Networks acl fits = impossible acl
-acl-limit stored scoped limit kinds.Nocs acl fits = impossible acl
-acl-limit stored scoped limit kinds.Fabrics acl fits = impossible acl
-acl-limit stored scoped limit kinds.Roots acl fits = impossible acl
-acl-limit stored scoped limit kinds.Labels acl fits = impossible acl
-acl-limit stored scoped limit kinds.Bench acl fits = impossible acl
+acl-list : (stored scoped : Bool) (limit : ℕ) (kind : Kind) → is_entry_list kind ≡ true → fits_list stored scoped limit kind ≡ true → (scoped && limit == 4) ≡ true
+acl-list stored scoped limit kinds.Bool acl fits = impossible acl
+acl-list stored scoped limit kinds.Uint acl fits = impossible acl
+acl-list stored scoped limit kinds.Uint32 acl fits = impossible acl
+acl-list stored scoped limit kinds.NullableUint acl fits = impossible acl
+acl-list stored scoped limit kinds.NullableOctets acl fits = impossible acl
+acl-list stored scoped limit kinds.Null acl fits = impossible acl
+acl-list stored scoped limit kinds.Text acl fits = impossible acl
+acl-list stored scoped limit kinds.Numbers acl fits = impossible acl
+acl-list stored scoped limit kinds.Structure acl fits = impossible acl
+acl-list stored scoped limit kinds.DeviceTypes acl fits = impossible acl
+acl-list stored scoped limit kinds.Binding acl fits = impossible acl
+acl-list stored scoped limit kinds.Acl acl fits = fits
+acl-list stored scoped limit kinds.Networks acl fits = impossible acl
+acl-list stored scoped limit kinds.Nocs acl fits = impossible acl
+acl-list stored scoped limit kinds.Fabrics acl fits = impossible acl
+acl-list stored scoped limit kinds.Roots acl fits = impossible acl
+acl-list stored scoped limit kinds.Labels acl fits = impossible acl
+acl-list stored scoped limit kinds.Bench acl fits = impossible acl
 
 list-stored : (stored scoped : Bool) (limit : ℕ) (kind : Kind) → is_entry_list kind ≡ false → fits_list stored scoped limit kind ≡ true → stored ≡ true
 list-stored stored scoped limit kinds.Bool other fits = impossible fits
@@ -257,17 +258,17 @@ list-stored stored scoped limit kinds.Roots other fits = impossible fits
 list-stored stored scoped limit kinds.Labels other fits = (and-both stored (not scoped) fits).0
 list-stored stored scoped limit kinds.Bench other fits = (and-both stored scoped fits).0
 
-four-entries : (stored : Bool) (meta : Meta) (taken : Option Takes) → is_entry_list meta.kind ≡ true → is_none meta.write ≡ false → fits_found stored (Ok meta) taken ≡ true → (meta.limit == 4) ≡ true
-four-entries stored meta None acl writable fits = impossible fits
-four-entries stored meta (Some takes.Nothing) acl writable fits = impossible (sym writable ∙ fits)
-four-entries stored meta (Some (takes.Value form)) acl writable fits =
+pub entry-list : (stored : Bool) (meta : Meta) (taken : Option Takes) → is_entry_list meta.kind ≡ true → is_none meta.write ≡ false → fits_found stored (Ok meta) taken ≡ true → (meta.scoped && meta.limit == 4) ≡ true
+entry-list stored meta None acl writable fits = impossible fits
+entry-list stored meta (Some takes.Nothing) acl writable fits = impossible (sym writable ∙ fits)
+entry-list stored meta (Some (takes.Value form)) acl writable fits =
     let first = and-both (is_some meta.write) (stored && (not meta.scoped && fits_form meta.kind meta.limit form)) fits in
     let second = and-both stored (not meta.scoped && fits_form meta.kind meta.limit form) first.1 in
     let third = and-both (not meta.scoped) (fits_form meta.kind meta.limit form) second.1 in
     impossible (acl-no-form meta.kind meta.limit form acl third.1)
-four-entries stored meta (Some takes.Items) acl writable fits =
+entry-list stored meta (Some takes.Items) acl writable fits =
     let both = and-both (is_some meta.write) (fits_list stored meta.scoped meta.limit meta.kind) fits in
-    acl-limit stored meta.scoped meta.limit meta.kind acl both.1
+    acl-list stored meta.scoped meta.limit meta.kind acl both.1
 
 rows-stored : (stored : Bool) (meta : Meta) (taken : Option Takes) → is_entry_list meta.kind ≡ false → is_none meta.write ≡ false → fits_found stored (Ok meta) taken ≡ true → stored ≡ true
 rows-stored stored meta None other writable fits = impossible fits
@@ -353,22 +354,15 @@ module _ (fabric : ℕ) (stored : List AclEntry) where
 
 -- Items.
 
-abbrev is_sound : Result NodeStep Status → Bool
-is_sound (Err status) = true
-is_sound (Ok step) = is_sound_step step
-
-record IsSound (outcome : Result NodeStep Status) : Type 0 where
-  is : is_sound outcome ≡ true
-
-entries-step-sound : (fabric : ℕ) (r : Result (List AclEntry) Status) → ((xs : List AclEntry) → r ≡ Ok xs → are_entries_of fabric xs ≡ true) → IsSound (entries_step fabric r)
+entries-step-sound : (fabric : ℕ) (r : Result (List AclEntry) Status) → ((xs : List AclEntry) → r ≡ Ok xs → are_entries_of fabric xs ≡ true) → Passes is_sound_step (entries_step fabric r)
 entries-step-sound fabric (Err status) each = record { is = refl }
 entries-step-sound fabric (Ok xs) each = record { is = each xs refl }
 
-row-step-sound : (place : Place) (fabric : ℕ) (r : Result (List Value) Status) → ((xs : List Value) → r ≡ Ok xs → is_sound_row (is_stored place) xs (find_of place) ≡ true) → IsSound (row_step place fabric r)
+row-step-sound : (place : Place) (fabric : ℕ) (r : Result (List Value) Status) → ((xs : List Value) → r ≡ Ok xs → is_sound_row (is_stored place) xs (find_of place) ≡ true) → Passes is_sound_step (row_step place fabric r)
 row-step-sound place fabric (Err status) each = record { is = refl }
 row-step-sound place fabric (Ok xs) each = record { is = each xs refl }
 
-either : (b : Bool) (x y : Result NodeStep Status) → (b ≡ true → IsSound x) → (b ≡ false → IsSound y) → IsSound (if b then x else y)
+either : (b : Bool) (x y : Result NodeStep Status) → (b ≡ true → Passes is_sound_step x) → (b ≡ false → Passes is_sound_step y) → Passes is_sound_step (if b then x else y)
 either true x y one other = one refl
 either false x y one other = other refl
 
@@ -376,68 +370,34 @@ small-fabric : (b : Bool) (fabric : ℕ) → nat_lt fabric (2 ^ 8) ≡ true → 
 small-fabric true fabric small = small
 small-fabric false fabric small = refl
 
-or_false : (a b : Bool) → (a || b) ≡ false → a ≡ false
-or_false true b h = impossible (sym h)
-or_false false b h = refl
-
-module _ (law : (place : Place) → is_ok (find_of place) ≡ true → takes_rightly place ≡ true) (seen : Seen) (actor : Actor) (sight : IsSoundSight seen actor) (steps : List NodeStep) (before : list_all is_sound_step steps ≡ true) (item : WriteItem) (place : Place) where
+module _ (law : (place : Place) → is_ok (find_of place) ≡ true → takes_rightly place ≡ true) (tree_value : (t : Tree) → tree (value_of t) ≡ t) (seen : Seen) (actor : Actor) (sight : IsSoundSight seen actor) (steps : List NodeStep) (before : list_all is_sound_step steps ≡ true) (item : WriteItem) (place : Place) where
   fits : (meta : Meta) → find_of place ≡ Ok meta → fits_found (is_stored place) (Ok meta) (takes_of place) ≡ true
   fits meta there = subst (λ r. fits_found (is_stored place) r (takes_of place) ≡ true) there (law place (ap is_ok there))
 
-  entries-case : (meta : Meta) → find_of place ≡ Ok meta → is_none meta.write ≡ false → is_entry_list meta.kind ≡ true → IsSound (entries_written item meta actor.fabric (entries_now actor.fabric steps seen.entries))
+  entries-case : (meta : Meta) → find_of place ≡ Ok meta → is_none meta.write ≡ false → is_entry_list meta.kind ≡ true → Passes is_sound_step (entries_written item meta actor.fabric (entries_now actor.fabric steps seen.entries))
   entries-case meta there writable acl =
       let now = entries_now actor.fabric steps seen.entries in
       let now-sound : are_entries_of actor.fabric now ≡ true = entries-now actor.fabric seen.entries steps before sight.entries in
       entries-step-sound actor.fabric _ (λ xs h. entries-sound meta actor.fabric item.path.index item.value (staying item.path.index now) xs
-      (four-entries (is_stored place) meta (takes_of place) acl writable (fits meta there))
+      (and-both meta.scoped (meta.limit == 4) (entry-list (is_stored place) meta (takes_of place) acl writable (fits meta there))).1
       (staying-entries actor.fabric (is_append item.path.index) now now-sound) h)
 
   rows-case : (meta : Meta) → find_of place ≡ Ok meta → is_none meta.write ≡ false → is_entry_list meta.kind ≡ false
-      → IsSound (rows_written item place meta (fabric_of actor meta) (rows_now place (fabric_of actor meta) steps (own_values (fabric_of actor meta) (seen.rows_at place))))
+      → Passes is_sound_step (rows_written item place meta (fabric_of actor meta) (rows_now place (fabric_of actor meta) steps (own_values (fabric_of actor meta) (seen.rows_at place))))
   rows-case meta there writable other =
       let own = fabric_of actor meta in
       let kept = rows-stored (is_stored place) meta (takes_of place) other writable (fits meta there) in
       let stored = own_values own (seen.rows_at place) in
       let now = rows-now place meta there own stored steps before (sight.rows place meta there kept) in
       row-step-sound place own _ (λ xs h. subst (λ r. is_sound_row (is_stored place) xs r ≡ true) (sym there)
-      (new-rows-sound (is_stored place) meta (takes_of place) own item.path.index item.value (rows_now place own steps stored) xs (fits meta there) other (small-fabric meta.scoped actor.fabric sight.fabric) now h))
+      (new-rows-sound tree_value (is_stored place) meta (takes_of place) own item.path.index item.value (rows_now place own steps stored) xs (fits meta there) other (small-fabric meta.scoped actor.fabric sight.fabric) now h))
 
-  found-sound : (meta : Meta) → find_of place ≡ Ok meta → is_none meta.write ≡ false → IsSound (written_at seen actor steps item place (Ok meta))
+  found-sound : (meta : Meta) → find_of place ≡ Ok meta → is_none meta.write ≡ false → Passes is_sound_step (written_at seen actor steps item place (Ok meta))
   found-sound meta there writable =
       either (is_entry_list meta.kind) (entries_written item meta actor.fabric (entries_now actor.fabric steps seen.entries))
       (rows_written item place meta (fabric_of actor meta) (rows_now place (fabric_of actor meta) steps (own_values (fabric_of actor meta) (seen.rows_at place))))
       (entries-case meta there writable) (rows-case meta there writable)
 
-  guarded : (a b c : Bool) (meta : Meta) → find_of place ≡ Ok meta → (a ≡ false → is_none meta.write ≡ false)
-      → IsSound (written_at seen actor steps item place (if a then Err UnsupportedWrite else if b then Err NeedsTimedInteraction else if c then Err DataVersionMismatch else Ok meta))
-  guarded true b c meta there writable = record { is = refl }
-  guarded false true c meta there writable = record { is = refl }
-  guarded false false true meta there writable = record { is = refl }
-  guarded false false false meta there writable = found-sound meta there (writable refl)
-
-  open-sound : (version : ℕ) (timed : Bool) (there : Result Meta Status) → find_of place ≡ there → IsSound (written_at seen actor steps item place (open_at version timed item there))
-  open-sound version timed (Err status) is = record { is = refl }
-  open-sound version timed (Ok meta) is =
-      guarded (is_none meta.write || is_numbered item.path.index) (meta.timed && not timed) (is_outdated item.version version) meta is (λ no. or_false (is_none meta.write) (is_numbered item.path.index) no)
-
-  may-sound : (may : Bool) (version : ℕ) (timed : Bool) → IsSound (written_at seen actor steps item place (if may then open_at version timed item (find_of place) else Err UnsupportedAccess))
-  may-sound true version timed = open-sound version timed (find_of place) refl
-  may-sound false version timed = record { is = refl }
-
-module _ (law : (place : Place) → is_ok (find_of place) ≡ true → takes_rightly place ≡ true) (seen : Seen) (actor : Actor) (timed : Bool) (sight : IsSoundSight seen actor) where
-  item-sound : (steps : List NodeStep) → list_all is_sound_step steps ≡ true → (item : WriteItem) (place : Option Place) → IsSound (item_step seen actor timed steps item place)
-  item-sound steps before item None = record { is = refl }
-  item-sound steps before item (Some place) = may-sound law seen actor sight steps before item place (may_write seen actor place) (seen.version_of place.endpoint place.cluster) timed
-
-  step-sound : (written : Written) (path : Path) (outcome : Result NodeStep Status) → list_all is_sound_step written.rows ≡ true → IsSound outcome → list_all is_sound_step (with_step written path outcome).rows ≡ true
-  step-sound written path (Err status) all one = all
-  step-sound written path (Ok step) all one =
-      list_all-append is_sound_step written.rows (step ∷ []) ∙ and-true (list_all is_sound_step written.rows) (is_sound_step step && true) all (and-true (is_sound_step step) true one.is refl)
-
-  all-sound : (written : Written) (items : List WriteItem) → list_all is_sound_step written.rows ≡ true → list_all is_sound_step (with_all seen actor timed written items).rows ≡ true
-  all-sound written [] all = all
-  all-sound written (item ∷ items) all =
-      all-sound (with_item seen actor timed written item) items (step-sound written item.path _ all (item-sound written.rows all item (place_named item.path)))
-
-pub leaves_sound : ((place : Place) → is_ok (find_of place) ≡ true → takes_rightly place ≡ true) → LeavesSound
-leaves_sound law seen actor items timed sight = all-sound law seen actor timed sight _ items refl
+pub leaves_sound : ((place : Place) → is_ok (find_of place) ≡ true → takes_rightly place ≡ true) → ((t : Tree) → tree (value_of t) ≡ t) → LeavesSound
+leaves_sound law tree_value seen actor items timed sight =
+    each_passes is_sound_step seen actor timed (λ steps before item place meta there may writable. found-sound law tree_value seen actor sight steps before item place meta there writable) items

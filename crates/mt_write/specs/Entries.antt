@@ -1,9 +1,9 @@
 -- The access control entry that a written item is (Matter Core Specification, section 9.10, Access Control Cluster). Whose it
 -- says that it is plays no part. Numbers have the widths that an entry has for them.
-use Rattle.std.specs.Prelude.{ℕ, nat_le, Bool, true, false, Option, Some, None, is_some, if◌then◌else◌, option_and_then}
-use Rattle.mt_tlv.specs.Tree.{Tree, uint, null, structure, Elements}
+use Rattle.std.specs.Prelude.{ℕ, nat_le, Bool, true, false, Option, Some, None, is_some, if◌then◌else◌}
+use Rattle.mt_tlv.specs.Tree.{Tree, uint, null, structure}
 use Rattle.mt_model.specs.texts.Config.{is_entry}
-use Rattle.mt_model.specs.tables.Entries.{entry_with, list_in, mode_numbered, number_in, privilege_numbered, target_with}
+use Rattle.mt_model.specs.tables.Entries.{entry_of, target_with}
 use Rattle.mt_model.specs.Trees.{field_in}
 use Rattle.mt_model.specs.declared.tables.access.AclEntry.{AclEntry}
 use Rattle.mt_model.specs.declared.tables.access.Target.{Target}
@@ -31,15 +31,6 @@ target_in tree = None
 abbrev pub is_target : Tree → Bool
 is_target tree = is_some (target_in tree)
 
--- 1 privilege, 2 mode, 3 subjects, 4 targets
-abbrev pub entry_in : ℕ → Elements → Option AclEntry
-entry_in fabric es = entry_with
-    (option_and_then privilege_numbered (option_and_then number_in (field_in 1 es)))
-    (option_and_then mode_numbered (option_and_then number_in (field_in 2 es)))
-    (option_and_then (list_in number_in) (field_in 3 es))
-    (option_and_then (list_in target_in) (field_in 4 es))
-    (Some fabric)
-
 -- an entry that keeps the rules on entries
 abbrev pub valid_entry : Option AclEntry → Option AclEntry
 valid_entry None = None
@@ -47,5 +38,5 @@ valid_entry (Some entry) = if is_entry entry then Some entry else None
 
 -- The entry of this fabric that an item is kept as; None where it breaks a rule.
 abbrev pub kept_entry : ℕ → Tree → Option AclEntry
-kept_entry fabric (structure es) = valid_entry (entry_in fabric es)
+kept_entry fabric (structure es) = valid_entry (entry_of target_in (Some fabric) es)
 kept_entry fabric tree = None

@@ -1,5 +1,5 @@
 -- What a write touches and leaves, and when it is denied.
-use Rattle.std.specs.Prelude.{◌≡◌, ◌↔◌, ◌==◌, Bool, true, false, List, Some, Err, IsTrue, if◌then◌else◌, ◌&&◌, ◌||◌, ◌^◌, ℕ, nat_le, nat_lt, Result, Ok, length}
+use Rattle.std.specs.Prelude.{◌≡◌, ◌↔◌, ◌==◌, not, Bool, true, false, List, [], Some, Err, IsTrue, if◌then◌else◌, ◌&&◌, ◌||◌, ◌^◌, ℕ, nat_le, nat_lt, Result, Ok, length}
 use Rattle.std.specs.List.{list_all, list_any}
 use Rattle.mt_acl.specs.Access.{implicit_grants, own_entry_grants}
 use Rattle.mt_meta.specs.Finding.{find_of, privilege_of}
@@ -29,6 +29,16 @@ is_own_step actor step = false
 
 abbrev pub TouchesItsOwn : Type 0
 TouchesItsOwn = (seen : Seen) (actor : Actor) (items : List WriteItem) (timed : Bool) → IsTrue (list_all (is_own_step actor) (write_answer seen actor items timed).rows)
+
+-- a step sets the row of a place that is not scoped
+abbrev pub is_unscoped_step : NodeStep → Bool
+is_unscoped_step (SetRow place fabric values) = not (is_scoped (find_of place))
+is_unscoped_step step = false
+
+-- A writer of no fabric, for whom no entry stands, sets nothing that is scoped.
+abbrev pub NobodySetsScoped : Type 0
+NobodySetsScoped = (seen : Seen) (actor : Actor) (items : List WriteItem) (timed : Bool) → actor.fabric ≡ 0 → seen.entries ≡ []
+    → IsTrue (list_all is_unscoped_step (write_answer seen actor items timed).rows)
 
 -- A privilege is asked of whoever writes there, and neither the implicit entry nor an entry of the writer's own fabric grants it.
 pub record IsDenied (seen : Seen) (actor : Actor) (place : Place) : Type 0 where

@@ -1,5 +1,4 @@
 pub mod Entries
-pub mod Fields
 pub mod Forms
 pub mod Items
 pub mod Latest

@@ -6,6 +6,7 @@ use Rattle.mt_tlv.specs.View.{tree}
 use Rattle.mt_tlv.specs.declared.value.Tag.TheVariants.{Anonymous}
 use Rattle.mt_tlv.specs.declared.value.Value.{Value}
 use Rattle.mt_tlv.specs.declared.value.Value.TheVariants as values
+use Rattle.mt_model.specs.messages.Blocks.{place_named}
 use Rattle.mt_model.specs.rows.Seen.{Seen}
 use Rattle.mt_model.specs.messages.Status.{code_of}
 use Rattle.mt_model.specs.declared.tables.access.AclEntry.{AclEntry}
@@ -170,14 +171,6 @@ written_at seen actor steps item place (Err status) = Err status
 written_at seen actor steps item place (Ok meta) =
     if is_entry_list meta.kind then entries_written item meta actor.fabric (entries_now actor.fabric steps seen.entries)
     else rows_written item place meta (fabric_of actor meta) (rows_now place (fabric_of actor meta) steps (own_values (fabric_of actor meta) (seen.rows_at place)))
-
--- the place that a path without a wildcard names
-abbrev pub place_in : Option ℕ → Option ℕ → Option ℕ → Option Place
-place_in (Some endpoint) (Some cluster) (Some leaf) = Some (record { endpoint = endpoint; cluster = cluster; leaf = leaf })
-place_in _ _ _ = None
-
-abbrev pub place_named : Path → Option Place
-place_named path = place_in path.endpoint path.cluster path.leaf
 
 -- The step that an item makes behind these, or the first status that refuses it. A request has no item with a wildcard.
 abbrev pub item_step : Seen → Actor → Bool → List NodeStep → WriteItem → Option Place → Result NodeStep Status

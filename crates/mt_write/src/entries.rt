@@ -2,15 +2,14 @@
 
 ghost use Rattle.std.specs.Prelude.{◌≡◌, IfOk, Some, option_and_then};
 ghost use Rattle.mt_tlv.specs.View.{elements, tree};
-ghost use Rattle.mt_model.specs.tables.Entries.{each_in, list_in, mode_numbered, number_in, privilege_numbered};
+ghost use Rattle.mt_model.specs.tables.Entries.{each_in, entry_of, list_in, mode_numbered, number_in, privilege_numbered};
 ghost use Rattle.mt_model.specs.Trees.{field_in};
 ghost use Rattle.mt_model.specs.texts.Config.{is_entry};
-ghost use Rattle.mt_write.specs.Entries.{entry_in, kept_entry, nullable_field, nullable_in, target_in, valid_entry};
+ghost use Rattle.mt_write.specs.Entries.{kept_entry, nullable_field, nullable_in, target_in, valid_entry};
 
-use crate::fields::{field, structure_of};
 use mt_acl::valid;
 use mt_meta::clusters::access_control::{AUTH_MODE, PRIVILEGE, SUBJECTS, TARGETS};
-use mt_model::{AclEntry, Auth, Privilege, Subjects, Target, Targets};
+use mt_model::{AclEntry, Auth, Privilege, Subjects, Target, Targets, field, structure_of};
 use mt_tlv::{Tag, Value};
 use std::alloc::{AllocError, Global};
 
@@ -105,7 +104,7 @@ fn entry_of(
     fabric: u8,
     members: &[(Tag, Value)],
 ) -> Result<Option<AclEntry>, AllocError>
-    ensures { IfOk result (λ entry. entry ≡ entry_in fabric (elements members.now)) }
+    ensures { IfOk result (λ entry. entry ≡ entry_of target_in (Some fabric) (elements members.now)) }
 {
     let Some(privilege) = privilege_at(members) else {
         return Ok(None);

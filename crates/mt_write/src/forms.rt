@@ -12,8 +12,8 @@ ghost use Rattle.mt_write.specs.Entries.{is_target, is_unsigned};
 ghost use Rattle.mt_write.specs.Forms.{all_elements, are_octets, are_within, field_has_type, field_is_within, has_type, have_types, is_bool, is_item, is_null_or_array, is_number, is_text, is_within, octets_fit, text_fits};
 
 use crate::entries::target_of;
-use crate::fields::{field, structure_of};
 use mt_meta::{Field, Form};
+use mt_model::{field, structure_of};
 use mt_tlv::{Tag, Value};
 
 /// Whether a value has the type that a form asks for.

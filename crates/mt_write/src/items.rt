@@ -11,11 +11,10 @@ ghost use Rattle.mt_write.specs.Entries.{kept_entry};
 ghost use Rattle.mt_write.specs.Items.{given_items, is_append, is_fabric_index, kept_each, kept_fields, kept_item, kept_value, new_items, tagged, with_room};
 
 use crate::entries::keep_entry;
-use crate::fields::{field, structure_of};
 use crate::forms::{are_items, are_within, is_item};
 use mt_meta::{Field, Form};
-use mt_model::{AclEntry, Index, Listed, Status};
-use mt_tlv::{Members, Tag, Value};
+use mt_model::{AclEntry, Index, Listed, Status, field, structure_of};
+use mt_tlv::{Members, Tag, Value, values_are_trees};
 use std::alloc::{AllocError, Global};
 
 /// What the items of a list are kept as.
@@ -109,7 +108,6 @@ fn push_tagged(
 }
 
 // Whose an item is is kept as the writer's fabric, whatever it says.
-#[tactic(auto, using(crate::proofs::ValueTrees::value_of_tree))]
 fn keep_field(
     fabric: u8,
     row: &Field,
@@ -120,6 +118,7 @@ fn keep_field(
     if is_fabric_index(row.form) {
         return Ok(Some(Value::Uint(fabric as u64)));
     }
+    values_are_trees();
     match field(members, row.number) {
         Some(value) => Ok(Some(value.copy()?)),
         None => Ok(None),

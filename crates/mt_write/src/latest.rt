@@ -7,7 +7,7 @@ ghost use Rattle.mt_write.specs.Latest.{entries_set, latest, newer, row_set};
 use mt_model::{AclEntries, NodeStep, Place, Values};
 
 /// The rows that the latest step sets there, None where none does.
-pub(crate) fn latest_row<'a>(steps: &'a [NodeStep], place: &Place, fabric: u8) -> Option<&'a Values>
+pub fn latest_row<'a>(steps: &'a [NodeStep], place: &Place, fabric: u8) -> Option<&'a Values>
     ensures { option_map (λ values. values.now) result ≡ latest (row_set place.now fabric) None steps.now }
 {
     let mut found: Option<&'a Values> = None;
@@ -46,7 +46,7 @@ fn is_there(at: &Place, place: &Place) -> bool
 }
 
 /// The entries that the latest step sets, None where none does.
-pub(crate) fn latest_entries(steps: &[NodeStep], fabric: u8) -> Option<&AclEntries>
+pub fn latest_entries(steps: &[NodeStep], fabric: u8) -> Option<&AclEntries>
     ensures { option_map (λ entries. entries.now) result ≡ latest (entries_set fabric) None steps.now }
 {
     let mut found: Option<&AclEntries> = None;

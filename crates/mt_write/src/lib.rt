@@ -8,12 +8,10 @@
 //! - `values`: the values behind an item;
 //! - `latest`: what the steps before an item leave;
 //! - `items`: the items of written lists;
-//! - `fields`: fields of a structure;
 //! - `laws`: what a write touches and leaves, and when it is denied.
 #![tactic(auto)]
 
 mod entries;
-mod fields;
 mod forms;
 mod items;
 mod latest;
@@ -22,8 +20,8 @@ mod opening;
 mod values;
 mod writing;
 
-pub use laws::{denials_are_exact, writes_keep_forms, writes_touch_their_own};
+pub use latest::{latest_entries, latest_row};
+pub use laws::{
+    denials_are_exact, nobody_writes_scoped, writes_keep_forms, writes_touch_their_own,
+};
 pub use writing::{Change, Written, write};
-
-#[cfg(test)]
-mod tests;

@@ -2,11 +2,12 @@
 
 ghost use Rattle.std.specs.Prelude.{◌≡◌, ◌++◌, ◌∷◌, [], Ok, IfOk, OnOk};
 ghost use Rattle.mt_meta.specs.Table.{fields_of};
+ghost use Rattle.mt_model.specs.messages.Blocks.{place_named};
 ghost use Rattle.mt_model.specs.rows.Seen.{own_entries, seen_as};
 ghost use Rattle.mt_model.specs.messages.Status.{code_of};
 ghost use Rattle.mt_write.specs.Entries.{kept_entry};
 ghost use Rattle.mt_write.specs.Latest.{entries_now, rows_now};
-ghost use Rattle.mt_write.specs.Writing.{entries_step, entries_written, fabric_of, is_entry_list, item_step, own_values, place_named, row_step, rows_written, status_item, with_all, with_item, with_step, write_answer, written_at};
+ghost use Rattle.mt_write.specs.Writing.{entries_step, entries_written, fabric_of, is_entry_list, item_step, own_values, row_step, rows_written, status_item, with_all, with_item, with_step, write_answer, written_at};
 
 use crate::opening::opened;
 use crate::values::{list_with, new_rows, staying_entries};
@@ -114,26 +115,12 @@ fn item_step<S: Sight>(
     ensures { let seen = seen_as actor.now.fabric (S.rows_of sight.now) (S.versions sight.now) (S.all_entries sight.now) in
         IfOk result (λ step. step ≡ item_step seen actor.now timed steps.now item.now (place_named item.now.path)) }
 {
-    let Some(place) = place_named(&item.path) else {
+    let Some(place) = item.path.place() else {
         return Ok(Err(Status::InvalidAction));
     };
     match opened(sight, actor, timed, item, &place) {
         Ok(meta) => write_at(alloc, sight, actor, steps, item, &place, &meta),
         Err(status) => Ok(Err(status)),
-    }
-}
-
-// The place that a path without a wildcard names.
-fn place_named(path: &Path) -> Option<Place>
-    ensures { result ≡ place_named path.now }
-{
-    match (path.endpoint, path.cluster, path.leaf) {
-        (Some(endpoint), Some(cluster), Some(leaf)) => Some(Place {
-            endpoint,
-            cluster,
-            leaf,
-        }),
-        _ => None,
     }
 }
 
