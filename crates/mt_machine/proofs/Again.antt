@@ -13,8 +13,7 @@ use Rattle.mt_model.specs.declared.tables.network.Network.{Network}
 use Rattle.mt_model.specs.declared.rows.place.Row.{Row}
 use Rattle.mt_model.specs.declared.node.state.NodeSession.{NodeSession}
 use Rattle.mt_model.specs.declared.node.state.NodeState.{NodeState}
-use Rattle.mt_machine.specs.Isolation.{bare_armed, bare_fabric, bare_network, descriptor_of, is_live_for, own, public_view, saved_for, veil, with_saved}
-use Rattle.mt_machine.specs.State.{is_indexed}
+use Rattle.mt_machine.specs.Isolation.{bare_armed, bare_fabric, bare_network, descriptor_of, is_live_for, own, owns, public_view, saved_for, veil, with_saved}
 use Rattle.mt_machine.proofs.Entries.{apart, bare_others, own_entries-apart}
 use Rattle.mt_machine.proofs.Fabrics.{known_to, own_fabrics, rebuilt-known}
 use Rattle.mt_machine.proofs.Rows as rows
@@ -25,10 +24,10 @@ use Rattle.mt_machine.proofs.Seeing.{plain-veil}
 
 module _ (fabric : ℕ) where
   abbrev is_mine : Row → Bool
-  is_mine row = row.fabric == fabric
+  is_mine row = owns fabric row
 
   abbrev is_others : Row → Bool
-  is_others row = not (row.fabric == fabric)
+  is_others row = not (owns fabric row)
 
   mine_of_mine : (rs : List Row) → filter is_mine (filter is_mine rs) ≡ filter is_mine rs
   mine_of_mine [] = refl

@@ -1,5 +1,5 @@
 -- Deadlines of plain actors are of their fabrics.
-use Rattle.std.proofs.Common.{◌≡◌, ℕ, ◌==◌, ◌&&◌, not, Bool, true, false, cond, List, [], ◌∷◌, ◌++◌, Option, Some, None, Result, Ok, Err, refl, sym, ap, ◌∙◌, filter, length, nat_lt, append-nil, arith, bytes_eq, if◌then◌else◌}
+use Rattle.std.proofs.Common.{◌≡◌, ℕ, ◌==◌, ◌&&◌, not, Bool, true, false, List, [], ◌∷◌, ◌++◌, Option, Some, Result, Ok, Err, refl, sym, ap, ◌∙◌, filter, length, nat_lt, append-nil, arith, bytes_eq, if◌then◌else◌}
 use Rattle.std.specs.List.{find}
 use Rattle.std.specs.Option.{option_map}
 use Rattle.std.proofs.lemmas.List.Elements.{filter-append}
@@ -9,7 +9,7 @@ use Rattle.mt_model.specs.declared.node.action.PlainDeadline.{PlainDeadline}
 use Rattle.mt_model.specs.declared.messages.message.Request.{Request}
 use Rattle.mt_model.specs.declared.messages.message.Request.TheVariants as requests
 use Rattle.mt_machine.specs.Isolation.{is_deadline_in}
-use Rattle.mt_machine.specs.Lines.{deadline_at, deadline_of, deadlines_after, has_room, is_deadline_of, later_by, with_deadline, without}
+use Rattle.mt_machine.specs.Lines.{deadline_at, deadline_of, has_room, is_deadline_of, later_by, with_deadline, without}
 use Rattle.mt_machine.specs.Step.{is_late}
 
 abbrev pub own_deadlines : ℕ → List PlainDeadline → List PlainDeadline
@@ -42,6 +42,37 @@ others_own actor (d ∷ ds) = one_other actor d ds (d.fabric == actor.fabric) (d
 
 pub room-own : (actor : Actor) (ds : List PlainDeadline) → has_room actor (own_deadlines actor.fabric ds) ≡ has_room actor ds
 room-own actor ds = ap (λ (rest : List PlainDeadline). nat_lt (length rest) 4) (others_own actor ds)
+
+-- What a line leaves of its fabric's deadlines is made of those before.
+
+pub own_twice : (fabric : ℕ) (ds : List PlainDeadline) → own_deadlines fabric (own_deadlines fabric ds) ≡ own_deadlines fabric ds
+own_twice fabric [] = refl
+own_twice fabric (d ∷ ds) = grind (arith, own_twice fabric ds)
+
+module _ (asking : Actor) where
+  left_more : (ds : List PlainDeadline) (until : ℕ) → own_deadlines asking.fabric (without asking (own_deadlines asking.fabric ds) ++ deadline_at asking until ∷ []) ≡ own_deadlines asking.fabric (without asking ds ++ deadline_at asking until ∷ [])
+  left_more ds until =
+      filter-append (is_deadline_in asking.fabric) (without asking (own_deadlines asking.fabric ds)) (deadline_at asking until ∷ [])
+      ∙ ap (λ (rest : List PlainDeadline). rest ++ own_deadlines asking.fabric (deadline_at asking until ∷ [])) (others_own asking ds)
+      ∙ sym (filter-append (is_deadline_in asking.fabric) (without asking ds) (deadline_at asking until ∷ []))
+
+  left_if : (more : Bool) (ds : List PlainDeadline) (until : ℕ)
+      → own_deadlines asking.fabric (if more then without asking (own_deadlines asking.fabric ds) ++ deadline_at asking until ∷ [] else without asking (own_deadlines asking.fabric ds))
+      ≡ own_deadlines asking.fabric (if more then without asking ds ++ deadline_at asking until ∷ [] else without asking ds)
+  left_if true ds until = left_more ds until
+  left_if false ds until = others_own asking ds
+
+  pub left_by : (ds : List PlainDeadline) (ms : ℕ) (asked : Result Request ImFault)
+      → own_deadlines asking.fabric (with_deadline asking (own_deadlines asking.fabric ds) ms asked) ≡ own_deadlines asking.fabric (with_deadline asking ds ms asked)
+  left_by ds ms (Ok (requests.Status code)) = others_own asking ds
+  left_by ds ms (Ok (requests.Read paths wanted minimum filtered versions)) = others_own asking ds
+  left_by ds ms (Ok (requests.Subscribe keep floor ceiling paths wanted minimum filtered versions)) = others_own asking ds
+  left_by ds ms (Ok (requests.Write suppress timed items)) = others_own asking ds
+  left_by ds ms (Ok (requests.Invoke suppress timed command fields)) = others_own asking ds
+  left_by ds ms (Ok (requests.Timed wait)) =
+      (λ i. own_deadlines asking.fabric (if room-own asking ds i && not (is_late (deadline-own asking ds i) ms) then without asking (own_deadlines asking.fabric ds) ++ deadline_at asking (later_by wait ms) ∷ [] else without asking (own_deadlines asking.fabric ds)))
+      ∙ left_if (has_room asking ds && not (is_late (deadline_of asking ds) ms)) ds (later_by wait ms)
+  left_by ds ms (Err fault) = others_own asking ds
 
 -- The deadlines of other fabrics stay.
 

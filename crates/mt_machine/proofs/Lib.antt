@@ -1,10 +1,16 @@
 pub mod Again
+pub mod Asked
 pub mod Deadlines
 pub mod Entries
 pub mod Fabrics
+pub mod Good
+pub mod Kept
 pub mod Opening
 pub mod Order
 pub mod Rows
 pub mod Seeing
+pub mod Settled
+pub mod Steps
 pub mod Times
 pub mod Veiled
+pub mod Writes

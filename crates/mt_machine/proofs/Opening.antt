@@ -1,5 +1,5 @@
 -- The state in which a new node begins is valid.
-use Rattle.std.proofs.Common.{◌≡◌, ℕ, ◌+◌, ◌<◌, ◌≤◌, inl, inr, Bool, true, false, not, ◌&&◌, ◌||◌, ◌==◌, nat_le, List, [], ◌∷◌, ◌++◌, length, Option, Some, None, refl, sym, ◌∙◌, bytes_eq, filter, arith}
+use Rattle.std.proofs.Common.{◌≡◌, ℕ, ◌+◌, ◌<◌, ◌≤◌, inl, inr, Bool, true, false, not, ◌&&◌, ◌||◌, ◌==◌, nat_le, List, [], ◌∷◌, ◌++◌, length, Option, Some, None, refl, sym, ◌∙◌, bytes_eq, filter, map, arith}
 use Rattle.std.proofs.lemmas.Bool.{and_from, and_parts, both_ways, cases_Bool, false_from_ne_true, eqb-true, eq-eqb, le-leb, leb-true, ltb-true, not_from_false, not-true, or_cases, or_from, or_left, or_parts, or_right}
 use Rattle.std.proofs.lemmas.List.Folds.{list_any-append}
 use Rattle.std.proofs.lemmas.Slice.Eq.{bytes_eq-Decides}
@@ -14,10 +14,11 @@ use Rattle.mt_model.specs.rows.Order.{are_ascending, fabrics_ascend, rise_above}
 use Rattle.mt_model.specs.declared.tables.access.AclEntry.{AclEntry}
 use Rattle.mt_model.specs.declared.tables.access.Auth.{Auth}
 use Rattle.mt_model.specs.declared.tables.access.Auth.TheVariants.{Pase, Case, Group}
+use Rattle.mt_model.specs.declared.rows.place.Place.{Place}
 use Rattle.mt_model.specs.declared.texts.config.SessionRow.{SessionRow}
 use Rattle.mt_model.specs.declared.tables.fabric.Fabric.{Fabric}
-use Rattle.mt_machine.specs.Opened.{live_or_waits, opened_with, session_of, sessions_of, standing_of, with_root, with_roots_of}
-use Rattle.mt_machine.specs.State.{IsValid, has_index_up_to, has_one_row, is_owned, is_root_of, is_row, is_session, is_used, stands_once, stands_rightly}
+use Rattle.mt_machine.specs.Opened.{live_or_waits, opened_with, session_of, sessions_of, standing_of, unchanged, with_root, with_roots_of}
+use Rattle.mt_machine.specs.State.{IsValid, has_index_up_to, has_one_row, is_change_up_to, is_owned, is_root_of, is_row, is_session, is_used, stands_once, stands_rightly}
 
 -- Fabrics.
 
@@ -171,6 +172,12 @@ sessions_stand fabrics (row ∷ rows) = elim (cases_Bool (row.boot == 1)) [
   | inr later ↦ rw later (sessions_stand fabrics rows)
 ]
 
+-- Change numbers.
+
+changes_counted : (places : List Place) → list_all (is_change_up_to 0) (map unchanged places) ≡ true
+changes_counted [] = refl
+changes_counted (place ∷ places) = changes_counted places
+
 -- The whole.
 
 pub opens_valid : ((fabrics : List Fabric) → are_numbered_from 1 fabrics ≡ true → fabrics_ascend fabrics ≡ true)
@@ -203,6 +210,7 @@ opens_valid numbered_ascend fabrics entries sessions good_fabrics good_entries =
       network_ids_differ = refl;
       sessions_stand = sessions_stand fabrics sessions;
       plain_stands = refl;
-      changes_counted = refl;
+      count_fits = refl;
+      changes_counted = changes_counted all_places;
       failsafe_facts = refl;
     }

@@ -1,21 +1,17 @@
 -- The order in which a state's parts stand.
-use Rattle.std.proofs.Common.{◌≡◌, ℕ, Bool, true, false, ◌&&◌, ◌==◌, ◌<◌, ◌≤◌, nat_le, nat_lt, List, [], ◌∷◌, Option, Some, None, refl, sym, filter, if◌then◌else◌, arith}
-use Rattle.std.specs.List.{list_all, list_any}
-use borrow.Author.Tests.{ltb-true}
+use Rattle.std.proofs.Common.{◌≡◌, ℕ, Bool, true, false, nat_le, List, [], ◌∷◌, Option, Some, None, refl, sym, filter, if◌then◌else◌, arith}
 use Rattle.mt_tlv.specs.declared.value.Value.{Value}
-use Rattle.mt_model.specs.texts.Config.{are_entries, are_fabrics, are_numbered_from, ascend_from, is_of}
+use Rattle.mt_model.specs.texts.Config.{ascend_from}
 use Rattle.mt_model.specs.rows.Order.{are_ascending, entry_rows, fabric_rows, fabrics_ascend, in_order}
 use Rattle.mt_model.specs.rows.Sight.{is_acl, is_nocs, stands_at}
 use Rattle.mt_model.specs.declared.tables.access.AclEntry.{AclEntry}
 use Rattle.mt_model.specs.declared.tables.fabric.Fabric.{Fabric}
 use Rattle.mt_model.specs.declared.rows.place.Place.{Place}
 use Rattle.mt_model.specs.declared.rows.place.Row.{Row}
-use Rattle.mt_model.specs.declared.texts.config.SessionRow.{SessionRow}
 use Rattle.mt_apps.specs.Computed.{computed_rows, computed_value, value_rows}
 use Rattle.mt_apps.specs.OperationalCredentials.{fabric_value, is_fabrics, noc_value}
 use Rattle.mt_model.specs.tables.Entries.{entry_value}
 use Rattle.mt_meta.specs.Stored.{is_stored}
-use Rattle.mt_machine.specs.Opened.{opened_with}
 use Rattle.mt_model.specs.rows.Seen.{seen_as}
 use Rattle.mt_model.specs.declared.node.state.NodeState.{NodeState}
 use Rattle.mt_machine.specs.Observation.{observation}
@@ -27,7 +23,7 @@ alone : (fabric : ℕ) (place : Place) (value : Option Value) → in_order fabri
 alone fabric place None = refl
 alone fabric place (Some value) = grind arith
 
-from_zero : (es : List AclEntry) → ascend_from 1 es ≡ true → ascend_from 0 es ≡ true
+pub from_zero : (es : List AclEntry) → ascend_from 1 es ≡ true → ascend_from 0 es ≡ true
 from_zero [] up = refl
 from_zero (e ∷ es) up = let rest = (both_true (nat_le 1 e.fabric) (ascend_from e.fabric es) up).1 in grind (arith, rest)
 

@@ -9,6 +9,7 @@ use Rattle.mt_tlv.specs.declared.value.Value.TheVariants as values
 use Rattle.mt_model.specs.rows.Sight.{bare_elements, bare_value, is_sensitive, same_place, seen_by, stands_at}
 use Rattle.mt_model.specs.declared.rows.place.Place.{Place}
 use Rattle.mt_model.specs.declared.rows.place.Row.{Row}
+use Rattle.mt_machine.specs.Isolation.{owns}
 
 -- What is seen once is seen so again.
 
@@ -57,31 +58,47 @@ at-seen place fabric row = ap (λ (p : Place). same_place p place) (seen-place f
 -- A fabric's own rows, and the others' as it sees them.
 
 abbrev pub others : ℕ → List Row → List Row
-others fabric rows = map (seen_by fabric) (filter (λ (row : Row). not (row.fabric == fabric)) rows)
+others fabric rows = map (seen_by fabric) (filter (λ (row : Row). not (owns fabric row)) rows)
 
 module _ (fabric : ℕ) (place : Place) where
   abbrev pub mine : Row → Bool
-  mine row = row.fabric == fabric
+  mine row = owns fabric row
 
   abbrev pub of : (ℕ → Bool) → Row → Bool
   of test row = test row.fabric
+
+  abbrev pub is_its : ℕ → Bool
+  is_its n = n == fabric
 
   none_of_own : (test : ℕ → Bool) (rows : List Row) → test fabric ≡ false → filter (of test) (filter (stands_at place) (filter mine rows)) ≡ []
   none_of_own test [] h = refl
   none_of_own test (row ∷ rows) h = grind (arith, none_of_own test rows h)
 
-  own_again : (rows : List Row) → filter mine (filter (stands_at place) (filter mine rows)) ≡ filter mine (filter (stands_at place) rows)
-  own_again [] = refl
-  own_again (row ∷ rows) = grind (arith, own_again rows)
-
-  none_of_others : (rows : List Row) → filter mine (filter (stands_at place) (others fabric rows)) ≡ []
-  none_of_others [] = refl
-  none_of_others (row ∷ rows) = grind (arith, none_of_others rows, seen-fabric fabric row)
-
   others_again : (test : ℕ → Bool) (rows : List Row) → test fabric ≡ false
       → map (seen_by fabric) (filter (of test) (filter (stands_at place) (others fabric rows))) ≡ map (seen_by fabric) (filter (of test) (filter (stands_at place) rows))
   others_again test [] h = refl
   others_again test (row ∷ rows) h = grind (arith, others_again test rows h, seen-fabric fabric row, at-seen place fabric row, seen-twice fabric row)
+
+  -- a fabric has its rows among its own
+
+  own_again : (rows : List Row) → (fabric == 0) ≡ false → filter (of is_its) (filter (stands_at place) (filter mine rows)) ≡ filter (of is_its) (filter (stands_at place) rows)
+  own_again [] h = refl
+  own_again (row ∷ rows) h = grind (arith, own_again rows h)
+
+  none_of_others : (rows : List Row) → (fabric == 0) ≡ false → filter (of is_its) (filter (stands_at place) (others fabric rows)) ≡ []
+  none_of_others [] h = refl
+  none_of_others (row ∷ rows) h = grind (arith, none_of_others rows h, seen-fabric fabric row)
+
+  -- nobody has nothing, and sees the rows of nobody as they stand
+
+  none_of_nobody : (rows : List Row) → (fabric == 0) ≡ true → filter (of is_its) (filter (stands_at place) (filter mine rows)) ≡ []
+  none_of_nobody [] h = refl
+  none_of_nobody (row ∷ rows) h = grind (arith, none_of_nobody rows h)
+
+  nobodys_again : (rows : List Row) → (fabric == 0) ≡ true
+      → map (seen_by fabric) (filter (of is_its) (filter (stands_at place) (others fabric rows))) ≡ map (seen_by fabric) (filter (of is_its) (filter (stands_at place) rows))
+  nobodys_again [] h = refl
+  nobodys_again (row ∷ rows) h = grind (arith, nobodys_again rows h, seen-fabric fabric row, at-seen place fabric row, seen-twice fabric row)
 
 -- What is seen of rows whose fabric passes a test.
 abbrev pub passed : ℕ → (ℕ → Bool) → List Row → List Row
@@ -92,17 +109,26 @@ passed-append fabric test xs ys = ap (map (seen_by fabric)) (filter-append (λ (
 
 -- a fabric's own rows, and then the others' as it sees them
 abbrev pub apart : ℕ → List Row → List Row
-apart fabric rows = filter (λ (row : Row). row.fabric == fabric) rows ++ others fabric rows
+apart fabric rows = filter (owns fabric) rows ++ others fabric rows
+
+passed-apart : (fabric : ℕ) (place : Place) (test : ℕ → Bool) (rows : List Row) → passed fabric test (filter (stands_at place) (apart fabric rows))
+    ≡ passed fabric test (filter (stands_at place) (filter (owns fabric) rows)) ++ passed fabric test (filter (stands_at place) (others fabric rows))
+passed-apart fabric place test rows =
+    ap (passed fabric test) (filter-append (stands_at place) (filter (owns fabric) rows) (others fabric rows))
+    ∙ passed-append fabric test (filter (stands_at place) (filter (owns fabric) rows)) (filter (stands_at place) (others fabric rows))
 
 pub apart-own : (fabric : ℕ) (place : Place) (rows : List Row) → passed fabric (λ n. n == fabric) (filter (stands_at place) (apart fabric rows)) ≡ passed fabric (λ n. n == fabric) (filter (stands_at place) rows)
-apart-own fabric place rows =
-    ap (passed fabric (λ n. n == fabric)) (filter-append (stands_at place) (filter (mine fabric place) rows) (others fabric rows))
-    ∙ passed-append fabric (λ n. n == fabric) (filter (stands_at place) (filter (mine fabric place) rows)) (filter (stands_at place) (others fabric rows))
-    ∙ (λ i. map (seen_by fabric) (own_again fabric place rows i) ++ map (seen_by fabric) (none_of_others fabric place rows i))
-    ∙ append-nil (passed fabric (λ n. n == fabric) (filter (stands_at place) rows))
+apart-own fabric place rows = passed-apart fabric place (λ n. n == fabric) rows ∙ by_test (fabric == 0) refl
+  where
+    by_test : (nobody : Bool) → (fabric == 0) ≡ nobody
+        → passed fabric (λ n. n == fabric) (filter (stands_at place) (filter (owns fabric) rows)) ++ passed fabric (λ n. n == fabric) (filter (stands_at place) (others fabric rows))
+        ≡ passed fabric (λ n. n == fabric) (filter (stands_at place) rows)
+    by_test true is = λ i. map (seen_by fabric) (none_of_nobody fabric place rows is i) ++ nobodys_again fabric place rows is i
+    by_test false is =
+        (λ i. map (seen_by fabric) (own_again fabric place rows is i) ++ map (seen_by fabric) (none_of_others fabric place rows is i))
+        ∙ append-nil (passed fabric (λ n. n == fabric) (filter (stands_at place) rows))
 
 pub apart-others : (fabric : ℕ) (place : Place) (test : ℕ → Bool) (rows : List Row) → test fabric ≡ false → passed fabric test (filter (stands_at place) (apart fabric rows)) ≡ passed fabric test (filter (stands_at place) rows)
 apart-others fabric place test rows h =
-    ap (passed fabric test) (filter-append (stands_at place) (filter (mine fabric place) rows) (others fabric rows))
-    ∙ passed-append fabric test (filter (stands_at place) (filter (mine fabric place) rows)) (filter (stands_at place) (others fabric rows))
+    passed-apart fabric place test rows
     ∙ (λ i. map (seen_by fabric) (none_of_own fabric place test rows h i) ++ others_again fabric place test rows h i)

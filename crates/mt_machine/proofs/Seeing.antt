@@ -1,12 +1,10 @@
 -- What a fabric sees of a state is what it sees of the veil.
-use Rattle.std.proofs.Common.{◌≡◌, ℕ, Bool, true, false, ◌&&◌, ◌==◌, nat_lt, List, [], ◌∷◌, ◌++◌, Option, Some, None, cond, refl, ap, sym, subst, ◌∙◌, filter, map, if◌then◌else◌, arith}
+use Rattle.std.proofs.Common.{◌≡◌, ℕ, Bool, true, false, ◌==◌, nat_lt, List, [], ◌∷◌, ◌++◌, Option, Some, None, cond, refl, ap, sym, subst, ◌∙◌, filter, map, if◌then◌else◌, arith}
 use Rattle.std.specs.List.{list_any}
 use Rattle.std.proofs.lemmas.List.{map-append}
 use Rattle.mt_tlv.specs.Tree.{Elements}
-use Rattle.mt_model.specs.texts.Config.{ascend_from}
-use Rattle.mt_model.specs.rows.Order.{are_ascending, fabrics_ascend, in_order}
+use Rattle.mt_model.specs.rows.Order.{fabrics_ascend, in_order}
 use Rattle.mt_model.specs.rows.Sight.{is_acl, is_nocs, seen_by, stands_at, version_in}
-use Rattle.mt_model.specs.declared.tables.fabric.Fabric.{Fabric}
 use Rattle.mt_model.specs.declared.tables.network.Network.{Network}
 use Rattle.mt_model.specs.declared.rows.place.Place.{Place}
 use Rattle.mt_model.specs.declared.rows.place.Row.{Row}

@@ -1,77 +1,27 @@
--- Actions that are built make no step, so that they set the time alone.
-use Rattle.std.proofs.Common.{◌≡◌, ℕ, ◌==◌, ◌&&◌, ◌||◌, not, Bool, true, false, List, [], ◌∷◌, ◌++◌, Option, Some, None, append_assoc, arith, refl, sym, ap, ◌∙◌, subst, if◌then◌else◌}
-use Rattle.std.specs.List.{find, list_any}
+-- What an action does besides: without steps it sets the time alone, and none ends anything.
+use Rattle.std.proofs.Common.{◌≡◌, ℕ, ◌==◌, ◌&&◌, ◌||◌, not, Bool, true, false, List, [], ◌∷◌, ◌++◌, Option, None, append_assoc, arith, refl, ap, ◌∙◌, subst, if◌then◌else◌}
+use Rattle.std.specs.List.{find}
 use Rattle.std.specs.Option.{option_map}
 use Rattle.std.proofs.lemmas.List.Folds.{list_any-append}
-use Rattle.mt_model.specs.rows.Seen.{Observation}
 use Rattle.mt_model.specs.declared.tables.access.Actor.{Actor}
 use Rattle.mt_model.specs.declared.node.action.Action.{Action}
-use Rattle.mt_model.specs.declared.node.action.Action.TheVariants.{Ask, Nothing}
 use Rattle.mt_model.specs.declared.node.action.NodeStep.{NodeStep}
 use Rattle.mt_model.specs.declared.tables.fabric.Fabric.{Fabric}
-use Rattle.mt_model.specs.declared.messages.message.Request.{Request}
-use Rattle.mt_model.specs.declared.messages.message.Request.TheVariants as requests
 use Rattle.mt_model.specs.declared.node.state.NodeSession.{NodeSession}
 use Rattle.mt_model.specs.declared.node.state.NodeState.{NodeState}
 use Rattle.mt_model.specs.declared.node.state.Standing.{Standing}
 use Rattle.mt_model.specs.declared.node.state.Standing.TheVariants.{Waits, Live, Ended}
-use Rattle.mt_machine.specs.Effects.{after_all}
-use Rattle.mt_machine.specs.Observation.{observation}
-use Rattle.mt_machine.specs.State.{IsValid, is_among, is_indexed}
-use Rattle.mt_machine.specs.Step.{after_action, aside_of, asked_steps, asker, asker_of, closed_between, gone_between, is_late, is_live, session_asking, steps_of, steps_to}
+use Rattle.mt_model.specs.declared.node.action.NodeStep.TheVariants.{SetRow, SetEntries, PutNetwork, RemoveNetwork, ConnectNetwork, MoveNetwork}
+use Rattle.mt_machine.specs.Changes.{settled}
+use Rattle.mt_machine.specs.Effects.{after, after_all}
+use Rattle.mt_machine.specs.State.{is_among, is_indexed}
+use Rattle.mt_machine.specs.Step.{after_action, aside_of, asker_of, closed_between, gone_between, is_live, session_asking, steps_of}
+use Rattle.mt_machine.proofs.Settled.{settled-same}
 
-pub none_to : (o : Observation) (actor : Actor) (request : Request) → steps_to o actor request ≡ []
-none_to o actor (requests.Status code) = refl
-none_to o actor (requests.Read paths wanted minimum filtered versions) = refl
-none_to o actor (requests.Subscribe keep floor ceiling paths wanted minimum filtered versions) = refl
-none_to o actor (requests.Write suppress timed items) = refl
-none_to o actor (requests.Invoke suppress timed command fields) = refl
-none_to o actor (requests.Timed ms) = refl
-
-none_late : (late : Bool) (steps : List NodeStep) → steps ≡ [] → (if late then [] else steps) ≡ []
-none_late true steps none = refl
-none_late false steps none = none
-
-none_asked : (s : NodeState) (request : Request) (deadline : Option ℕ) (now : ℕ) (asking : Option Actor) → asked_steps s request deadline now asking ≡ []
-none_asked s request deadline now None = refl
-none_asked s request deadline now (Some asking) = none_late (is_late deadline now) (steps_to (observation asking.fabric s) asking request) (none_to (observation asking.fabric s) asking request)
-
-none_of : (s : NodeState) (action : Action) (now : ℕ) → steps_of s action now ≡ []
-none_of s (Ask actor request deadline) now = none_asked s request deadline now (asker s actor)
-none_of s Nothing now = refl
-
-pub sets_time : (s : NodeState) (action : Action) (now : ℕ) → after_action s action now ≡ record s { clock = now }
-sets_time s action now = ap (λ (steps : List NodeStep). record (after_all (asker_of s action) steps s) { clock = now }) (none_of s action now)
-
--- the time is no part of what makes a state valid
-valid_at : (s : NodeState) (now : ℕ) → IsValid s → IsValid (record s { clock = now })
-valid_at s now valid = record {
-  fabric_count = valid.fabric_count;
-  fabrics_rise = valid.fabrics_rise;
-  indexes = valid.indexes;
-  fabric_forms = valid.fabric_forms;
-  identities_differ = valid.identities_differ;
-  labels_differ = valid.labels_differ;
-  entries_rise = valid.entries_rise;
-  entry_forms = valid.entry_forms;
-  entries_owned = valid.entries_owned;
-  entry_counts = valid.entry_counts;
-  rows_rise = valid.rows_rise;
-  row_forms = valid.row_forms;
-  rows_stand = valid.rows_stand;
-  roots_differ = valid.roots_differ;
-  roots_used = valid.roots_used;
-  network_count = valid.network_count;
-  network_forms = valid.network_forms;
-  network_ids_differ = valid.network_ids_differ;
-  sessions_stand = valid.sessions_stand;
-  plain_stands = valid.plain_stands;
-  changes_counted = valid.changes_counted;
-  failsafe_facts = valid.failsafe_facts;
-}
-
-pub stays_valid : (s : NodeState) (action : Action) (now : ℕ) → IsValid s → IsValid (after_action s action now)
-stays_valid s action now valid = subst IsValid (sym (sets_time s action now)) (valid_at s now valid)
+pub sets_time : (s : NodeState) (action : Action) (now : ℕ) → steps_of s action now ≡ [] → after_action s action now ≡ record s { clock = now }
+sets_time s action now none =
+    ap (λ (steps : List NodeStep). record (settled s (after_all (asker_of s action) steps s)) { clock = now }) none
+    ∙ ap (λ (t : NodeState). record t { clock = now }) (settled-same s)
 
 -- Nothing ends where nothing changes.
 
@@ -103,9 +53,35 @@ among_all front (fabric ∷ fabrics) =
 gone_none : (fabrics : List Fabric) → gone_between fabrics fabrics ≡ None
 gone_none fabrics = ap (option_map (λ (fabric : Fabric). fabric.index)) (among_all [] fabrics)
 
+-- No step ends a session, and none takes a fabric away.
+
+sessions-stay : (asker : Option Actor) (step : NodeStep) (s : NodeState) → (after asker step s).sessions ≡ s.sessions
+sessions-stay asker (SetRow place whose values) s = refl
+sessions-stay asker (SetEntries whose entries) s = refl
+sessions-stay asker (PutNetwork id secret) s = refl
+sessions-stay asker (RemoveNetwork id) s = refl
+sessions-stay asker (ConnectNetwork id) s = refl
+sessions-stay asker (MoveNetwork id index) s = refl
+
+fabrics-stay : (asker : Option Actor) (step : NodeStep) (s : NodeState) → (after asker step s).fabrics ≡ s.fabrics
+fabrics-stay asker (SetRow place whose values) s = refl
+fabrics-stay asker (SetEntries whose entries) s = refl
+fabrics-stay asker (PutNetwork id secret) s = refl
+fabrics-stay asker (RemoveNetwork id) s = refl
+fabrics-stay asker (ConnectNetwork id) s = refl
+fabrics-stay asker (MoveNetwork id index) s = refl
+
+all_sessions-stay : (asker : Option Actor) (steps : List NodeStep) (s : NodeState) → (after_all asker steps s).sessions ≡ s.sessions
+all_sessions-stay asker [] s = refl
+all_sessions-stay asker (step ∷ steps) s = all_sessions-stay asker steps (after asker step s) ∙ sessions-stay asker step s
+
+all_fabrics-stay : (asker : Option Actor) (steps : List NodeStep) (s : NodeState) → (after_all asker steps s).fabrics ≡ s.fabrics
+all_fabrics-stay asker [] s = refl
+all_fabrics-stay asker (step ∷ steps) s = all_fabrics-stay asker steps (after asker step s) ∙ fabrics-stay asker step s
+
 pub ends_nothing : (s : NodeState) (action : Action) (now : ℕ) → aside_of s action now ≡ record { session = session_asking s action; closed = []; gone = None }
 ends_nothing s action now = λ i. record {
   session = session_asking s action;
-  closed = (ap (λ (t : NodeState). closed_between s.sessions t.sessions) (sets_time s action now) ∙ closed_none s.sessions) i;
-  gone = (ap (λ (t : NodeState). gone_between s.fabrics t.fabrics) (sets_time s action now) ∙ gone_none s.fabrics) i;
+  closed = (ap (closed_between s.sessions) (all_sessions-stay (asker_of s action) (steps_of s action now) s) ∙ closed_none s.sessions) i;
+  gone = (ap (gone_between s.fabrics) (all_fabrics-stay (asker_of s action) (steps_of s action now) s) ∙ gone_none s.fabrics) i;
 }

@@ -1,31 +1,12 @@
 -- What a step makes of the state.
-use Rattle.std.specs.Prelude.{ℕ, ◌==◌, ◌&&◌, ◌||◌, not, nat_lt, Bool, false, List, [], ◌∷◌, ◌++◌, Option, bytes_eq, drop, filter, map, take, if◌then◌else◌}
-use Rattle.std.specs.List.{list_any}
-use Rattle.mt_tlv.specs.declared.value.Value.{Value}
-use Rattle.mt_model.specs.rows.Order.{row_at, stands_before}
-use Rattle.mt_model.specs.rows.Sight.{same_place}
-use Rattle.mt_model.specs.declared.tables.access.AclEntry.{AclEntry}
+use Rattle.std.specs.Prelude.{ℕ, not, Bool, true, false, List, [], ◌∷◌, ◌++◌, Option, bytes_eq, drop, filter, map, take, if◌then◌else◌}
+use Rattle.std.specs.List.{list_all, list_any}
+use Rattle.mt_model.specs.rows.Setting.{is_entry_of, with_entries, with_rows}
 use Rattle.mt_model.specs.declared.tables.access.Actor.{Actor}
 use Rattle.mt_model.specs.declared.node.action.NodeStep.{NodeStep}
 use Rattle.mt_model.specs.declared.node.action.NodeStep.TheVariants.{SetRow, SetEntries, PutNetwork, RemoveNetwork, ConnectNetwork, MoveNetwork}
 use Rattle.mt_model.specs.declared.tables.network.Network.{Network}
-use Rattle.mt_model.specs.declared.rows.place.Place.{Place}
-use Rattle.mt_model.specs.declared.rows.place.Row.{Row}
 use Rattle.mt_model.specs.declared.node.state.NodeState.{NodeState}
-
--- Rows and entries: those of lower places or fabrics, the new ones, those of higher ones.
-
-abbrev pub is_below : Place → ℕ → Row → Bool
-is_below place fabric row = stands_before row.place place || (same_place row.place place && nat_lt row.fabric fabric)
-
-abbrev pub is_above : Place → ℕ → Row → Bool
-is_above place fabric row = stands_before place row.place || (same_place place row.place && nat_lt fabric row.fabric)
-
-abbrev pub with_rows : Place → ℕ → List Value → List Row → List Row
-with_rows place fabric values rows = filter (is_below place fabric) rows ++ (map (row_at place fabric) values ++ filter (is_above place fabric) rows)
-
-abbrev pub with_entries : ℕ → List AclEntry → List AclEntry → List AclEntry
-with_entries fabric new entries = filter (λ (entry : AclEntry). nat_lt entry.fabric fabric) entries ++ (new ++ filter (λ (entry : AclEntry). nat_lt fabric entry.fabric) entries)
 
 -- Networks.
 
@@ -64,3 +45,9 @@ after asker (MoveNetwork id index) s = record s { networks = moved_to id index s
 abbrev pub after_all : Option Actor → List NodeStep → NodeState → NodeState
 after_all asker [] s = s
 after_all asker (step ∷ steps) s = after_all asker steps (after asker step s)
+
+-- a step that sets rows, or entries of the fabric that it names
+abbrev pub is_setting_step : NodeStep → Bool
+is_setting_step (SetRow place fabric values) = true
+is_setting_step (SetEntries fabric entries) = list_all (is_entry_of fabric) entries
+is_setting_step step = false

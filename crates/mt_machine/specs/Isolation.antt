@@ -1,5 +1,5 @@
 -- What is a fabric's own, what is public to it, and the state that is built of these two and of nothing else.
-use Rattle.std.specs.Prelude.{ℕ, ◌==◌, not, Bool, false, List, [], ◌++◌, Option, Some, None, filter, map, unwrap_or, if◌then◌else◌}
+use Rattle.std.specs.Prelude.{ℕ, ◌==◌, ◌&&◌, not, Bool, false, List, [], ◌++◌, Option, Some, None, filter, map, unwrap_or, if◌then◌else◌}
 use Rattle.std.specs.List.{find}
 use Rattle.std.specs.Option.{option_map}
 use Rattle.mt_model.specs.rows.Seen.{own_entries}
@@ -22,6 +22,10 @@ use Rattle.mt_model.specs.declared.node.state.Version.{Version}
 use Rattle.mt_machine.specs.State.{State, is_indexed}
 
 -- A fabric's own part.
+
+-- a row of a fabric's own; a row of fabric 0 is nobody's
+abbrev pub owns : ℕ → Row → Bool
+owns fabric row = row.fabric == fabric && not (row.fabric == 0)
 
 abbrev pub has_fabric : ℕ → Option ℕ → Bool
 has_fabric fabric None = false
@@ -49,7 +53,7 @@ pub record Own : Type 0 where
 
 abbrev pub own : ℕ → NodeState → Own
 own fabric s = record {
-  rows = filter (λ (row : Row). row.fabric == fabric) s.rows;
+  rows = filter (owns fabric) s.rows;
   entries = own_entries fabric s.entries;
   fabrics = filter (is_indexed fabric) s.fabrics;
   saved = saved_for fabric s.armed;
@@ -104,7 +108,7 @@ pub record PublicView : Type 0 where
 
 abbrev pub public_view : ℕ → NodeState → PublicView
 public_view fabric s = record {
-  rows = map (seen_by fabric) (filter (λ (row : Row). not (row.fabric == fabric)) s.rows);
+  rows = map (seen_by fabric) (filter (λ (row : Row). not (owns fabric row)) s.rows);
   owners = map (λ (entry : AclEntry). entry.fabric) (filter (λ (entry : AclEntry). not (entry.fabric == fabric)) s.entries);
   fabrics = map descriptor_of s.fabrics;
   roots = s.roots;

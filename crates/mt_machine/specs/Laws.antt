@@ -1,9 +1,8 @@
 -- Laws of the written machine.
 use Rattle.std.specs.Prelude.{◌≡◌, ◌≢◌, ℕ, List, [], None, Option, Some, true}
+use Rattle.std.specs.List.{list_all}
 use Rattle.mt_model.specs.texts.Config.{are_entries, are_fabrics}
-use Rattle.mt_model.specs.rows.Seen.{Observation, seen_as}
-use Rattle.mt_model.specs.declared.tables.access.Actor.{Actor}
-use Rattle.mt_model.specs.declared.messages.message.Request.{Request}
+use Rattle.mt_model.specs.rows.Seen.{seen_as}
 use Rattle.mt_model.specs.declared.tables.access.AclEntry.{AclEntry}
 use Rattle.mt_model.specs.declared.texts.config.SessionRow.{SessionRow}
 use Rattle.mt_model.specs.declared.tables.fabric.Credentials.{Credentials}
@@ -13,12 +12,13 @@ use Rattle.mt_model.specs.declared.tables.network.Network.{Network}
 use Rattle.mt_model.specs.declared.texts.recording.Event.{Event}
 use Rattle.mt_model.specs.declared.node.state.NodeState.{NodeState}
 use Rattle.mt_model.specs.declared.node.action.Action.{Action}
+use Rattle.mt_machine.specs.Effects.{is_setting_step}
 use Rattle.mt_machine.specs.Isolation.{own, own_of_whole, public_view, veil, veil_of_whole}
-use Rattle.mt_machine.specs.Lines.{fabric_of, is_built, next, sent}
+use Rattle.mt_machine.specs.Lines.{fabric_of, next, sent}
 use Rattle.mt_machine.specs.Observation.{observation}
 use Rattle.mt_machine.specs.Opened.{opened_with}
 use Rattle.mt_machine.specs.State.{IsValid, State, rows_of}
-use Rattle.mt_machine.specs.Step.{after_action, aside_of, session_asking, steps_to}
+use Rattle.mt_machine.specs.Step.{after_action, aside_of, session_asking, steps_of}
 
 -- What a fabric observes of a state is what it observes of the veil, which is made of its own part and of what is
 -- public to it.
@@ -50,9 +50,22 @@ SeesItsViewAlone = (s t : State) (e : Event) → IsValid s.node → IsValid t.no
     → public_view (fabric_of s.node e) s.node ≡ public_view (fabric_of t.node e) t.node
     → sent s e ≡ sent t e
 
--- An event that is built changes nothing that is another fabric's own.
+-- And so is the own part that an event leaves to its fabric.
+abbrev pub LeavesItsOwnByItsView : Type 0
+LeavesItsOwnByItsView = (s t : State) (e : Event) → IsValid s.node → IsValid t.node
+    → fabric_of s.node e ≡ fabric_of t.node e
+    → own_of_whole (fabric_of s.node e) s ≡ own_of_whole (fabric_of t.node e) t
+    → public_view (fabric_of s.node e) s.node ≡ public_view (fabric_of t.node e) t.node
+    → own_of_whole (fabric_of s.node e) (next s e) ≡ own_of_whole (fabric_of t.node e) (next t e)
+
+-- On the veil of its fabric an event leaves the same own part as on the state.
+abbrev pub LeavesTheOwnOnTheVeil : Type 0
+LeavesTheOwnOnTheVeil = (s : State) (e : Event) → IsValid s.node
+    → own_of_whole (fabric_of s.node e) (next (veil_of_whole (fabric_of s.node e) s) e) ≡ own_of_whole (fabric_of s.node e) (next s e)
+
+-- An event changes nothing that is another fabric's own.
 abbrev pub KeepsTheOwn : Type 0
-KeepsTheOwn = (fabric : ℕ) (s : State) (e : Event) → is_built e ≡ true → fabric ≢ fabric_of s.node e
+KeepsTheOwn = (fabric : ℕ) (s : State) (e : Event) → IsValid s.node → fabric ≢ fabric_of s.node e
     → own_of_whole fabric (next s e) ≡ own_of_whole fabric s
 
 -- A new node's state is valid.
@@ -64,15 +77,15 @@ OpensValid = (fabrics : List Fabric) (entries : List AclEntry) (sessions : List 
 abbrev pub StaysValid : Type 0
 StaysValid = (s : NodeState) (action : Action) (now : ℕ) → IsValid s → IsValid (after_action s action now)
 
--- No request that is built makes a step.
-abbrev pub MakesNoStep : Type 0
-MakesNoStep = (o : Observation) (asking : Actor) (request : Request) → steps_to o asking request ≡ []
-
--- So an action sets the time, and nothing else of the state.
+-- An action that makes no step sets the time, and nothing else: no version moves, and no change is counted.
 abbrev pub SetsTheTime : Type 0
-SetsTheTime = (s : NodeState) (action : Action) (now : ℕ) → after_action s action now ≡ record s { clock = now }
+SetsTheTime = (s : NodeState) (action : Action) (now : ℕ) → steps_of s action now ≡ [] → after_action s action now ≡ record s { clock = now }
 
--- And it ends no session, and takes no fabric away.
+-- The steps of requests set rows, and entries of the fabric that they name.
+abbrev pub SetsValues : Type 0
+SetsValues = (s : NodeState) (action : Action) (now : ℕ) → IsValid s → list_all is_setting_step (steps_of s action now) ≡ true
+
+-- No action ends a session, and none takes a fabric away.
 abbrev pub EndsNothing : Type 0
 EndsNothing = (s : NodeState) (action : Action) (now : ℕ) → aside_of s action now ≡ record { session = session_asking s action; closed = []; gone = None }
 

@@ -1,4 +1,5 @@
 pub mod Bench
+pub mod Changes
 pub mod Effects
 pub mod Isolation
 pub mod Laws

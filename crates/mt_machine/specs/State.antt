@@ -1,5 +1,5 @@
 -- The state of the node and of the whole around it, and what holds of every state.
-use Rattle.std.specs.Prelude.{◌≡◌, ℕ, ◌==◌, ◌&&◌, ◌||◌, not, nat_le, Bool, true, false, List, Option, Some, None, Result, Ok, Err, bytes_eq, count_by, filter, length, if◌then◌else◌}
+use Rattle.std.specs.Prelude.{◌≡◌, ℕ, ◌-◌, ◌^◌, ◌==◌, ◌&&◌, ◌||◌, not, nat_le, Bool, true, false, List, Option, Some, None, Result, Ok, Err, bytes_eq, count_by, filter, length, if◌then◌else◌}
 use Rattle.std.specs.List.{list_all, list_any}
 use Rattle.mt_meta.specs.Finding.{find_of}
 use Rattle.mt_meta.specs.Forms.{has_form}
@@ -11,7 +11,7 @@ use Rattle.mt_model.specs.rows.Order.{are_ascending, fabrics_ascend}
 use Rattle.mt_model.specs.rows.Sight.{stands_at}
 use Rattle.mt_model.specs.declared.tables.access.AclEntry.{AclEntry}
 use Rattle.mt_model.specs.declared.tables.access.Auth.{Auth}
-use Rattle.mt_model.specs.declared.tables.access.Auth.TheVariants.{Pase, Case, Group}
+use Rattle.mt_model.specs.declared.tables.access.Auth.TheVariants.{Pase}
 use Rattle.mt_model.specs.declared.node.action.PlainDeadline.{PlainDeadline}
 use Rattle.mt_model.specs.declared.tables.fabric.Credentials.{Credentials}
 use Rattle.mt_model.specs.declared.tables.fabric.Fabric.{Fabric}
@@ -182,6 +182,7 @@ pub record IsValid (s : NodeState) : Type 0 where
   pub network_ids_differ : none_alike have_one_id s.networks ≡ true
   pub sessions_stand : list_all (is_session s.fabrics) s.sessions ≡ true
   pub plain_stands : is_plain_of s.fabrics s.plain ≡ true
-  -- no attribute changed later than the latest change
+  -- no attribute changed later than the latest change, whose number has 64 bits
+  pub count_fits : nat_le s.changed (2 ^ 64 - 1) ≡ true
   pub changes_counted : list_all (is_change_up_to s.changed) s.changes ≡ true
   pub failsafe_facts : keeps_facts s.fabrics s.armed ≡ true

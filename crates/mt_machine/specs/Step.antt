@@ -1,5 +1,5 @@
 -- One step of the node: who is taken as asking, what is replied, what the reply makes of the state.
-use Rattle.std.specs.Prelude.{ℕ, ◌==◌, ◌&&◌, not, nat_lt, Bool, true, false, List, [], ◌∷◌, Option, Some, None, if◌then◌else◌, replicate}
+use Rattle.std.specs.Prelude.{ℕ, ◌==◌, ◌&&◌, not, nat_lt, Bool, true, false, List, [], ◌∷◌, Option, Some, None, is_some, if◌then◌else◌, replicate}
 use Rattle.std.specs.List.{find, list_any}
 use Rattle.std.specs.Option.{option_and_then, option_map}
 use Rattle.mt_model.specs.rows.Seen.{Observation}
@@ -19,13 +19,16 @@ use Rattle.mt_model.specs.declared.messages.message.Reply.{Reply}
 use Rattle.mt_model.specs.declared.messages.message.Reply.TheVariants as replies
 use Rattle.mt_model.specs.declared.messages.message.Request.{Request}
 use Rattle.mt_model.specs.declared.messages.message.Request.TheVariants as requests
+use Rattle.mt_model.specs.declared.messages.message.WriteItem.{WriteItem}
 use Rattle.mt_model.specs.declared.node.state.NodeSession.{NodeSession}
 use Rattle.mt_model.specs.declared.node.state.NodeState.{NodeState}
 use Rattle.mt_model.specs.declared.node.state.Standing.{Standing}
 use Rattle.mt_model.specs.declared.node.state.Standing.TheVariants.{Waits, Live, Ended}
 use Rattle.mt_model.specs.declared.node.state.Version.{Version}
-use Rattle.mt_model.specs.declared.messages.status.Status.TheVariants.{InvalidAction, Success, Timeout}
+use Rattle.mt_model.specs.declared.messages.status.Status.TheVariants.{InvalidAction, Success, TimedRequestMismatch, Timeout}
 use Rattle.mt_read.specs.Reading.{read_answer}
+use Rattle.mt_write.specs.Writing.{write_answer}
+use Rattle.mt_machine.specs.Changes.{settled}
 use Rattle.mt_machine.specs.Effects.{after_all}
 use Rattle.mt_machine.specs.Observation.{observation}
 use Rattle.mt_machine.specs.State.{is_among, is_member}
@@ -88,24 +91,41 @@ read_reply o actor paths filtered versions =
     if list_any names_item paths then refusal (code_of InvalidAction)
     else report_of (read_answer o.seen actor paths filtered versions)
 
--- The reply to a request, made of what the asker's fabric observes. A status is no request; what sets a time
--- is answered with success. Subscriptions, writes and commands are not built.
-abbrev pub reply_to : Observation → Actor → Request → Reply
-reply_to o actor (requests.Status code) = refusal (code_of InvalidAction)
-reply_to o actor (requests.Read paths wanted minimum filtered versions) = read_reply o actor paths filtered versions
-reply_to o actor (requests.Subscribe keep floor ceiling paths wanted minimum filtered versions) = replies.Nothing
-reply_to o actor (requests.Write suppress timed items) = replies.Nothing
-reply_to o actor (requests.Invoke suppress timed command fields) = replies.Nothing
-reply_to o actor (requests.Timed ms) = refusal (code_of Success)
+-- Whether a deadline stood for a request, and whether the request says that one did. They must agree.
 
--- what a reply makes of the state: no request that is built changes a thing
-abbrev pub steps_to : Observation → Actor → Request → List NodeStep
-steps_to o actor (requests.Status code) = []
-steps_to o actor (requests.Read paths wanted minimum filtered versions) = []
-steps_to o actor (requests.Subscribe keep floor ceiling paths wanted minimum filtered versions) = []
-steps_to o actor (requests.Write suppress timed items) = []
-steps_to o actor (requests.Invoke suppress timed command fields) = []
-steps_to o actor (requests.Timed ms) = []
+abbrev pub is_untimely : Bool → Bool → Bool
+is_untimely stood timed = if stood then not timed else timed
+
+abbrev pub statuses_of : Bool → List Item → Reply
+statuses_of suppress statuses = if suppress then replies.Nothing else replies.Written statuses
+
+-- A write is answered with the statuses of its items, unless it asks for no answer.
+abbrev pub write_reply : Observation → Actor → Bool → Bool → Bool → List WriteItem → Reply
+write_reply o actor stood suppress timed items =
+    if is_untimely stood timed then refusal (code_of TimedRequestMismatch)
+    else statuses_of suppress (write_answer o.seen actor items timed).statuses
+
+abbrev pub write_steps : Observation → Actor → Bool → Bool → List WriteItem → List NodeStep
+write_steps o actor stood timed items = if is_untimely stood timed then [] else (write_answer o.seen actor items timed).rows
+
+-- The reply to a request, made of what the asker's fabric observes and of whether a deadline stood for the request. A
+-- status is no request; what sets a time is answered with success. Subscriptions and commands are not built.
+abbrev pub reply_to : Observation → Actor → Bool → Request → Reply
+reply_to o actor stood (requests.Status code) = refusal (code_of InvalidAction)
+reply_to o actor stood (requests.Read paths wanted minimum filtered versions) = read_reply o actor paths filtered versions
+reply_to o actor stood (requests.Subscribe keep floor ceiling paths wanted minimum filtered versions) = replies.Nothing
+reply_to o actor stood (requests.Write suppress timed items) = write_reply o actor stood suppress timed items
+reply_to o actor stood (requests.Invoke suppress timed command fields) = replies.Nothing
+reply_to o actor stood (requests.Timed ms) = refusal (code_of Success)
+
+-- what a reply makes of the state: of the requests that are built a write alone changes anything
+abbrev pub steps_to : Observation → Actor → Bool → Request → List NodeStep
+steps_to o actor stood (requests.Status code) = []
+steps_to o actor stood (requests.Read paths wanted minimum filtered versions) = []
+steps_to o actor stood (requests.Subscribe keep floor ceiling paths wanted minimum filtered versions) = []
+steps_to o actor stood (requests.Write suppress timed items) = write_steps o actor stood timed items
+steps_to o actor stood (requests.Invoke suppress timed command fields) = []
+steps_to o actor stood (requests.Timed ms) = []
 
 -- whether the deadline has passed
 abbrev pub is_late : Option ℕ → ℕ → Bool
@@ -115,10 +135,10 @@ is_late (Some deadline) now = nat_lt deadline now
 -- A request later than its deadline is refused, whatever it asks, and makes nothing of the state.
 
 abbrev pub reply_in_time : NodeState → Actor → Request → Option ℕ → ℕ → Reply
-reply_in_time s asker request deadline now = if is_late deadline now then refusal (code_of Timeout) else reply_to (observation asker.fabric s) asker request
+reply_in_time s asker request deadline now = if is_late deadline now then refusal (code_of Timeout) else reply_to (observation asker.fabric s) asker (is_some deadline) request
 
 abbrev pub steps_in_time : NodeState → Actor → Request → Option ℕ → ℕ → List NodeStep
-steps_in_time s asker request deadline now = if is_late deadline now then [] else steps_to (observation asker.fabric s) asker request
+steps_in_time s asker request deadline now = if is_late deadline now then [] else steps_to (observation asker.fabric s) asker (is_some deadline) request
 
 -- Nothing is replied where nobody is taken as asking.
 
@@ -145,9 +165,13 @@ abbrev pub steps_of : NodeState → Action → ℕ → List NodeStep
 steps_of s (Ask actor request deadline) now = asked_steps s request deadline now (asker s actor)
 steps_of s Nothing now = []
 
+-- the state behind its steps, with the versions and change numbers that follow
+abbrev pub after_steps : Option Actor → List NodeStep → NodeState → NodeState
+after_steps asker steps s = settled s (after_all asker steps s)
+
 -- the state behind it: its steps are made, and it is this time
 abbrev pub after_action : NodeState → Action → ℕ → NodeState
-after_action s action now = record (after_all (asker_of s action) (steps_of s action now) s) { clock = now }
+after_action s action now = record (after_steps (asker_of s action) (steps_of s action now) s) { clock = now }
 
 -- What else an action does: on whose session it was asked, which sessions end, which fabric leaves the table.
 
@@ -183,7 +207,7 @@ aside_of s action now = record {
   gone = gone_between s.fabrics (after_action s action now).fabrics;
 }
 
--- Which actions are built: statuses, reads without event paths, and what sets a time.
+-- Which actions are built: statuses, reads without event paths, writes, and what sets a time.
 
 abbrev pub is_nil : List Path → Bool
 is_nil [] = true
@@ -193,7 +217,7 @@ abbrev pub is_built_request : Request → Bool
 is_built_request (requests.Status code) = true
 is_built_request (requests.Read paths wanted minimum filtered versions) = is_nil wanted
 is_built_request (requests.Subscribe keep floor ceiling paths wanted minimum filtered versions) = false
-is_built_request (requests.Write suppress timed items) = false
+is_built_request (requests.Write suppress timed items) = true
 is_built_request (requests.Invoke suppress timed command fields) = false
 is_built_request (requests.Timed ms) = true
 

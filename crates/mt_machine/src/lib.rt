@@ -6,6 +6,7 @@
 //! - `Isolation`: what is a fabric's own, what is public to it, and the veil that is built of both;
 //! - `Observation`: what a fabric observes of a state, of which all its answers are made;
 //! - `Effects`: what each step makes of the state;
+//! - `Changes`: what data versions and change numbers follow from comparing two states;
 //! - `Step`: one step of the node: who asks, what is replied, the state behind it;
 //! - `Lines`: one line of a recording: its action, what is sent, the state behind it;
 //! - `Opened`: the state in which a new node begins;
@@ -13,13 +14,14 @@
 #![tactic(auto)]
 
 ghost use Rattle.std.specs.Prelude.{◌≡◌, ◌∷◌, []};
-ghost use Rattle.mt_machine.specs.Laws.{EndsNothing, HidesWhatIsSaved, KeepsItsOwnPart, KeepsItsPublicView, KeepsTheOwn, MakesNoStep, OpensValid, SeesItsViewAlone, SeesTheVeil, SendsOnTheVeil, SetsTheTime, StandsInOrder, StaysValid};
+ghost use Rattle.mt_machine.specs.Laws.{EndsNothing, HidesWhatIsSaved, KeepsItsOwnPart, KeepsItsPublicView, KeepsTheOwn, LeavesItsOwnByItsView, LeavesTheOwnOnTheVeil, OpensValid, SeesItsViewAlone, SeesTheVeil, SendsOnTheVeil, SetsTheTime, SetsValues, StandsInOrder, StaysValid};
 ghost use Rattle.mt_machine.specs.Samples.{acl_report, data_report, denial_report, empty_report, hidden_report, invalid_action, no_cluster_report, no_endpoint_report, read_acl, read_acl_anywhere, read_cluster_99, read_endpoint_7, read_on_off, sent_to_reader, too_deep};
 
 use mt_model::{
     entries_are_in_order, fabrics_are_in_order, numbered_fabrics_ascend,
-    rows_of_a_place_are_in_order,
+    rows_of_a_place_are_in_order, set_entries_stand_in_order, set_rows_stand_in_order,
 };
+use mt_write::{nobody_writes_scoped, writes_keep_forms, writes_touch_their_own};
 
 /// What a fabric observes of a state is what it observes of the veil, which is made of its own part and
 /// of what is public to it.
@@ -45,10 +47,27 @@ pub fn sees_its_view_alone()
     ensures { SeesItsViewAlone }
 {}
 
-/// An event that is built changes nothing that is another fabric's own.
+/// On the veil of its fabric an event leaves the same own part as on the state.
+pub fn leaves_the_own_on_the_veil()
+    ensures { LeavesTheOwnOnTheVeil }
+{}
+
+/// The own part that an event leaves to its fabric is determined by that part and by what is public to it, as
+/// both were before the event.
+pub fn leaves_its_own_by_its_view()
+    ensures { LeavesItsOwnByItsView }
+{}
+
+/// An event changes nothing that is another fabric's own.
 pub fn keeps_the_own()
     ensures { KeepsTheOwn }
-{}
+{
+    set_rows_stand_in_order();
+    set_entries_stand_in_order();
+    writes_touch_their_own();
+    writes_keep_forms();
+    nobody_writes_scoped();
+}
 
 /// The state of a new node is valid, and actions leave it so.
 pub fn states_are_valid()
@@ -56,15 +75,25 @@ pub fn states_are_valid()
     ensures stays { StaysValid }
 {
     numbered_fabrics_ascend();
+    set_rows_stand_in_order();
+    set_entries_stand_in_order();
+    writes_touch_their_own();
+    writes_keep_forms();
+    nobody_writes_scoped();
 }
 
-/// An action sets the time, and nothing else of the state, since no request that is built makes a step:
-/// it ends no session, and takes no fabric away.
-pub fn actions_set_the_time()
-    ensures no_step { MakesNoStep }
+/// An action that makes no step sets the time, and nothing else of the state: no version moves. What steps
+/// requests make set rows and access control entries alone, so an action ends no session and takes no fabric
+/// away.
+pub fn actions_set_values()
     ensures time { SetsTheTime }
+    ensures values { SetsValues }
     ensures nothing_ends { EndsNothing }
-{}
+{
+    writes_touch_their_own();
+    writes_keep_forms();
+    nobody_writes_scoped();
+}
 
 /// The rows of each place stand in the order in which every fabric sees them.
 pub fn rows_stand_in_order()

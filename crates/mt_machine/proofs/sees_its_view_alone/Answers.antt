@@ -1,6 +1,6 @@
 use Rattle.std.proofs.Common.{sym, ◌∙◌}
 use Rattle.mt_machine.specs.Isolation.{whole_of}
-use Rattle.mt_machine.specs.Lines.{fabric_of, sent}
+use Rattle.mt_machine.specs.Lines.{sent}
 use Rattle.mt_machine.proofs.Veiled.{sends_on_veil}
 use Rattle.mt_machine.proofs.sees_its_view_alone.Goals as goal
 

@@ -1,4 +1,3 @@
-use Rattle.std.specs.Prelude.{refl}
 use Rattle.mt_machine.proofs.Again.{own-again, view-again}
 use Rattle.mt_machine.proofs.veil_keeps_both_parts.Goals as goal
 

@@ -1,0 +1,246 @@
+-- What whoever asks makes of a valid state: its fabric is in the table, or it has none and sets nothing that is scoped.
+use Rattle.std.proofs.Common.{◌≡◌, ℕ, ◌≤◌, ◌^◌, inl, inr, Bool, true, false, not, ◌&&◌, ◌||◌, ◌==◌, nat_le, nat_lt, List, [], ◌∷◌, length, Option, Some, None, Ok, is_some, refl, sym, ap, ◌∙◌, subst, filter, map, if◌then◌else◌, arith}
+use Rattle.std.proofs.lemmas.Bool.{and_from, and_parts, cases_Bool, eqb-true, leb-true, lt-ltb, or_cases, or_left, or_right}
+use Rattle.std.proofs.lemmas.List.Sums.{length-filter}
+use Rattle.std.specs.List.{count_by, find, list_all, list_any}
+use Rattle.std.specs.Option.{option_and_then, option_map}
+use Rattle.mt_tlv.specs.declared.value.Value.{Value}
+use Rattle.mt_meta.specs.Finding.{find_of}
+use Rattle.mt_meta.specs.Forms.{has_form}
+use Rattle.mt_meta.specs.Stored.{is_stored}
+use Rattle.mt_meta.specs.declared.meta.Meta.{Meta}
+use Rattle.mt_model.specs.texts.Config.{ascend_from, has_identity, is_entry}
+use Rattle.mt_model.specs.rows.Order.{are_ascending, in_order, is_higher, is_lower, is_own}
+use Rattle.mt_model.specs.rows.Seen.{own_entries}
+use Rattle.mt_model.specs.rows.Setting.{with_entries, with_rows}
+use Rattle.mt_model.specs.rows.Setting as setting
+use Rattle.mt_model.specs.rows.Sight.{seen_by, stands_at}
+use Rattle.mt_model.specs.declared.tables.access.AclEntry.{AclEntry}
+use Rattle.mt_model.specs.declared.tables.access.Actor.{Actor}
+use Rattle.mt_model.specs.declared.tables.access.Auth.{Auth}
+use Rattle.mt_model.specs.declared.tables.access.Auth.TheVariants.{Pase, Case, Group}
+use Rattle.mt_model.specs.declared.tables.fabric.Fabric.{Fabric}
+use Rattle.mt_model.specs.declared.node.action.Action.{Action}
+use Rattle.mt_model.specs.declared.node.action.Action.TheVariants.{Ask, Nothing}
+use Rattle.mt_model.specs.declared.node.action.NodeStep.{NodeStep}
+use Rattle.mt_model.specs.declared.node.action.NodeStep.TheVariants.{SetRow, SetEntries, PutNetwork, RemoveNetwork, ConnectNetwork, MoveNetwork}
+use Rattle.mt_model.specs.declared.messages.message.Request.{Request}
+use Rattle.mt_model.specs.declared.messages.message.WriteItem.{WriteItem}
+use Rattle.mt_model.specs.declared.rows.place.Place.{Place}
+use Rattle.mt_model.specs.declared.rows.place.Row.{Row}
+use Rattle.mt_model.specs.declared.node.state.NodeSession.{NodeSession}
+use Rattle.mt_model.specs.declared.node.state.NodeState.{NodeState}
+use Rattle.mt_model.specs.declared.node.state.Standing.{Standing}
+use Rattle.mt_model.specs.declared.node.state.Standing.TheVariants.{Waits, Live, Ended}
+use Rattle.mt_write.specs.Laws.{IsSoundSight, LeavesSound, NobodySetsScoped, TouchesItsOwn, are_entries_of, is_entry_of, is_own_step, is_sound_step, is_unscoped_step}
+use Rattle.mt_write.specs.Writing.{fabric_of, is_scoped, own_values, write_answer}
+use Rattle.mt_machine.specs.Changes.{differing}
+use Rattle.mt_machine.specs.Effects.{after_all}
+use Rattle.mt_machine.specs.Observation.{observation}
+use Rattle.mt_machine.specs.State.{IsValid, is_among, is_plain_of, is_row, is_row_at, is_row_of, is_session, rows_of, stands_rightly}
+use Rattle.mt_machine.specs.Step.{after_action, asked_steps, asker, asker_of, asker_on, is_late, live_actor, pase_actor, plain_asker, steps_of, steps_to}
+use Rattle.mt_machine.proofs.Good.{in_time, requested}
+use Rattle.mt_machine.proofs.Writes.{after_all_valid, all-filter, all-kept, all-three, any-weaker, fits, impossible, passes_among, place-same, settled_valid}
+
+-- Whoever is taken as asking has no fabric, or one of the table.
+
+abbrev is_known : List Fabric → Option Actor → Bool
+is_known fabrics None = true
+is_known fabrics (Some actor) = actor.fabric == 0 || is_among fabrics actor.fabric
+
+identified : (fabrics : List Fabric) (session : NodeSession) (fabric : ℕ) → list_any (λ (f : Fabric). f.index == fabric && has_identity session.root_key session.fabric_id f) fabrics ≡ true → (fabric == 0 || is_among fabrics fabric) ≡ true
+identified fabrics session fabric its =
+    or_right _ _ (any-weaker (λ (f : Fabric). f.index == fabric && has_identity session.root_key session.fabric_id f) (λ (f : Fabric). f.index == fabric) (λ f both. (and_parts _ _ both).0) fabrics its)
+
+live_known : (fabrics : List Fabric) (session : NodeSession) (auth : Auth) (standing : Standing) → stands_rightly fabrics session auth standing ≡ true → is_known fabrics (live_actor session standing) ≡ true
+live_known fabrics session Pase Waits stands = refl
+live_known fabrics session Pase (Live fabric) stands = stands
+live_known fabrics session Pase Ended stands = refl
+live_known fabrics session Case Waits stands = refl
+live_known fabrics session Case (Live fabric) stands = identified fabrics session fabric stands
+live_known fabrics session Case Ended stands = refl
+live_known fabrics session Group Waits stands = refl
+live_known fabrics session Group (Live fabric) stands = identified fabrics session fabric stands
+live_known fabrics session Group Ended stands = refl
+
+session_known : (fabrics : List Fabric) (id : ℕ) (sessions : List NodeSession) → list_all (is_session fabrics) sessions ≡ true
+    → is_known fabrics (option_and_then (λ (session : NodeSession). live_actor session session.standing) (find (λ (session : NodeSession). session.session == id) sessions)) ≡ true
+session_known fabrics id [] stand = refl
+session_known fabrics id (session ∷ sessions) stand =
+    let both = and_parts (is_session fabrics session) (list_all (is_session fabrics) sessions) stand in
+    elim (cases_Bool (session.session == id)) [
+      | inl this ↦ rw this (live_known fabrics session session.auth session.standing both.0)
+      | inr other ↦ rw other (session_known fabrics id sessions both.1)
+    ]
+
+case_known : (b : Bool) (fabrics : List Fabric) (actor : Actor) → is_among fabrics actor.fabric ≡ b → is_known fabrics (if b then Some actor else None) ≡ true
+case_known true fabrics actor member = or_right _ _ member
+case_known false fabrics actor none = refl
+
+pase_known : (b : Bool) (fabrics : List Fabric) (plain : Option ℕ) → is_plain_of fabrics plain ≡ true → is_known fabrics (if b then option_map pase_actor plain else None) ≡ true
+pase_known true fabrics None stands = refl
+pase_known true fabrics (Some fabric) stands = stands
+pase_known false fabrics plain stands = refl
+
+plain_known : (s : NodeState) (actor : Actor) (auth : Auth) → IsValid s → is_known s.fabrics (plain_asker s actor auth) ≡ true
+plain_known s actor Case valid = case_known (is_among s.fabrics actor.fabric) s.fabrics actor refl
+plain_known s actor Pase valid = pase_known (actor.fabric == 0 && actor.node == 0) s.fabrics s.plain valid.plain_stands
+plain_known s actor Group valid = refl
+
+known_on : (s : NodeState) (actor : Actor) (session : Option ℕ) → IsValid s → is_known s.fabrics (asker_on s actor session) ≡ true
+known_on s actor (Some id) valid = session_known s.fabrics id s.sessions valid.sessions_stand
+known_on s actor None valid = plain_known s actor actor.auth valid
+
+-- What a fabric observes as its own, or nobody's, has its form.
+
+module _ (test : Value → Bool) (fabric whose : ℕ) (seen_whole : (n : ℕ) → (n == whose) ≡ true → (n == fabric || n == 0) ≡ true) where
+  own_pass : (rows : List Row) → list_all (λ (row : Row). test row.value) rows ≡ true → list_all test (own_values whose (map (seen_by fabric) rows)) ≡ true
+  own_pass [] all = refl
+  own_pass (row ∷ rows) all =
+      let both = and_parts (test row.value) (list_all (λ (r : Row). test r.value) rows) all in
+      elim (cases_Bool (row.fabric == fabric || row.fabric == 0)) [
+        | inl whole ↦ rw whole (elim (cases_Bool (row.fabric == whose)) [
+          | inl own ↦ rw own (and_from _ _ both.0 (own_pass rows both.1))
+          | inr other ↦ rw other (own_pass rows both.1)
+        ])
+        | inr bare ↦ rw bare (elim (cases_Bool (row.fabric == whose)) [
+          | inl own ↦ impossible (sym bare ∙ seen_whole row.fabric own)
+          | inr other ↦ rw other (own_pass rows both.1)
+        ])
+      ]
+
+in_order_pass : (test : Row → Bool) (fabric : ℕ) (rows : List Row) → list_all test rows ≡ true → list_all test (in_order fabric rows) ≡ true
+in_order_pass test fabric rows all =
+    all-three test (filter (is_lower fabric) rows) (filter (is_own fabric) rows) (filter (is_higher fabric) rows)
+    (all-filter test (is_lower fabric) rows all) (all-filter test (is_own fabric) rows all) (all-filter test (is_higher fabric) rows all)
+
+seen_as_whole : (scoped : Bool) (fabric n : ℕ) → (n == (if scoped then fabric else 0)) ≡ true → (n == fabric || n == 0) ≡ true
+seen_as_whole true fabric n own = or_left _ _ own
+seen_as_whole false fabric n own = or_right _ _ own
+
+module _ (s : NodeState) (valid : IsValid s) (actor : Actor) where
+  row_form : (place : Place) (meta : Meta) → find_of place ≡ Ok meta → (row : Row) → stands_at place row ≡ true → is_row s.fabrics row ≡ true → has_form meta.kind meta.limit row.value ≡ true
+  row_form place meta there row at is =
+      let found : find_of row.place ≡ Ok meta = ap find_of (place-same row.place place at) ∙ there in
+      let here : is_row_at s.fabrics row (find_of row.place) ≡ true = (and_parts _ _ is).1 in
+      let is_at : is_row_at s.fabrics row (Ok meta) ≡ true = subst (λ r. is_row_at s.fabrics row r ≡ true) found here in
+      (and_parts (has_form meta.kind meta.limit row.value) (is_row_of s.fabrics meta.scoped row.fabric) is_at).0
+
+  rows_at : (place : Place) → is_stored place ≡ true → rows_of s place ≡ filter (stands_at place) s.rows
+  rows_at place stored = rw stored refl
+
+  seen_forms : (place : Place) (meta : Meta) → find_of place ≡ Ok meta → is_stored place ≡ true
+      → list_all (has_form meta.kind meta.limit) (own_values (fabric_of actor meta) (map (seen_by actor.fabric) (in_order actor.fabric (rows_of s place)))) ≡ true
+  seen_forms place meta there stored =
+      let all : list_all (λ (row : Row). has_form meta.kind meta.limit row.value) (filter (stands_at place) s.rows) ≡ true =
+      all-kept (is_row s.fabrics) (λ (row : Row). has_form meta.kind meta.limit row.value) (stands_at place) (row_form place meta there) s.rows (all-filter (is_row s.fabrics) (stands_at place) s.rows valid.row_forms) in
+      let there_all : list_all (λ (row : Row). has_form meta.kind meta.limit row.value) (rows_of s place) ≡ true =
+      subst (λ (rows : List Row). list_all (λ (row : Row). has_form meta.kind meta.limit row.value) rows ≡ true) (sym (rows_at place stored)) all in
+      own_pass (has_form meta.kind meta.limit) actor.fabric (fabric_of actor meta) (seen_as_whole meta.scoped actor.fabric) (in_order actor.fabric (rows_of s place))
+      (in_order_pass (λ (row : Row). has_form meta.kind meta.limit row.value) actor.fabric (rows_of s place) there_all)
+
+none_of_nobody : (least : ℕ) (entries : List AclEntry) → 1 ≤ least → ascend_from least entries ≡ true → own_entries 0 entries ≡ []
+none_of_nobody least [] some rise = refl
+none_of_nobody least (entry ∷ entries) some rise =
+    let both = and_parts (nat_le least entry.fabric) (ascend_from entry.fabric entries) rise in
+    let higher : least ≤ entry.fabric = leb-true least entry.fabric both.0 in
+    let other : (entry.fabric == 0) ≡ false = grind arith in
+    rw other (none_of_nobody entry.fabric entries (omega arith) both.1)
+
+own_forms : (fabric : ℕ) (entries : List AclEntry) → list_all is_entry entries ≡ true → list_all (is_entry_of fabric) (own_entries fabric entries) ≡ true
+own_forms fabric entries all =
+    all-kept is_entry (is_entry_of fabric) (λ (entry : AclEntry). entry.fabric == fabric) (λ entry own is. and_from _ _ is own) entries (all-filter is_entry (λ (entry : AclEntry). entry.fabric == fabric) entries all)
+
+few_entries : (s : NodeState) (fabric : ℕ) → IsValid s → is_among s.fabrics fabric ≡ true → nat_le (length (own_entries fabric s.entries)) 4 ≡ true
+few_entries s fabric valid among =
+    subst (λ n. nat_le n 4 ≡ true) (sym (length-filter (λ (entry : AclEntry). entry.fabric == fabric) s.entries))
+    (passes_among (λ index. nat_le (count_by (λ (entry : AclEntry). entry.fabric == index) s.entries) 4) fabric s.fabrics valid.entry_counts among)
+
+is_small : (s : NodeState) (fabric : ℕ) → IsValid s → is_among s.fabrics fabric ≡ true → nat_lt fabric (2 ^ 8) ≡ true
+is_small s fabric valid among =
+    let most : fabric ≤ 16 = leb-true fabric 16 (passes_among (λ index. nat_le index 16) fabric s.fabrics valid.indexes among) in
+    lt-ltb fabric (2 ^ 8) (omega arith)
+
+member_sight : (s : NodeState) (actor : Actor) → IsValid s → is_among s.fabrics actor.fabric ≡ true → IsSoundSight (observation actor.fabric s).seen actor
+member_sight s actor valid among = record {
+  fabric = is_small s actor.fabric valid among;
+  rows = seen_forms s valid actor;
+  entries = and_from _ _ (own_forms actor.fabric s.entries valid.entry_forms) (few_entries s actor.fabric valid among);
+}
+
+no_entries : (s : NodeState) (fabric : ℕ) → IsValid s → fabric ≡ 0 → own_entries fabric s.entries ≡ []
+no_entries s fabric valid zero = subst (λ (f : ℕ). own_entries f s.entries ≡ []) (sym zero) (none_of_nobody 1 s.entries (omega arith) valid.entries_rise)
+
+nobody_sight : (s : NodeState) (actor : Actor) → IsValid s → actor.fabric ≡ 0 → IsSoundSight (observation actor.fabric s).seen actor
+nobody_sight s actor valid zero = record {
+  fabric = subst (λ (f : ℕ). nat_lt f (2 ^ 8) ≡ true) (sym zero) refl;
+  rows = seen_forms s valid actor;
+  entries = subst (λ (entries : List AclEntry). are_entries_of actor.fabric entries ≡ true) (sym (no_entries s actor.fabric valid zero)) refl;
+}
+
+-- Steps fit the state.
+
+own_of : (fabrics : List Fabric) (scoped : Bool) (fabric own : ℕ) → (fabric == (if scoped then own else 0)) ≡ true → (scoped ≡ true → is_among fabrics own ≡ true) → is_row_of fabrics scoped fabric ≡ true
+own_of fabrics true fabric own is among = subst (λ (f : ℕ). is_among fabrics f ≡ true) (sym (eqb-true fabric own is)) (among refl)
+own_of fabrics false fabric own is among = is
+
+step_fits : (fabrics : List Fabric) (actor : Actor) (step : NodeStep) → is_own_step actor step ≡ true → is_sound_step step ≡ true → ((is_unscoped_step step ≡ false) → is_among fabrics actor.fabric ≡ true) → fits fabrics step ≡ true
+step_fits fabrics actor (SetRow place fabric values) own sound among =
+    and_from _ _ sound (own_of fabrics (is_scoped (find_of place)) fabric actor.fabric own (λ scoped. among (ap not scoped)))
+step_fits fabrics actor (SetEntries fabric entries) own sound among =
+    and_from _ _ sound (subst (λ (f : ℕ). is_among fabrics f ≡ true) (sym (eqb-true fabric actor.fabric own)) (among refl))
+step_fits fabrics actor (PutNetwork id secret) own sound among = impossible own
+step_fits fabrics actor (RemoveNetwork id) own sound among = impossible own
+step_fits fabrics actor (ConnectNetwork id) own sound among = impossible own
+step_fits fabrics actor (MoveNetwork id index) own sound among = impossible own
+
+member_fits : (fabrics : List Fabric) (actor : Actor) (steps : List NodeStep) → list_all (is_own_step actor) steps ≡ true → list_all is_sound_step steps ≡ true → is_among fabrics actor.fabric ≡ true → list_all (fits fabrics) steps ≡ true
+member_fits fabrics actor [] own sound among = refl
+member_fits fabrics actor (step ∷ steps) own sound among =
+    let its = and_parts (is_own_step actor step) (list_all (is_own_step actor) steps) own in
+    let so = and_parts (is_sound_step step) (list_all is_sound_step steps) sound in
+    and_from _ _ (step_fits fabrics actor step its.0 so.0 (λ scoped. among)) (member_fits fabrics actor steps its.1 so.1 among)
+
+nobody_fits : (fabrics : List Fabric) (actor : Actor) (steps : List NodeStep) → list_all (is_own_step actor) steps ≡ true → list_all is_sound_step steps ≡ true → list_all is_unscoped_step steps ≡ true → list_all (fits fabrics) steps ≡ true
+nobody_fits fabrics actor [] own sound unscoped = refl
+nobody_fits fabrics actor (step ∷ steps) own sound unscoped =
+    let its = and_parts (is_own_step actor step) (list_all (is_own_step actor) steps) own in
+    let so = and_parts (is_sound_step step) (list_all is_sound_step steps) sound in
+    let open_to_all = and_parts (is_unscoped_step step) (list_all is_unscoped_step steps) unscoped in
+    and_from _ _ (step_fits fabrics actor step its.0 so.0 (λ scoped. impossible (sym scoped ∙ open_to_all.0))) (nobody_fits fabrics actor steps its.1 so.1 open_to_all.1)
+
+-- By the laws of writes.
+module _ (own : TouchesItsOwn) (sound : LeavesSound) (nobody : NobodySetsScoped) where
+  write_fits : (s : NodeState) (actor : Actor) (items : List WriteItem) (timed : Bool) → IsValid s → is_known s.fabrics (Some actor) ≡ true
+      → list_all (fits s.fabrics) (write_answer (observation actor.fabric s).seen actor items timed).rows ≡ true
+  write_fits s actor items timed valid known =
+      let seen = (observation actor.fabric s).seen in
+      let steps = (write_answer seen actor items timed).rows in
+      let its = own seen actor items timed in
+      elim (or_cases (actor.fabric == 0) (is_among s.fabrics actor.fabric) known) [
+        | inl none ↦
+            let zero = eqb-true actor.fabric 0 none in
+            nobody_fits s.fabrics actor steps its (sound seen actor items timed (nobody_sight s actor valid zero)) (nobody seen actor items timed zero (no_entries s actor.fabric valid zero))
+        | inr among ↦ member_fits s.fabrics actor steps its (sound seen actor items timed (member_sight s actor valid among)) among
+      ]
+
+  asked_fit : (s : NodeState) (request : Request) (deadline : Option ℕ) (now : ℕ) (asking : Option Actor) → IsValid s → is_known s.fabrics asking ≡ true → list_all (fits s.fabrics) (asked_steps s request deadline now asking) ≡ true
+  asked_fit s request deadline now None valid known = refl
+  asked_fit s request deadline now (Some actor) valid known =
+      let seen_by_it = observation actor.fabric s in
+      in_time (fits s.fabrics) (is_late deadline now) (steps_to seen_by_it actor (is_some deadline) request)
+      (requested (fits s.fabrics) seen_by_it actor (is_some deadline) request (λ items timed. write_fits s actor items timed valid known))
+
+  pub action_fits : (s : NodeState) (action : Action) (now : ℕ) → IsValid s → list_all (fits s.fabrics) (steps_of s action now) ≡ true
+  action_fits s (Ask actor request deadline) now valid = asked_fit s request deadline now (asker s actor) valid (known_on s actor actor.session valid)
+  action_fits s Nothing now valid = refl
+
+-- An action leaves a valid state valid.
+pub stays_valid
+    : ((rows : List Row) (place : Place) (fabric : ℕ) (values : List Value) → are_ascending rows ≡ true → are_ascending (with_rows place fabric values rows) ≡ true)
+    → ((entries new : List AclEntry) (least fabric : ℕ) → least ≤ fabric → ascend_from least entries ≡ true → list_all (setting.is_entry_of fabric) new ≡ true → ascend_from least (with_entries fabric new entries) ≡ true)
+    → TouchesItsOwn → LeavesSound → NobodySetsScoped → (s : NodeState) (action : Action) (now : ℕ) → IsValid s → IsValid (after_action s action now)
+stays_valid rows_rise entries_rise own sound nobody s action now valid =
+    let behind = after_all (asker_of s action) (steps_of s action now) s in
+    settled_valid (differing s behind) s behind now valid
+    (after_all_valid rows_rise entries_rise (asker_of s action) (steps_of s action now) s valid (action_fits own sound nobody s action now valid))

@@ -1,0 +1,470 @@
+-- The steps of a write leave a state valid.
+use Rattle.std.proofs.Common.{◌≡◌, ℕ, suc, ◌+◌, ◌-◌, ◌<◌, ◌≤◌, ◌^◌, inl, inr, Bool, true, false, not, ◌&&◌, ◌||◌, ◌==◌, nat_le, nat_lt, List, [], ◌∷◌, ◌++◌, length, Option, Result, Ok, Err, refl, sym, ap, ◌∙◌, subst, filter, map, length-append, if◌then◌else◌, arith}
+use Rattle.std.proofs.lemmas.Bool.{and_from, and_parts, and_right, cases_Bool, cases_order, eqb-false, eqb-true, eq-eqb, leb-true, le-leb, le-ltb, lt-ltb, ltb-true, ne_eqb, not-true, or_cases, or_left, or_right}
+use Rattle.std.proofs.lemmas.Grind.{common_steps}
+use Rattle.std.proofs.lemmas.List.Elements.{filter-append}
+use Rattle.std.proofs.lemmas.List.Folds.{list_all-append, list_all-map}
+use Rattle.std.proofs.lemmas.List.Sums.{length-filter, count_by-le-length}
+use Rattle.std.specs.List.{count_by, list_all, list_any}
+use Rattle.mt_tlv.specs.declared.value.Value.{Value}
+use Rattle.mt_meta.specs.Finding.{find_of}
+use Rattle.mt_meta.specs.Forms.{has_form}
+use Rattle.mt_meta.specs.Places.{all_places}
+use Rattle.mt_meta.specs.Stored.{is_stored}
+use Rattle.mt_meta.specs.declared.meta.Meta.{Meta}
+use Rattle.mt_model.specs.texts.Config.{ascend_from, is_entry, is_of}
+use Rattle.mt_model.specs.rows.Order.{are_ascending, fabrics_ascend, rise_above, row_at, stands_before}
+use Rattle.mt_model.specs.rows.Setting.{is_above, is_below, is_entry_above, is_entry_below, with_entries, with_rows}
+use Rattle.mt_model.specs.rows.Setting as setting
+use Rattle.mt_model.specs.rows.Sight.{same_place, stands_at}
+use Rattle.mt_model.specs.declared.tables.access.AclEntry.{AclEntry}
+use Rattle.mt_model.specs.declared.tables.access.Actor.{Actor}
+use Rattle.mt_model.specs.declared.tables.fabric.Fabric.{Fabric}
+use Rattle.mt_model.specs.declared.node.action.NodeStep.{NodeStep}
+use Rattle.mt_model.specs.declared.node.action.NodeStep.TheVariants.{SetRow, SetEntries, PutNetwork, RemoveNetwork, ConnectNetwork, MoveNetwork}
+use Rattle.mt_model.specs.declared.rows.place.Place.{Place}
+use Rattle.mt_model.specs.declared.rows.place.Row.{Row}
+use Rattle.mt_model.specs.declared.node.state.ChangeNumber.{ChangeNumber}
+use Rattle.mt_model.specs.declared.node.state.NodeState.{NodeState}
+use Rattle.mt_model.specs.declared.node.state.Version.{Version}
+use Rattle.mt_model.specs.declared.messages.status.Status.{Status}
+use Rattle.mt_write.specs.Laws.{are_entries_of, is_entry_of, is_sound_row}
+use Rattle.mt_write.specs.Writing.{is_scoped}
+use Rattle.mt_machine.specs.Changes.{change_after, changed_at, count_after, next_change, version_after}
+use Rattle.mt_machine.specs.Effects.{after, after_all}
+use Rattle.mt_machine.specs.State.{IsValid, has_entries_up_to, has_one_row, is_among, is_change_up_to, is_indexed, is_owned, is_row, is_row_at, is_row_of, is_unscoped, stands_once}
+
+-- Lists.
+
+pub impossible : {A : Type 0} → false ≡ true → A
+impossible h = absurd cc
+
+pub all-filter : {X : Type 0} (p keep : X → Bool) (xs : List X) → list_all p xs ≡ true → list_all p (filter keep xs) ≡ true
+all-filter p keep [] all = refl
+all-filter p keep (x ∷ xs) all =
+    let both = and_parts (p x) (list_all p xs) all in
+    elim (cases_Bool (keep x)) [
+      | inl kept ↦ rw kept (and_from _ _ both.0 (all-filter p keep xs both.1))
+      | inr gone ↦ rw gone (all-filter p keep xs both.1)
+    ]
+
+-- those that are kept pass another test, if each that is kept and passes the first does
+pub all-kept : {X : Type 0} (p q keep : X → Bool) → ((x : X) → keep x ≡ true → p x ≡ true → q x ≡ true) → (xs : List X) → list_all p (filter keep xs) ≡ true → list_all q (filter keep xs) ≡ true
+all-kept p q keep each [] all = refl
+all-kept p q keep each (x ∷ xs) all = elim (cases_Bool (keep x)) [
+  | inl kept ↦
+      let here : (p x && list_all p (filter keep xs)) ≡ true = rw kept at all in
+      let both = and_parts (p x) (list_all p (filter keep xs)) here in
+      rw kept (and_from _ _ (each x kept both.0) (all-kept p q keep each xs both.1))
+  | inr gone ↦
+      let rest : list_all p (filter keep xs) ≡ true = rw gone at all in
+      rw gone (all-kept p q keep each xs rest)
+]
+
+pub all-weaker : {X : Type 0} (p q : X → Bool) → ((x : X) → p x ≡ true → q x ≡ true) → (xs : List X) → list_all p xs ≡ true → list_all q xs ≡ true
+all-weaker p q each [] all = refl
+all-weaker p q each (x ∷ xs) all = let both = and_parts (p x) (list_all p xs) all in and_from _ _ (each x both.0) (all-weaker p q each xs both.1)
+
+pub any-weaker : {X : Type 0} (p q : X → Bool) → ((x : X) → p x ≡ true → q x ≡ true) → (xs : List X) → list_any p xs ≡ true → list_any q xs ≡ true
+any-weaker p q each [] any = impossible any
+any-weaker p q each (x ∷ xs) any = elim (or_cases (p x) (list_any p xs) any) [
+  | inl here ↦ or_left _ _ (each x here)
+  | inr later ↦ or_right _ _ (any-weaker p q each xs later)
+]
+
+pub all-three : {X : Type 0} (p : X → Bool) (a b c : List X) → list_all p a ≡ true → list_all p b ≡ true → list_all p c ≡ true → list_all p (a ++ (b ++ c)) ≡ true
+all-three p a b c first second third = list_all-append p a (b ++ c) ∙ and_from _ _ first (list_all-append p b c ∙ and_from _ _ second third)
+
+-- How many pass.
+
+abbrev count : {X : Type 0} → (X → Bool) → List X → ℕ
+count p xs = length (filter p xs)
+
+counted : {X : Type 0} (p : X → Bool) (xs : List X) → count_by p xs ≡ count p xs
+counted p xs = sym (length-filter p xs)
+
+count-three : {X : Type 0} (p : X → Bool) (a b c : List X) → count p (a ++ (b ++ c)) ≡ count p a + (count p b + count p c)
+count-three p a b c = ap length (filter-append p a (b ++ c) ∙ ap (λ xs. filter p a ++ xs) (filter-append p b c)) ∙ simp length-append
+
+count-none : {X : Type 0} (p good : X → Bool) → ((x : X) → good x ≡ true → p x ≡ false) → (xs : List X) → list_all good xs ≡ true → count p xs ≡ 0
+count-none p good each [] all = refl
+count-none p good each (x ∷ xs) all =
+    let both = and_parts (good x) (list_all good xs) all in
+    rw (each x both.0) (count-none p good each xs both.1)
+
+-- none of those that are kept
+count-gone : {X : Type 0} (p good keep : X → Bool) → ((x : X) → good x ≡ true → p x ≡ true → keep x ≡ false) → (xs : List X) → list_all good xs ≡ true → count p (filter keep xs) ≡ 0
+count-gone p good keep each [] all = refl
+count-gone p good keep each (x ∷ xs) all =
+    let both = and_parts (good x) (list_all good xs) all in
+    let rest = count-gone p good keep each xs both.1 in
+    elim (cases_Bool (p x)) [
+      | inl passes ↦ rw (each x both.0 passes) rest
+      | inr fails ↦ elim (cases_Bool (keep x)) [
+        | inl kept ↦ rw (kept, fails) rest
+        | inr gone ↦ rw gone rest
+      ]
+    ]
+
+-- of two parts of a list to one of which each belongs that passes
+count-apart : {X : Type 0} (p low high : X → Bool) → ((x : X) → p x ≡ true → high x ≡ not (low x)) → (xs : List X) → count p (filter low xs) + count p (filter high xs) ≡ count p xs
+count-apart p low high each [] = refl
+count-apart p low high each (x ∷ xs) =
+    let rest = count-apart p low high each xs in
+    elim (cases_Bool (p x)) [
+      | inl passes ↦ elim (cases_Bool (low x)) [
+        | inl is_low ↦
+            let not_high : high x ≡ false = each x passes ∙ ap not is_low in
+            rw (is_low, not_high, passes) (omega (arith, rest))
+        | inr is_not ↦
+            let is_high : high x ≡ true = each x passes ∙ ap not is_not in
+            rw (is_not, is_high, passes) (omega (arith, rest))
+      ]
+      | inr fails ↦ elim (cases_Bool (low x)) [
+        | inl is_low ↦ elim (cases_Bool (high x)) [ inl is_high ↦ rw (is_low, is_high, fails) rest | inr not_high ↦ rw (is_low, not_high, fails) rest ]
+        | inr is_not ↦ elim (cases_Bool (high x)) [ inl is_high ↦ rw (is_not, is_high, fails) rest | inr not_high ↦ rw (is_not, not_high, fails) rest ]
+      ]
+    ]
+
+count-map : {X Y : Type 0} (p : X → Bool) (h : Y → X) (passes : Bool) → ((y : Y) → p (h y) ≡ passes) → (ys : List Y) → count p (map h ys) ≡ (if passes then length ys else 0)
+count-map p h true each [] = refl
+count-map p h true each (y ∷ ys) = rw (each y) (ap suc (count-map p h true each ys))
+count-map p h false each [] = refl
+count-map p h false each (y ∷ ys) = rw (each y) (count-map p h false each ys)
+
+-- Places.
+
+pub place-same : (p q : Place) → same_place p q ≡ true → p ≡ q
+place-same p q same =
+    let outer = and_parts (p.endpoint == q.endpoint) (p.cluster == q.cluster && p.leaf == q.leaf) same in
+    let inner = and_parts (p.cluster == q.cluster) (p.leaf == q.leaf) outer.1 in
+    let endpoint = eqb-true p.endpoint q.endpoint outer.0 in
+    let cluster = eqb-true p.cluster q.cluster inner.0 in
+    let leaf = eqb-true p.leaf q.leaf inner.1 in
+    λ i. record { endpoint = endpoint i; cluster = cluster i; leaf = leaf i }
+
+place-itself : (p : Place) → same_place p p ≡ true
+place-itself p = grind (arith, common_steps)
+
+before-itself : (p : Place) → stands_before p p ≡ false
+before-itself p = grind (arith, common_steps)
+
+place-other : (p q : Place) → same_place p q ≡ false → same_place q p ≡ false
+place-other p q other = grind (arith, common_steps)
+
+one-before : (p q : Place) → same_place p q ≡ false → stands_before p q ≡ not (stands_before q p)
+one-before p q other = grind (arith, common_steps)
+
+or-apart : (b c d x y : Bool) → x ≡ false → y ≡ false → (not b || (x && c)) ≡ not (b || (y && d))
+or-apart true c d x y no_x no_y = rw no_x refl
+or-apart false c d x y no_x no_y = rw no_y refl
+
+-- A valid state is valid with other rows, entries, versions, change numbers and another time, where these keep their rules.
+
+record AreRows (s : NodeState) (rows : List Row) : Type 0 where
+  rise : are_ascending rows ≡ true
+  forms : list_all (is_row s.fabrics) rows ≡ true
+  stand : list_all (stands_once rows) (filter has_one_row all_places) ≡ true
+
+record AreEntries (s : NodeState) (entries : List AclEntry) : Type 0 where
+  rise : ascend_from 1 entries ≡ true
+  forms : list_all is_entry entries ≡ true
+  owned : list_all (is_owned s.fabrics) entries ≡ true
+  few : list_all (has_entries_up_to 4 entries) s.fabrics ≡ true
+
+record AreChanges (changes : List ChangeNumber) (changed : ℕ) : Type 0 where
+  counted : list_all (is_change_up_to changed) changes ≡ true
+  fits : nat_le changed (2 ^ 64 - 1) ≡ true
+
+renewed : (s : NodeState) (rows : List Row) (entries : List AclEntry) (versions : List Version) (changes : List ChangeNumber) (changed now : ℕ)
+    → IsValid s → AreRows s rows → AreEntries s entries → AreChanges changes changed
+    → IsValid (record s { rows = rows; entries = entries; versions = versions; changes = changes; changed = changed; clock = now })
+renewed s rows entries versions changes changed now valid are_rows are_entries are_changes = record {
+  fabric_count = valid.fabric_count;
+  fabrics_rise = valid.fabrics_rise;
+  indexes = valid.indexes;
+  fabric_forms = valid.fabric_forms;
+  identities_differ = valid.identities_differ;
+  labels_differ = valid.labels_differ;
+  entries_rise = are_entries.rise;
+  entry_forms = are_entries.forms;
+  entries_owned = are_entries.owned;
+  entry_counts = are_entries.few;
+  rows_rise = are_rows.rise;
+  row_forms = are_rows.forms;
+  rows_stand = are_rows.stand;
+  roots_differ = valid.roots_differ;
+  roots_used = valid.roots_used;
+  network_count = valid.network_count;
+  network_forms = valid.network_forms;
+  network_ids_differ = valid.network_ids_differ;
+  sessions_stand = valid.sessions_stand;
+  plain_stands = valid.plain_stands;
+  changes_counted = are_changes.counted;
+  count_fits = are_changes.fits;
+  failsafe_facts = valid.failsafe_facts;
+}
+
+same_rows : (s : NodeState) → IsValid s → AreRows s s.rows
+same_rows s valid = record { rise = valid.rows_rise; forms = valid.row_forms; stand = valid.rows_stand }
+
+same_entries : (s : NodeState) → IsValid s → AreEntries s s.entries
+same_entries s valid = record { rise = valid.entries_rise; forms = valid.entry_forms; owned = valid.entries_owned; few = valid.entry_counts }
+
+same_changes : (s : NodeState) → IsValid s → AreChanges s.changes s.changed
+same_changes s valid = record { counted = valid.changes_counted; fits = valid.count_fits }
+
+-- Rows that are set.
+
+-- a row at a place that is not scoped is nobody's
+nobodys : (fabrics : List Fabric) (row : Row) (found : Result Meta Status) → is_row_at fabrics row found ≡ true → is_unscoped found ≡ true → row.fabric ≡ 0
+nobodys fabrics row (Err status) is unscoped = impossible is
+nobodys fabrics row (Ok meta) is unscoped =
+    let both = and_parts (has_form meta.kind meta.limit row.value) (is_row_of fabrics meta.scoped row.fabric) is in
+    let nobody : is_row_of fabrics false row.fabric ≡ true = subst (λ b. is_row_of fabrics b row.fabric ≡ true) (not-true meta.scoped unscoped) both.1 in
+    eqb-true row.fabric 0 nobody
+
+module _ (s : NodeState) (valid : IsValid s) (place : Place) (fabric : ℕ) (values : List Value) (meta : Meta) (there : find_of place ≡ Ok meta)
+    (stored : is_stored place ≡ true) (forms : list_all (has_form meta.kind meta.limit) values ≡ true) (one : (meta.scoped || length values == 1) ≡ true)
+    (whose : is_row_of s.fabrics meta.scoped fabric ≡ true)
+    (ascending : are_ascending (with_rows place fabric values s.rows) ≡ true)
+  where
+    new_row : (value : Value) → has_form meta.kind meta.limit value ≡ true → is_row s.fabrics (row_at place fabric value) ≡ true
+    new_row value form = and_from _ _ stored (ap (is_row_at s.fabrics (row_at place fabric value)) there ∙ and_from _ _ form whose)
+
+    set_forms : list_all (is_row s.fabrics) (with_rows place fabric values s.rows) ≡ true
+    set_forms =
+        all-three (is_row s.fabrics) (filter (is_below place fabric) s.rows) (map (row_at place fabric) values) (filter (is_above place fabric) s.rows)
+        (all-filter (is_row s.fabrics) (is_below place fabric) s.rows valid.row_forms)
+        (list_all-map (is_row s.fabrics) (row_at place fabric) values ∙ all-weaker (has_form meta.kind meta.limit) (λ value. is_row s.fabrics (row_at place fabric value)) new_row values forms)
+        (all-filter (is_row s.fabrics) (is_above place fabric) s.rows valid.row_forms)
+
+    set_count : (q : Place) → count (stands_at q) (with_rows place fabric values s.rows)
+        ≡ count (stands_at q) (filter (is_below place fabric) s.rows) + (count (stands_at q) (map (row_at place fabric) values) + count (stands_at q) (filter (is_above place fabric) s.rows))
+    set_count q = count-three (stands_at q) (filter (is_below place fabric) s.rows) (map (row_at place fabric) values) (filter (is_above place fabric) s.rows)
+
+    -- at the place itself the new value alone stands
+    none_below : fabric ≡ 0 → (row : Row) → is_row s.fabrics row ≡ true → stands_at place row ≡ true → is_below place fabric row ≡ false
+    none_below zero row is at =
+        let early : stands_before row.place place ≡ false = subst (λ (p : Place). stands_before p place ≡ false) (sym (place-same row.place place at)) (before-itself place) in
+        rw (early, at, zero) (le-ltb row.fabric 0 (omega arith))
+
+    none_above : is_unscoped (find_of place) ≡ true → fabric ≡ 0 → (row : Row) → is_row s.fabrics row ≡ true → stands_at place row ≡ true → is_above place fabric row ≡ false
+    none_above unscoped zero row is at =
+        let same = place-same row.place place at in
+        let late : stands_before place row.place ≡ false = subst (λ (p : Place). stands_before place p ≡ false) (sym same) (before-itself place) in
+        let here = (and_parts (is_stored row.place) (is_row_at s.fabrics row (find_of row.place)) is).1 in
+        let nobody : row.fabric ≡ 0 = nobodys s.fabrics row (find_of row.place) here (subst (λ (p : Place). is_unscoped (find_of p) ≡ true) (sym same) unscoped) in
+        rw (late, zero, nobody) (and_right (same_place place row.place) false refl)
+
+    stands_here : has_one_row place ≡ true → count (stands_at place) (with_rows place fabric values s.rows) ≡ 1
+    stands_here single =
+        let unscoped = (and_parts (is_stored place) (is_unscoped (find_of place)) single).1 in
+        let bare : meta.scoped ≡ false = not-true meta.scoped (subst (λ r. is_unscoped r ≡ true) there unscoped) in
+        let zero : fabric ≡ 0 = eqb-true fabric 0 (subst (λ b. is_row_of s.fabrics b fabric ≡ true) bare whose) in
+        let alone : length values ≡ 1 = eqb-true (length values) 1 (subst (λ b. (b || length values == 1) ≡ true) bare one) in
+        let below = count-gone (stands_at place) (is_row s.fabrics) (is_below place fabric) (none_below zero) s.rows valid.row_forms in
+        let above = count-gone (stands_at place) (is_row s.fabrics) (is_above place fabric) (none_above unscoped zero) s.rows valid.row_forms in
+        let new = count-map (stands_at place) (row_at place fabric) true (λ value. place-itself place) values in
+        omega (arith, set_count place, below, above, new, alone)
+
+    -- at another place all stand that stood there
+    either_side : (q : Place) → same_place place q ≡ false → (row : Row) → stands_at q row ≡ true → is_above place fabric row ≡ not (is_below place fabric row)
+    either_side q other row at =
+        let same = place-same row.place q at in
+        subst (λ (p : Place). (stands_before place p || (same_place place p && nat_lt fabric row.fabric)) ≡ not (stands_before p place || (same_place p place && nat_lt row.fabric fabric))) (sym same)
+        (ap (λ b. b || (same_place place q && nat_lt fabric row.fabric)) (one-before place q other)
+        ∙ or-apart (stands_before q place) (nat_lt fabric row.fabric) (nat_lt row.fabric fabric) (same_place place q) (same_place q place) other (place-other place q other))
+
+    stands_elsewhere : (q : Place) → same_place place q ≡ false → count (stands_at q) (with_rows place fabric values s.rows) ≡ count (stands_at q) s.rows
+    stands_elsewhere q other =
+        let parts = count-apart (stands_at q) (is_below place fabric) (is_above place fabric) (either_side q other) s.rows in
+        let new = count-map (stands_at q) (row_at place fabric) false (λ value. other) values in
+        omega (arith, set_count q, parts, new)
+
+    stands_still : (q : Place) → has_one_row q ≡ true → stands_once s.rows q ≡ true → stands_once (with_rows place fabric values s.rows) q ≡ true
+    stands_still q single once = elim (cases_Bool (same_place place q)) [
+      | inl here ↦
+          let same = place-same place q here in
+          let alone : count (stands_at q) (with_rows place fabric values s.rows) ≡ 1 =
+          subst (λ (p : Place). count (stands_at p) (with_rows place fabric values s.rows) ≡ 1) same (stands_here (subst (λ (p : Place). has_one_row p ≡ true) (sym same) single)) in
+          eq-eqb _ _ (counted (stands_at q) (with_rows place fabric values s.rows) ∙ alone)
+      | inr other ↦
+          let before : count_by (stands_at q) s.rows ≡ 1 = eqb-true _ _ once in
+          eq-eqb _ _ (counted (stands_at q) (with_rows place fabric values s.rows) ∙ stands_elsewhere q other ∙ sym (counted (stands_at q) s.rows) ∙ before)
+    ]
+
+    set_rows : AreRows s (with_rows place fabric values s.rows)
+    set_rows = record {
+      rise = ascending;
+      forms = set_forms;
+      stand = all-kept (stands_once s.rows) (stands_once (with_rows place fabric values s.rows)) has_one_row stands_still all_places valid.rows_stand;
+    }
+
+-- Fabrics of the table.
+
+above_least : (least : ℕ) (fabrics : List Fabric) → rise_above least fabrics ≡ true → list_all (λ (f : Fabric). nat_le 1 f.index) fabrics ≡ true
+above_least least [] rise = refl
+above_least least (f ∷ fabrics) rise =
+    let both = and_parts (nat_lt least f.index) (rise_above f.index fabrics) rise in
+    let higher : least < f.index = ltb-true least f.index both.0 in
+    and_from _ _ (le-leb 1 f.index (omega arith)) (above_least f.index fabrics both.1)
+
+pub passes_among : (p : ℕ → Bool) (index : ℕ) (fabrics : List Fabric) → list_all (λ (f : Fabric). p f.index) fabrics ≡ true → is_among fabrics index ≡ true → p index ≡ true
+passes_among p index [] all among = impossible among
+passes_among p index (f ∷ fabrics) all among =
+    let both = and_parts (p f.index) (list_all (λ (g : Fabric). p g.index) fabrics) all in
+    elim (or_cases (f.index == index) (is_among fabrics index) among) [
+      | inl this ↦ subst (λ n. p n ≡ true) (eqb-true f.index index this) both.0
+      | inr later ↦ passes_among p index fabrics both.1 later
+    ]
+
+pub members_are_positive : (fabrics : List Fabric) (index : ℕ) → fabrics_ascend fabrics ≡ true → is_among fabrics index ≡ true → 1 ≤ index
+members_are_positive fabrics index rise among = leb-true 1 index (passes_among (nat_le 1) index fabrics (above_least 0 fabrics rise) among)
+
+-- Entries that are set.
+
+one-lower : (a b : ℕ) → (a == b) ≡ false → nat_lt b a ≡ not (nat_lt a b)
+one-lower a b other = elim (cases_order a b) [
+  | inl same ↦ absurd (eqb-false a b other same)
+  | inr apart ↦ elim apart [
+    | inl lower ↦ le-ltb b a (omega arith) ∙ sym (ap not (lt-ltb a b lower))
+    | inr higher ↦ lt-ltb b a higher ∙ sym (ap not (le-ltb a b (omega arith)))
+  ]
+]
+
+module _ (s : NodeState) (valid : IsValid s) (fabric : ℕ) (new : List AclEntry) (are : are_entries_of fabric new ≡ true) (among : is_among s.fabrics fabric ≡ true)
+    (ascending : ascend_from 1 (with_entries fabric new s.entries) ≡ true)
+  where
+    new_forms : list_all (is_entry_of fabric) new ≡ true
+    new_forms = (and_parts _ _ are).0
+
+    of_all : (p : AclEntry → Bool) → list_all p s.entries ≡ true → ((entry : AclEntry) → is_entry_of fabric entry ≡ true → p entry ≡ true) → list_all p (with_entries fabric new s.entries) ≡ true
+    of_all p all each =
+        all-three p (filter (is_entry_below fabric) s.entries) new (filter (is_entry_above fabric) s.entries)
+        (all-filter p (is_entry_below fabric) s.entries all) (all-weaker (is_entry_of fabric) p each new new_forms) (all-filter p (is_entry_above fabric) s.entries all)
+
+    has_owner : (entry : AclEntry) → is_entry_of fabric entry ≡ true → is_owned s.fabrics entry ≡ true
+    has_owner entry is =
+        let its : entry.fabric ≡ fabric = eqb-true entry.fabric fabric (and_parts _ _ is).1 in
+        any-weaker (is_indexed fabric) (λ (f : Fabric). is_of f entry) (λ f at. eq-eqb entry.fabric f.index (its ∙ sym (eqb-true f.index fabric at))) s.fabrics among
+
+    entries_count : (f : Fabric) → count (is_of f) (with_entries fabric new s.entries)
+        ≡ count (is_of f) (filter (is_entry_below fabric) s.entries) + (count (is_of f) new + count (is_of f) (filter (is_entry_above fabric) s.entries))
+    entries_count f = count-three (is_of f) (filter (is_entry_below fabric) s.entries) new (filter (is_entry_above fabric) s.entries)
+
+    few_own : (f : Fabric) → f.index ≡ fabric → count (is_of f) (with_entries fabric new s.entries) ≤ 4
+    few_own f own =
+        let below = count-gone (is_of f) is_entry (is_entry_below fabric) (λ entry is its. le-ltb entry.fabric fabric (omega (arith, eqb-true entry.fabric f.index its))) s.entries valid.entry_forms in
+        let above = count-gone (is_of f) is_entry (is_entry_above fabric) (λ entry is its. le-ltb fabric entry.fabric (omega (arith, eqb-true entry.fabric f.index its))) s.entries valid.entry_forms in
+        let most = leb-true (length new) 4 (and_parts (list_all (is_entry_of fabric) new) (nat_le (length new) 4) are).1 in
+        omega (arith, entries_count f, below, above, most, counted (is_of f) new, count_by-le-length (is_of f) new)
+
+    few_of_other : (f : Fabric) → (f.index == fabric) ≡ false → count (is_of f) (with_entries fabric new s.entries) ≡ count (is_of f) s.entries
+    few_of_other f other =
+        let parts = count-apart (is_of f) (is_entry_below fabric) (is_entry_above fabric) (λ entry its. one-lower entry.fabric fabric (subst (λ n. (n == fabric) ≡ false) (sym (eqb-true entry.fabric f.index its)) other)) s.entries in
+        let none = count-none (is_of f) (is_entry_of fabric) (λ entry is. ne_eqb entry.fabric f.index (λ its. eqb-false f.index fabric other (sym its ∙ eqb-true entry.fabric fabric (and_parts (is_entry entry) (entry.fabric == fabric) is).1))) new new_forms in
+        omega (arith, entries_count f, parts, none)
+
+    few_each : (f : Fabric) → has_entries_up_to 4 s.entries f ≡ true → has_entries_up_to 4 (with_entries fabric new s.entries) f ≡ true
+    few_each f before = elim (cases_Bool (f.index == fabric)) [
+      | inl own ↦ le-leb _ _ (omega (arith, counted (is_of f) (with_entries fabric new s.entries), few_own f (eqb-true f.index fabric own)))
+      | inr other ↦
+          let few : count_by (is_of f) s.entries ≤ 4 = leb-true _ _ before in
+          le-leb _ _ (omega (arith, few, counted (is_of f) s.entries, counted (is_of f) (with_entries fabric new s.entries), few_of_other f other))
+    ]
+
+    set_entries : AreEntries s (with_entries fabric new s.entries)
+    set_entries = record {
+      rise = ascending;
+      forms = of_all is_entry valid.entry_forms (λ entry is. (and_parts (is_entry entry) (entry.fabric == fabric) is).0);
+      owned = of_all (is_owned s.fabrics) valid.entries_owned has_owner;
+      few = all-weaker (has_entries_up_to 4 s.entries) (has_entries_up_to 4 (with_entries fabric new s.entries)) few_each s.fabrics valid.entry_counts;
+    }
+
+-- Steps that a state with these fabrics can take.
+
+abbrev pub fits_row : List Fabric → ℕ → Bool → List Value → Result Meta Status → Bool
+fits_row fabrics fabric stored values found = is_sound_row stored values found && is_row_of fabrics (is_scoped found) fabric
+
+abbrev pub fits : List Fabric → NodeStep → Bool
+fits fabrics (SetRow place fabric values) = fits_row fabrics fabric (is_stored place) values (find_of place)
+fits fabrics (SetEntries fabric entries) = are_entries_of fabric entries && is_among fabrics fabric
+fits fabrics step = false
+
+module _
+    (rows_rise : (rows : List Row) (place : Place) (fabric : ℕ) (values : List Value) → are_ascending rows ≡ true → are_ascending (with_rows place fabric values rows) ≡ true)
+    (entries_rise : (entries new : List AclEntry) (least fabric : ℕ) → least ≤ fabric → ascend_from least entries ≡ true → list_all (setting.is_entry_of fabric) new ≡ true → ascend_from least (with_entries fabric new entries) ≡ true)
+  where
+    row_set : (s : NodeState) → IsValid s → (place : Place) (fabric : ℕ) (values : List Value) (found : Result Meta Status) → find_of place ≡ found → fits_row s.fabrics fabric (is_stored place) values found ≡ true
+        → AreRows s (with_rows place fabric values s.rows)
+    row_set s valid place fabric values (Err status) there fit = impossible fit
+    row_set s valid place fabric values (Ok meta) there fit =
+        let both = and_parts (is_sound_row (is_stored place) values (Ok meta)) (is_row_of s.fabrics meta.scoped fabric) fit in
+        let sound = and_parts (is_stored place) (list_all (has_form meta.kind meta.limit) values && (meta.scoped || length values == 1)) both.0 in
+        let of_form = and_parts (list_all (has_form meta.kind meta.limit) values) (meta.scoped || length values == 1) sound.1 in
+        set_rows s valid place fabric values meta there sound.0 of_form.0 of_form.1 both.1 (rows_rise s.rows place fabric values valid.rows_rise)
+
+    entries_set : (s : NodeState) → IsValid s → (fabric : ℕ) (new : List AclEntry) → (are_entries_of fabric new && is_among s.fabrics fabric) ≡ true → AreEntries s (with_entries fabric new s.entries)
+    entries_set s valid fabric new fit =
+        let both = and_parts (are_entries_of fabric new) (is_among s.fabrics fabric) fit in
+        let own = all-weaker (is_entry_of fabric) (setting.is_entry_of fabric) (λ entry is. (and_parts (is_entry entry) (entry.fabric == fabric) is).1) new (and_parts _ _ both.0).0 in
+        set_entries s valid fabric new both.0 both.1
+        (entries_rise s.entries new 1 fabric (members_are_positive s.fabrics fabric valid.fabrics_rise both.1) valid.entries_rise own)
+
+    after_step : (asker : Option Actor) (step : NodeStep) (s : NodeState) → IsValid s → fits s.fabrics step ≡ true → IsValid (after asker step s)
+    after_step asker (SetRow place fabric values) s valid fit =
+        renewed s (with_rows place fabric values s.rows) s.entries s.versions s.changes s.changed s.clock valid (row_set s valid place fabric values (find_of place) refl fit) (same_entries s valid) (same_changes s valid)
+    after_step asker (SetEntries fabric new) s valid fit =
+        renewed s s.rows (with_entries fabric new s.entries) s.versions s.changes s.changed s.clock valid (same_rows s valid) (entries_set s valid fabric new fit) (same_changes s valid)
+    after_step asker (PutNetwork id secret) s valid fit = impossible fit
+    after_step asker (RemoveNetwork id) s valid fit = impossible fit
+    after_step asker (ConnectNetwork id) s valid fit = impossible fit
+    after_step asker (MoveNetwork id index) s valid fit = impossible fit
+
+    keeps_fabrics : (asker : Option Actor) (step : NodeStep) (s : NodeState) → (after asker step s).fabrics ≡ s.fabrics
+    keeps_fabrics asker (SetRow place fabric values) s = refl
+    keeps_fabrics asker (SetEntries fabric new) s = refl
+    keeps_fabrics asker (PutNetwork id secret) s = refl
+    keeps_fabrics asker (RemoveNetwork id) s = refl
+    keeps_fabrics asker (ConnectNetwork id) s = refl
+    keeps_fabrics asker (MoveNetwork id index) s = refl
+
+    pub after_all_valid : (asker : Option Actor) (steps : List NodeStep) (s : NodeState) → IsValid s → list_all (fits s.fabrics) steps ≡ true → IsValid (after_all asker steps s)
+    after_all_valid asker [] s valid fit = valid
+    after_all_valid asker (step ∷ steps) s valid fit =
+        let both = and_parts (fits s.fabrics step) (list_all (fits s.fabrics) steps) fit in
+        after_all_valid asker steps (after asker step s) (after_step asker step s valid both.0)
+        (subst (λ (fabrics : List Fabric). list_all (fits fabrics) steps ≡ true) (sym (keeps_fabrics asker step s)) both.1)
+
+-- Versions, change numbers and the time that follow.
+
+next_fits : (changed : ℕ) → nat_le (next_change changed) (2 ^ 64 - 1) ≡ true
+next_fits changed = le-leb _ _ (omega arith)
+
+next_above : (changed number : ℕ) → nat_le changed (2 ^ 64 - 1) ≡ true → nat_le number changed ≡ true → nat_le number (next_change changed) ≡ true
+next_above changed number fit up = le-leb _ _ (omega (arith, leb-true _ _ fit, leb-true _ _ up))
+
+change_counted : (b : Bool) (changed : ℕ) (change : ChangeNumber) → nat_le changed (2 ^ 64 - 1) ≡ true → is_change_up_to changed change ≡ true
+    → is_change_up_to (next_change changed) (if b then record change { number = next_change changed } else change) ≡ true
+change_counted true changed change fit up = le-leb (next_change changed) (next_change changed) (omega arith)
+change_counted false changed change fit up = next_above changed change.number fit up
+
+changes_follow : (places : List Place) (changes : List ChangeNumber) (changed : ℕ) → AreChanges changes changed → AreChanges (map (change_after places (next_change changed)) changes) (count_after places changed)
+changes_follow [] changes changed are = record {
+  counted = list_all-map (is_change_up_to changed) (change_after [] (next_change changed)) changes ∙ are.counted;
+  fits = are.fits;
+}
+changes_follow (place ∷ places) changes changed are = record {
+  counted =
+      list_all-map (is_change_up_to (next_change changed)) (change_after (place ∷ places) (next_change changed)) changes
+      ∙ all-weaker (is_change_up_to changed) (λ change. is_change_up_to (next_change changed) (change_after (place ∷ places) (next_change changed) change))
+      (λ change up. change_counted (list_any (same_place change.place) (place ∷ places)) changed change are.fits up) changes are.counted;
+  fits = next_fits changed;
+}
+
+pub settled_valid : (places : List Place) (s t : NodeState) (now : ℕ) → IsValid s → IsValid t → IsValid (record (changed_at places s t) { clock = now })
+settled_valid places s t now before behind =
+    let follow = changes_follow places s.changes s.changed (same_changes s before) in
+    renewed t t.rows t.entries (map (version_after places) s.versions) (map (change_after places (next_change s.changed)) s.changes) (count_after places s.changed) now
+    behind (same_rows t behind) (same_entries t behind) follow

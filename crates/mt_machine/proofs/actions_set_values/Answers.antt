@@ -1,0 +1,15 @@
+use Rattle.mt_machine.specs.Step.{steps_of}
+use Rattle.mt_machine.proofs.Asked.{action_fits}
+use Rattle.mt_machine.proofs.Good.{setting_steps}
+use Rattle.mt_machine.proofs.Times.{ends_nothing, sets_time}
+use Rattle.mt_machine.proofs.actions_set_values.Goals as goal
+
+pub returns-clause-time : goal.returns-clause-time
+returns-clause-time c = sets_time
+
+pub returns-clause-values : goal.returns-clause-values
+returns-clause-values c = λ s action now valid.
+    setting_steps s.fabrics (steps_of s action now) (action_fits c.writes_touch_their_own.ensures c.writes_keep_forms.ensures c.nobody_writes_scoped.ensures s action now valid)
+
+pub returns-clause-nothing_ends : goal.returns-clause-nothing_ends
+returns-clause-nothing_ends c = ends_nothing

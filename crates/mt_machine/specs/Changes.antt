@@ -1,0 +1,80 @@
+-- What a change of values makes of data versions and change numbers. Both follow from comparing the state before an action
+-- with the state behind its steps, and say nothing of a value but that it is another.
+use Rattle.std.specs.Prelude.{ℕ, ◌+◌, ◌-◌, ◌%◌, ◌^◌, ◌==◌, ◌&&◌, min, not, Bool, true, false, List, [], ◌∷◌, filter, map, if◌then◌else◌, refl}
+use Rattle.std.specs.List.{list_any}
+use Rattle.std.specs.Coded.{Coded, code_by, coded_list, coded_ℕ, coded×}
+use base.Stored.{Gv, gnil, gnum, gcons}
+use Rattle.mt_tlv.specs.contracts.value.Value as values
+use Rattle.mt_tlv.specs.declared.value.Value.{Value}
+use Rattle.mt_meta.specs.Places.{all_places}
+use Rattle.mt_model.specs.rows.Sight.{same_place}
+use Rattle.mt_model.specs.declared.rows.place.Place.{Place}
+use Rattle.mt_model.specs.declared.rows.place.Row.{Row}
+use Rattle.mt_model.specs.declared.node.state.ChangeNumber.{ChangeNumber}
+use Rattle.mt_model.specs.declared.node.state.NodeState.{NodeState}
+use Rattle.mt_model.specs.declared.node.state.Version.{Version}
+use Rattle.mt_machine.specs.State.{rows_of}
+
+-- Whether two lists of rows are the same, told by the codes that stand for them one to one.
+
+abbrev pub are_same_codes : Gv → Gv → Bool
+are_same_codes gnil gnil = true
+are_same_codes (gnum m) (gnum n) = m == n
+are_same_codes (gcons a b) (gcons c d) = are_same_codes a c && are_same_codes b d
+are_same_codes a b = false
+
+-- the code of a row, by its fields
+abbrev pub row_code : Coded Row
+row_code = code_by ((ℕ × ℕ) × ((ℕ × ℕ) × Value)) (coded× (coded× coded_ℕ coded_ℕ) (coded× (coded× coded_ℕ coded_ℕ) values.the_row.coded))
+    (λ row. ((row.place.endpoint, row.place.cluster), ((row.place.leaf, row.fabric), row.value)))
+    (λ t. record { place = record { endpoint = t.0.0; cluster = t.0.1; leaf = t.1.0.0 }; fabric = t.1.0.1; value = t.1.1 })
+    (λ _. refl)
+
+abbrev pub rows_code : Coded (List Row)
+rows_code = coded_list row_code
+
+abbrev pub are_same_rows : List Row → List Row → Bool
+are_same_rows rows others = are_same_codes (rows_code.code rows) (rows_code.code others)
+
+-- The places whose attributes have other rows in the second state.
+
+abbrev pub differs : NodeState → NodeState → Place → Bool
+differs s t place = not (are_same_rows (rows_of s place) (rows_of t place))
+
+abbrev pub differing : NodeState → NodeState → List Place
+differing s t = filter (differs s t) all_places
+
+-- A cluster on an endpoint has its next version where one of its attributes is among these places.
+
+abbrev pub is_within : Version → Place → Bool
+is_within version place = place.endpoint == version.endpoint && place.cluster == version.cluster
+
+abbrev pub next_version : Version → Version
+next_version version = record version { version = (version.version + 1) % 2 ^ 32 }
+
+abbrev pub version_after : List Place → Version → Version
+version_after places version = if list_any (is_within version) places then next_version version else version
+
+-- An attribute that is among these places has the number of this change, up to the last number of 64 bits.
+
+abbrev pub next_change : ℕ → ℕ
+next_change changed = min (changed + 1) (2 ^ 64 - 1)
+
+abbrev pub change_after : List Place → ℕ → ChangeNumber → ChangeNumber
+change_after places number change = if list_any (same_place change.place) places then record change { number = number } else change
+
+abbrev pub count_after : List Place → ℕ → ℕ
+count_after [] changed = changed
+count_after (place ∷ places) changed = next_change changed
+
+-- a state with the versions and change numbers that follow where these places have changed since an earlier one
+abbrev pub changed_at : List Place → NodeState → NodeState → NodeState
+changed_at places s t = record t {
+  versions = map (version_after places) s.versions;
+  changes = map (change_after places (next_change s.changed)) s.changes;
+  changed = count_after places s.changed;
+}
+
+-- the second state with the versions and change numbers that follow from comparing it with the first
+abbrev pub settled : NodeState → NodeState → NodeState
+settled s t = changed_at (differing s t) s t
