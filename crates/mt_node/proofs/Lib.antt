@@ -1,3 +1,9 @@
+pub mod Applied
+pub mod Differ
+pub mod EntriesBehind
+pub mod Filters
 pub mod Orderly
 pub mod Plans
+pub mod RowsBehind
+pub mod Same
 pub mod Sessions

@@ -1,38 +1,55 @@
--- Plans where no step is made: an outcome that sets the time alone is the plan of an action with its reply.
-use Rattle.std.proofs.Common.{◌≡◌, ℕ, Bool, true, false, List, [], Option, None, Result, Ok, Err, IfOk, refl, ap, sym, ◌∙◌, if◌then◌else◌}
+-- The outcome of an answer is the plan of the action that it answers.
+use Rattle.std.proofs.Common.{◌≡◌, ℕ, Bool, true, List, [], Option, None, Result, Ok, Err, IfOk, ap, sym, ◌∙◌, subst}
+use Rattle.std.specs.List.{list_all}
+use Rattle.std.specs.Option.{option_and_then}
 use Rattle.mt_model.specs.declared.tables.access.Actor.{Actor}
 use Rattle.mt_model.specs.declared.node.action.Action.{Action}
+use Rattle.mt_model.specs.declared.node.action.Action.TheVariants.{Ask, Nothing}
 use Rattle.mt_model.specs.declared.node.action.NodeStep.{NodeStep}
 use Rattle.mt_model.specs.declared.messages.message.Reply.{Reply}
 use Rattle.mt_model.specs.declared.messages.message.Request.{Request}
 use Rattle.mt_model.specs.declared.node.state.NodeState.{NodeState}
-use Rattle.mt_machine.specs.Laws.{EndsNothing, MakesNoStep, SetsTheTime}
+use Rattle.mt_machine.specs.Effects.{is_setting_step}
+use Rattle.mt_machine.specs.Laws.{EndsNothing}
 use Rattle.mt_machine.specs.Observation.{observation}
-use Rattle.mt_machine.specs.Step.{is_late, reply_of, reply_to, session_asking, steps_in_time, steps_to}
+use Rattle.mt_machine.specs.Step.{after_steps, asked_reply, asked_steps, asker, asker_of, closed_between, gone_between, reply_of, reply_to, steps_of, steps_to}
 use Rattle.mt_node.specs.Answered.{IsAnswer}
-use Rattle.mt_node.specs.Plan.{IsPlan, aside_in}
+use Rattle.mt_node.specs.Plan.{IsMade, IsPlan}
 use Rattle.mt_node.specs.declared.outcome.Answered.{Answered}
 use Rattle.mt_node.specs.declared.outcome.Outcome.{Outcome}
 
-pub plan_of : SetsTheTime → EndsNothing → (s : NodeState) (action : Action) (now : ℕ) (outcome : Outcome) (reply : Reply) (session : Option ℕ)
-    → outcome ≡ record { reply = reply; session = session; closed = []; gone = None; clock = now }
-    → reply ≡ reply_of s action now → session ≡ session_asking s action → IsPlan s action now outcome
-plan_of time nothing s action now outcome reply session is replies asks = record {
-  reply = ap (λ (o : Outcome). o.reply) is ∙ replies;
-  aside = ap aside_in is ∙ (λ i. record { session = asks i; closed = []; gone = None }) ∙ sym (nothing s action now);
-  state = ap (λ (o : Outcome). record s { clock = o.clock }) is ∙ sym (time s action now);
+pub plan_of : EndsNothing → (s : NodeState) (action : Action) (now : ℕ) (asking : Option Actor) (answered : Answered) (outcome : Outcome)
+    → list_all is_setting_step (steps_of s action now) ≡ true → asking ≡ asker_of s action
+    → answered.reply ≡ reply_of s action now → answered.steps ≡ steps_of s action now
+    → IsMade s asking answered now outcome → IsPlan s action now outcome
+plan_of nothing s action now asking answered outcome settings asks replies steps made = record {
+  reply = made.reply ∙ replies;
+  aside = made.aside ∙ (λ i. record { session = option_and_then (λ (actor : Actor). actor.session) (asks i); closed = []; gone = None }) ∙ sym (nothing s action now);
+  steps = made.steps ∙ steps;
+  state = made.state (subst (λ (l : List NodeStep). list_all is_setting_step l ≡ true) (sym steps) settings) ∙ (λ i. record (after_steps (asks i) (steps i) s) { clock = now });
+  room = made.room;
 }
 
-late_or_none : (late : Bool) (steps : List NodeStep) → steps ≡ [] → (if late then [] else steps) ≡ []
-late_or_none true steps none = refl
-late_or_none false steps none = none
+-- where nobody is taken as asking, nothing is asked
+pub nobody_asks : (s : NodeState) (actor : Actor) (request : Request) (timed : Option ℕ) (now : ℕ) (outcome : Outcome) → asker s actor ≡ None
+    → IsPlan s Nothing now outcome → IsPlan s (Ask actor request timed) now outcome
+nobody_asks s actor request timed now outcome nobody planned = record {
+  reply = planned.reply ∙ (λ i. asked_reply s request timed now (sym nobody i));
+  aside = planned.aside ∙ (λ i.
+      let t : NodeState = record (after_steps (sym nobody i) (asked_steps s request timed now (sym nobody i)) s) { clock = now } in
+      record { session = option_and_then (λ (a : Actor). a.session) (sym nobody i); closed = closed_between s.sessions t.sessions; gone = gone_between s.fabrics t.fabrics });
+  steps = planned.steps ∙ (λ i. asked_steps s request timed now (sym nobody i));
+  state = planned.state ∙ (λ i. record (after_steps (sym nobody i) (asked_steps s request timed now (sym nobody i)) s) { clock = now });
+  room = planned.room;
+}
 
-pub none_in_time : MakesNoStep → (s : NodeState) (asking : Actor) (request : Request) (timed : Option ℕ) (now : ℕ) → steps_in_time s asking request timed now ≡ []
-none_in_time none s asking request timed now = late_or_none (is_late timed now) (steps_to (observation asking.fabric s) asking request) (none (observation asking.fabric s) asking request)
+pub if_ok : {A E : Type 0} (P Q : A → Type 0) (result : Result A E) → ((a : A) → P a → Q a) → IfOk result P → IfOk result Q
+if_ok P Q (Ok a) f h = f a h
+if_ok P Q (Err e) f h = h
 
--- what an area answers with no step is the answer to the request
-pub answer_of : {E : Type 0} (result : Result Answered E) (s : NodeState) (asking : Actor) (request : Request) (reply : Reply)
-    → reply ≡ reply_to (observation asking.fabric s) asking request → [] ≡ steps_to (observation asking.fabric s) asking request
-    → IfOk result (λ answered. answered ≡ record { reply = reply; steps = [] }) → IfOk result (IsAnswer s asking request)
-answer_of (Ok answered) s asking request reply replies none h = record { reply = ap (λ (a : Answered). a.reply) h ∙ replies; steps = ap (λ (a : Answered). a.steps) h ∙ none }
-answer_of (Err e) s asking request reply replies none h = h
+-- what an area answers is the answer to the request
+pub answer_of : {E : Type 0} (result : Result Answered E) (s : NodeState) (asking : Actor) (stood : Bool) (request : Request) (reply : Reply) (steps : List NodeStep)
+    → reply ≡ reply_to (observation asking.fabric s) asking stood request → steps ≡ steps_to (observation asking.fabric s) asking stood request
+    → IfOk result (λ answered. answered ≡ record { reply = reply; steps = steps }) → IfOk result (IsAnswer s asking stood request)
+answer_of (Ok answered) s asking stood request reply steps replies makes h = record { reply = ap (λ (a : Answered). a.reply) h ∙ replies; steps = ap (λ (a : Answered). a.steps) h ∙ makes }
+answer_of (Err e) s asking stood request reply steps replies makes h = h

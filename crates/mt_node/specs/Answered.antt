@@ -1,5 +1,5 @@
 -- What an answer is made of.
-use Rattle.std.specs.Prelude.{◌≡◌, ℕ, Option}
+use Rattle.std.specs.Prelude.{◌≡◌, ℕ, Bool, Option}
 use Rattle.mt_model.specs.declared.tables.access.Actor.{Actor}
 use Rattle.mt_model.specs.declared.messages.message.Request.{Request}
 use Rattle.mt_model.specs.declared.node.state.NodeState.{NodeState}
@@ -7,10 +7,10 @@ use Rattle.mt_machine.specs.Observation.{observation}
 use Rattle.mt_machine.specs.Step.{reply_in_time, reply_to, steps_in_time, steps_to}
 use Rattle.mt_node.specs.declared.outcome.Answered.{Answered}
 
--- the reply to a request of whoever is taken as asking, and its steps
-pub record IsAnswer (s : NodeState) (asking : Actor) (request : Request) (answered : Answered) : Type 0 where
-  pub reply : answered.reply ≡ reply_to (observation asking.fabric s) asking request
-  pub steps : answered.steps ≡ steps_to (observation asking.fabric s) asking request
+-- the reply to a request of whoever is taken as asking, and its steps, where a deadline stood for it or none did
+pub record IsAnswer (s : NodeState) (asking : Actor) (stood : Bool) (request : Request) (answered : Answered) : Type 0 where
+  pub reply : answered.reply ≡ reply_to (observation asking.fabric s) asking stood request
+  pub steps : answered.steps ≡ steps_to (observation asking.fabric s) asking stood request
 
 -- the same of a request that must have come until a time, at this time
 pub record IsAnswerInTime (s : NodeState) (asking : Actor) (request : Request) (timed : Option ℕ) (now : ℕ) (answered : Answered) : Type 0 where

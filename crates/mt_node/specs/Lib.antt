@@ -1,4 +1,5 @@
 pub mod Answered
+pub mod Differences
 pub mod Kept
 pub mod Plan
 pub mod Sessions

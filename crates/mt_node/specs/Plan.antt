@@ -1,26 +1,65 @@
 -- What an outcome stands for.
-use Rattle.std.specs.Prelude.{◌≡◌, ℕ, Option, Some}
+use Rattle.std.specs.Prelude.{◌≡◌, ℕ, ◌+◌, ◌≤◌, true, List, [], ◌∷◌, Option, None, Some, length, vec_capacity}
+use Rattle.std.specs.List.{list_all, sum_by}
+use Rattle.std.specs.Option.{option_and_then}
 use Rattle.mt_model.specs.declared.tables.access.Actor.{Actor}
 use Rattle.mt_model.specs.declared.node.action.Action.{Action}
 use Rattle.mt_model.specs.declared.node.action.Action.TheVariants.{Ask}
+use Rattle.mt_model.specs.declared.node.action.NodeStep.{NodeStep}
+use Rattle.mt_model.specs.declared.node.action.NodeStep.TheVariants.{SetRow, SetEntries}
 use Rattle.mt_model.specs.declared.messages.message.Request.{Request}
 use Rattle.mt_model.specs.declared.node.state.NodeState.{NodeState}
-use Rattle.mt_machine.specs.Step.{Aside, after_action, aside_of, asker, reply_of}
+use Rattle.mt_machine.specs.Changes.{changed_at}
+use Rattle.mt_machine.specs.Effects.{after_all, is_setting_step}
+use Rattle.mt_machine.specs.Step.{Aside, after_action, after_steps, aside_of, asker, reply_of, steps_of}
+use Rattle.mt_node.specs.declared.outcome.Answered.{Answered}
 use Rattle.mt_node.specs.declared.outcome.Outcome.{Outcome}
 
--- the state behind an outcome
+-- the state behind an outcome: its steps are made, versions and change numbers follow from where attributes differ, and it is its time
 abbrev pub applied : Outcome → NodeState → NodeState
-applied outcome s = record s { clock = outcome.clock }
+applied outcome s = record (changed_at outcome.places s (after_all outcome.asking outcome.steps s)) { clock = outcome.clock }
 
 -- on whose session it was asked, which sessions end, which fabric goes
 abbrev pub aside_in : Outcome → Aside
 aside_in outcome = record { session = outcome.session; closed = outcome.closed; gone = outcome.gone }
 
+-- How many rows, and how many entries, a step sets.
+
+abbrev pub rows_in : NodeStep → ℕ
+rows_in (SetRow place fabric values) = length values
+rows_in step = 0
+
+abbrev pub entries_in : NodeStep → ℕ
+entries_in (SetEntries fabric entries) = length entries
+entries_in step = 0
+
+-- room for as many as are there and as the steps set; none where there is no step
+abbrev pub needed : (NodeStep → ℕ) → ℕ → List NodeStep → ℕ
+needed count there [] = 0
+needed count there (step ∷ steps) = there + sum_by count (step ∷ steps)
+
+-- The outcome brings the room that its steps need, so that nothing is taken when they are made.
+pub record HasRoom (s : NodeState) (outcome : Outcome) : Type 0 where
+  pub no_rows : outcome.rows_room.items ≡ []
+  pub no_entries : outcome.entries_room.items ≡ []
+  pub rows : needed rows_in (length s.rows) outcome.steps ≤ vec_capacity outcome.rows_room
+  pub entries : needed entries_in (length s.entries) outcome.steps ≤ vec_capacity outcome.entries_room
+
+-- The outcome is that of an answer to whoever is taken as asking, at this time.
+pub record IsMade (s : NodeState) (asking : Option Actor) (answered : Answered) (now : ℕ) (outcome : Outcome) : Type 0 where
+  pub reply : outcome.reply ≡ answered.reply
+  pub aside : aside_in outcome ≡ record { session = option_and_then (λ (actor : Actor). actor.session) asking; closed = []; gone = None }
+  pub steps : outcome.steps ≡ answered.steps
+  pub state : list_all is_setting_step answered.steps ≡ true → applied outcome s ≡ record (after_steps asking answered.steps s) { clock = now }
+  pub room : HasRoom s outcome
+
 -- The outcome is that of this action at this time.
 pub record IsPlan (s : NodeState) (action : Action) (now : ℕ) (outcome : Outcome) : Type 0 where
   pub reply : outcome.reply ≡ reply_of s action now
   pub aside : aside_in outcome ≡ aside_of s action now
+  pub steps : outcome.steps ≡ steps_of s action now
   pub state : applied outcome s ≡ after_action s action now
+  pub room : HasRoom s outcome
 
 -- the outcome was made on this state
 abbrev pub IsPlanned : NodeState → Outcome → Type 0

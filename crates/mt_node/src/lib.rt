@@ -5,13 +5,15 @@
 //! - `outcome`: what comes of an action;
 //! - `actors`: who is taken as asking;
 //! - `requests`: the table of requests, and which area answers each;
-//! - `reads`: the area of reads;
+//! - `reads`, `writes`: the areas;
+//! - `differences`: which attributes differ behind the steps of an answer;
 //! - `effects`: what the steps of an answer make of the state;
 //! - `sight`: what of the node answers are made of;
 //! - `opening`: the state in which a new node begins.
 #![tactic(auto)]
 
 mod actors;
+mod differences;
 mod effects;
 mod node;
 mod opening;
@@ -19,11 +21,9 @@ mod outcome;
 mod reads;
 mod requests;
 mod sight;
+mod writes;
 
 pub use mt_model::{Action, SessionIds};
 pub use node::Node;
 pub use outcome::Outcome;
 pub use requests::is_built_request;
-
-#[cfg(test)]
-mod tests;

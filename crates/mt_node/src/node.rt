@@ -7,12 +7,12 @@ ghost use Rattle.mt_node.specs.Kept.{in_state, started};
 ghost use Rattle.mt_node.specs.Plan.{IsPlan, IsPlanFor, IsPlanned, applied};
 ghost use Rattle.mt_node.specs.Sessions.{is_live_session};
 
-use crate::actors;
-use crate::effects::outcome;
+use crate::effects::{outcome, unchanged};
 use crate::opening::opened;
 use crate::outcome::{Answered, Outcome};
 use crate::requests::{answered, nothing, refused};
-use mt_machine::{actions_set_the_time, states_are_valid};
+use crate::{actors, effects};
+use mt_machine::{actions_set_values, states_are_valid};
 use mt_model::{Action, Actor, Config, ExactCopy, NodeState, Request, Status};
 use std::alloc::{AllocError, Global};
 use std::marker::Model;
@@ -56,8 +56,8 @@ impl Node {
         })
     }
 
-    /// Plans an action, at this time in ms. It changes nothing, and takes all the memory; what it takes
-    /// is the reply's, and nothing of the node's state is copied but what is answered.
+    /// Plans an action, at this time in ms. It changes nothing, and takes all the memory: what is answered, and
+    /// room for the rows and entries that there will be.
     pub fn plan(&self, action: &Action, now: u64) -> Result<Outcome, AllocError>
         requires { is_built_action action.now ≡ true }
         ensures { IfOk result (IsPlan self.now.state action.now now) }
@@ -87,8 +87,8 @@ impl Node {
         ensures { IfOk result (IsPlanFor self.now.state asking.now request.now now timed) }
     {
         let answered = self.answered_in_time(asking, request, timed, now)?;
-        actions_set_the_time();
-        Ok(outcome(self.alloc, answered, asking.session, now))
+        actions_set_values();
+        outcome(self.alloc, self, Some(*asking), answered, now)
     }
 
     // What a request is answered that must have come until a time.
@@ -105,15 +105,15 @@ impl Node {
         if is_late(timed, now) {
             return Ok(refused(self.alloc, Status::Timeout));
         }
-        answered(self, asking, request)
+        answered(self, asking, timed.is_some(), request)
     }
 
     // The outcome of what nobody asks.
     fn quiet(&self, now: u64) -> Outcome
         ensures { IsPlan self.now.state Action.Nothing now result }
     {
-        actions_set_the_time();
-        outcome(self.alloc, nothing(self.alloc), None, now)
+        actions_set_values();
+        unchanged(self.alloc, None, nothing(self.alloc), now)
     }
 
     /// Makes of the node what a planned action makes of it. It takes no memory, and cannot fail.
@@ -121,7 +121,9 @@ impl Node {
         requires { IsPlanned self.old.state outcome }
         ensures { self.new ≡ in_state (applied outcome self.old.state) self.old }
     {
-        self.state.clock = outcome.clock;
+        actions_set_values();
+        states_are_valid();
+        effects::apply(self.alloc, &mut self.state, outcome);
     }
 
     /// The actor of a session, None exactly where the session may not be used.

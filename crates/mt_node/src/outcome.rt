@@ -1,6 +1,6 @@
 //! What comes of what the node is asked.
 
-use mt_model::{Reply, SessionIds, Steps};
+use mt_model::{AclEntry, Actor, Places, Reply, Row, SessionIds, Steps};
 
 /// What a request is answered: the reply, and what it makes of the state.
 #[derive(Drop)]
@@ -20,5 +20,15 @@ pub struct Outcome {
     pub closed: SessionIds,
     /// The fabric that is removed, where one is.
     pub gone: Option<u8>,
+    /// Who is taken as asking.
+    pub(crate) asking: Option<Actor>,
+    /// What is made of the state, step by step.
+    pub(crate) steps: Steps,
+    /// The attributes that differ behind the steps.
+    pub(crate) places: Places,
+    /// Room for the rows and for the entries that there will be.
+    pub(crate) rows_room: Vec<Row>,
+    pub(crate) entries_room: Vec<AclEntry>,
+    /// The time of the action, in ms.
     pub(crate) clock: u64,
 }

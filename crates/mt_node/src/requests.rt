@@ -8,12 +8,12 @@ ghost use Rattle.mt_node.specs.Answered.{IsAnswer};
 
 use crate::node::Node;
 use crate::outcome::Answered;
-use crate::reads;
+use crate::{reads, writes};
 use mt_model::{Actor, Reply, Request, Status, Steps};
 use std::alloc::{AllocError, Global};
 
-/// Whether a request is one of those that are built so far: statuses, reads that ask for no events, and
-/// requests that set a time.
+/// Whether a request is one of those that are built so far: statuses, reads that ask for no events, writes,
+/// and requests that set a time.
 pub fn is_built_request(request: &Request) -> bool
     ensures { result ≡ is_built_request request.now }
 {
@@ -21,20 +21,21 @@ pub fn is_built_request(request: &Request) -> bool
         Request::Status { .. } => true,
         Request::Read { events, .. } => events.as_slice().is_empty(),
         Request::Subscribe { .. } => false,
-        Request::Write { .. } => false,
+        Request::Write { .. } => true,
         Request::Invoke { .. } => false,
         Request::Timed { .. } => true,
     }
 }
 
-/// What a request of whoever is taken as asking is answered.
+/// What a request of whoever is taken as asking is answered, where a deadline stood for it or none did.
 pub(crate) fn answered(
     node: &Node,
     asking: &Actor,
+    stood: bool,
     request: &Request,
 ) -> Result<Answered, AllocError>
     requires { is_built_request request.now ≡ true }
-    ensures { IfOk result (IsAnswer node.now.state asking.now request.now) }
+    ensures { IfOk result (IsAnswer node.now.state asking.now stood request.now) }
 {
     match request {
         Request::Status { .. } => Ok(refused(node.alloc, Status::InvalidAction)),
@@ -45,7 +46,11 @@ pub(crate) fn answered(
             ..
         } => reads::answered(node, asking, paths, *filtered, versions),
         Request::Subscribe { .. } => Ok(nothing(node.alloc)),
-        Request::Write { .. } => Ok(nothing(node.alloc)),
+        Request::Write {
+            suppress,
+            timed,
+            items,
+        } => writes::answered(node, asking, stood, *suppress, *timed, items),
         Request::Invoke { .. } => Ok(nothing(node.alloc)),
         Request::Timed { .. } => Ok(refused(node.alloc, Status::Success)),
     }

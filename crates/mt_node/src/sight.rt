@@ -3,13 +3,17 @@
 ghost use Rattle.std.specs.Prelude.{◌≡◌, IfOk, IsTrue};
 ghost use Rattle.mt_model.specs.rows.Order.{are_ascending};
 ghost use Rattle.mt_model.specs.rows.Sight.{stands_at, version_in};
-ghost use Rattle.mt_apps.specs.Computed.{computed_rows};
+ghost use Rattle.mt_apps.specs.Seen.{parts_in};
 ghost use Rattle.mt_machine.specs.State.{parts, rows_of};
 
 use crate::node::Node;
-use mt_apps::rows_at;
+use mt_apps::{items_shown, rows_at, value_shown};
 use mt_meta::is_stored;
-use mt_model::{AclEntry, ExactCopy, Place, Row, Rows, Sight, Version, View, entries_of};
+use mt_model::{
+    AclEntry, ExactCopy, Place, Row, Rows, Sight, Version, View, entries_of, shown_items,
+    shown_value,
+};
+use mt_tlv::{Members, Value};
 use std::alloc::{AllocError, Global};
 
 impl Sight for Node {
@@ -23,7 +27,29 @@ impl Sight for Node {
         if is_stored(place) {
             copied(self.alloc, self.state.rows.at(place))
         } else {
-            computed(self, place)
+            rows_at(self.alloc, &view(self), place)
+        }
+    }
+
+    fn items_shown(
+        &self,
+        alloc: Global,
+        place: &Place,
+        fabric: u8,
+        own: bool,
+    ) -> Result<Members, AllocError> {
+        if is_stored(place) {
+            shown_items(alloc, fabric, own, self.state.rows.at(place))
+        } else {
+            items_shown(alloc, &view(self), place, fabric, own)
+        }
+    }
+
+    fn value_shown(&self, alloc: Global, place: &Place, fabric: u8) -> Result<Value, AllocError> {
+        if is_stored(place) {
+            shown_value(alloc, fabric, self.state.rows.at(place))
+        } else {
+            value_shown(alloc, &view(self), place, fabric)
         }
     }
 
@@ -48,19 +74,19 @@ fn copied(alloc: Global, rows: &[Row]) -> Result<Rows, AllocError>
     Ok(Rows::from_vec(copied))
 }
 
-fn computed(node: &Node, place: &Place) -> Result<Rows, AllocError>
-    ensures { IfOk result (λ rows. rows ≡ computed_rows (parts node.now.state) place.now) }
+// The parts of the state from which rows are computed.
+fn view(node: &Node) -> View<'_>
+    ensures { parts_in result ≡ parts node.now.state }
 {
     let state = &node.state;
-    let view = View {
+    View {
         rows: &state.rows,
         entries: &state.entries,
         fabrics: &state.fabrics,
         roots: &state.roots,
         networks: &state.networks,
         armed: state.armed.as_ref(),
-    };
-    rows_at(node.alloc, &view, place)
+    }
 }
 
 // The data version of a cluster on an endpoint, 0 where there is none.

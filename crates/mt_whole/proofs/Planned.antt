@@ -1,5 +1,5 @@
 -- The outcome of a line, from the plan of the node's action.
-use Rattle.std.proofs.Common.{◌≡◌, ℕ, not, ◌||◌, Bool, true, false, List, [], ◌∷◌, Option, None, Some, Result, Ok, Err, refl, sym, ap, subst, ◌∙◌, if◌then◌else◌, unwrap_or, filter}
+use Rattle.std.proofs.Common.{◌≡◌, ℕ, not, ◌||◌, Bool, true, false, List, [], ◌∷◌, Option, None, Result, Ok, Err, IfOk, refl, sym, ap, ◌∙◌, if◌then◌else◌, unwrap_or}
 use Rattle.std.specs.List.{list_any}
 use Rattle.mt_im.specs.Reading.{Gives, request_in}
 use Rattle.mt_im.specs.declared.fault.ImFault.{ImFault}
@@ -16,6 +16,7 @@ use Rattle.mt_model.specs.declared.messages.status.Status.TheVariants.{Busy}
 use Rattle.mt_machine.specs.Lines.{action_of, deadline_for, deadline_of, deadlines_after, fault_reply, is_built, is_built_payload, is_deadline_of, is_refused, line_actor, next, next_for, sent, sent_as, sent_for, sent_to, with_deadline, without}
 use Rattle.mt_machine.specs.State.{State}
 use Rattle.mt_machine.specs.Step.{after_action, asked_steps, asker, refusal}
+use Rattle.mt_machine.specs.Changes.{settled}
 use Rattle.mt_machine.specs.Effects.{after_all}
 use Rattle.mt_node.specs.Plan.{IsPlan, IsPlanFor, applied}
 use Rattle.mt_whole.specs.Plan.{IsLine, IsLineFor, IsQuiet, IsWholePlan, is_want_of_memory}
@@ -69,9 +70,14 @@ refused_line s ms asking fault outcome p sends next = λ actor asks.
       planned = (Nothing, (ms, p));
     }
 
+-- what an answer of memory gives, where it gives anything
+pub if_ok : {T E : Type 0} (r : Result T E) (P Q : T → Type 0) → ((x : T) → P x → Q x) → IfOk r P → IfOk r Q
+if_ok (Ok x) P Q follows holds = follows x holds
+if_ok (Err e) P Q follows holds = holds
+
 -- nobody is taken as asking
 nobody_steps : (s : State) (actor : Actor) (ms : ℕ) (asked : Result Request ImFault) (deadline : Option ℕ) → asker s.node actor ≡ None → after_action s.node Nothing ms ≡ after_action s.node (action_of actor deadline asked) ms
-nobody_steps s actor ms (Ok request) deadline none = sym (ap (λ (a : Option Actor). record (after_all a (asked_steps s.node request deadline ms a) s.node) { clock = ms }) none)
+nobody_steps s actor ms (Ok request) deadline none = sym (ap (λ (a : Option Actor). record (settled s.node (after_all a (asked_steps s.node request deadline ms a) s.node)) { clock = ms }) none)
 nobody_steps s actor ms (Err fault) deadline none = refl
 
 pub quiet_line : (s : State) (ms : ℕ) (actor : Actor) (asked : Result Request ImFault) (outcome : WholeOutcome) → asker s.node actor ≡ None → IsQuiet s ms outcome → IsLine s ms actor asked outcome

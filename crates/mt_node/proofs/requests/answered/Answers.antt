@@ -1,7 +1,7 @@
-use Rattle.std.proofs.Common.{refl}
+use Rattle.std.proofs.Common.{refl, []}
 use Rattle.mt_model.specs.declared.messages.message.Request.TheVariants as requests
 use Rattle.mt_machine.specs.Observation.{observation}
-use Rattle.mt_machine.specs.Step.{read_reply}
+use Rattle.mt_machine.specs.Step.{read_reply, write_reply, write_steps}
 use Rattle.mt_node.proofs.Plans.{answer_of}
 use Rattle.mt_node.proofs.requests.answered.Goals as goal
 
@@ -10,4 +10,13 @@ returns-in-Read c =
     let r = c.in-Read in
     let s = c.args.node.now.state in
     let asking = c.args.asking.now in
-    rw c.in-Read.is (answer_of c.answered.result s asking (requests.Read r.paths r.events r.minimum r.filtered r.versions) (read_reply (observation asking.fabric s) asking r.paths r.filtered r.versions) refl refl c.answered.ensures)
+    rw c.in-Read.is (answer_of c.answered.result s asking c.args.stood (requests.Read r.paths r.events r.minimum r.filtered r.versions) (read_reply (observation asking.fabric s) asking r.paths r.filtered r.versions) [] refl refl c.answered.ensures)
+
+pub returns-in-Write : goal.returns-in-Write
+returns-in-Write c =
+    let r = c.in-Write in
+    let s = c.args.node.now.state in
+    let asking = c.args.asking.now in
+    let o = observation asking.fabric s in
+    let stood = c.args.stood in
+    rw c.in-Write.is (answer_of c.answered-in-Write.result s asking stood (requests.Write r.suppress r.timed r.items) (write_reply o asking stood r.suppress r.timed r.items) (write_steps o asking stood r.timed r.items) refl refl c.answered-in-Write.ensures)
