@@ -1,7 +1,7 @@
 //! A source over any reader and a sink over any writer. What a file or a terminal holds no contract
 //! can say, so they tell no content, only their counts of failures.
 
-ghost use Rattle.std.specs.Prelude.{None};
+ghost use Rattle.std.specs.Prelude.{◌≡◌, ◌≤◌, None, IfSome, length};
 
 use mt_outside::{Failed, Sink, Source};
 use std::io::{ErrorKind, Read, Write};
@@ -17,7 +17,11 @@ pub struct ReaderSource<R: Read + Drop> {
 }
 
 impl<R: Read + Drop> ReaderSource<R> {
-    pub fn new(reader: Option<R>) -> Self {
+    /// A source over this reader, of which no call has failed yet.
+    pub fn new(reader: Option<R>) -> Self
+        ensures reader { result.reader ≡ reader }
+        ensures faults { result.faults ≡ 0 }
+    {
         ReaderSource { reader, faults: 0 }
     }
 }
@@ -28,10 +32,8 @@ impl<R: Read + Drop> Source for ReaderSource<R> {
     ghost faults = { λ s. s.faults };
 
     fn read(&mut self, into: &mut [u8]) -> Result<usize, Failed> {
-        let room = into.len();
         if let Some(reader) = &mut self.reader
             && let Some(count) = read_again(reader, into)
-            && count <= room
         {
             return Ok(count);
         }
@@ -49,7 +51,11 @@ pub struct WriterSink<W: Write + Drop> {
 }
 
 impl<W: Write + Drop> WriterSink<W> {
-    pub fn new(writer: W) -> Self {
+    /// A sink over this writer, of which no call has failed yet.
+    pub fn new(writer: W) -> Self
+        ensures writer { result.writer ≡ writer }
+        ensures faults { result.faults ≡ 0 }
+    {
         WriterSink { writer, faults: 0 }
     }
 }
@@ -61,7 +67,6 @@ impl<W: Write + Drop> Sink for WriterSink<W> {
 
     fn write(&mut self, from: &[u8]) -> Result<usize, Failed> {
         if let Some(count) = write_again(&mut self.writer, from)
-            && count <= from.len()
             && (count > 0 || from.is_empty())
         {
             return Ok(count);
@@ -72,7 +77,9 @@ impl<W: Write + Drop> Sink for WriterSink<W> {
 }
 
 // What a reader gives, as soon as no signal interrupts the call; None where it fails otherwise.
-fn read_again<R: Read>(reader: &mut R, into: &mut [u8]) -> Option<usize> {
+fn read_again<R: Read>(reader: &mut R, into: &mut [u8]) -> Option<usize>
+    ensures { IfSome result (λ count. count ≤ length into.old) }
+{
     for _ in 0..ATTEMPTS {
         match reader.read(into) {
             Ok(count) => return Some(count),
@@ -84,7 +91,9 @@ fn read_again<R: Read>(reader: &mut R, into: &mut [u8]) -> Option<usize> {
 }
 
 // What a writer takes, as soon as no signal interrupts the call; None where it fails otherwise.
-fn write_again<W: Write>(writer: &mut W, from: &[u8]) -> Option<usize> {
+fn write_again<W: Write>(writer: &mut W, from: &[u8]) -> Option<usize>
+    ensures { IfSome result (λ count. count ≤ length from.now) }
+{
     for _ in 0..ATTEMPTS {
         match writer.write(from) {
             Ok(count) => return Some(count),

@@ -1,8 +1,8 @@
 -- A recording that is played event by event.
-use Rattle.std.proofs.Common.{◌≡◌, ℕ, ◌+◌, ◌<◌, ◌≤◌, true, false, cond, List, [], ◌∷◌, ◌++◌, length, drop, get_or, Option, Some, None, refl, sym, ap, ◌∙◌, append_assoc, map}
+use Rattle.std.proofs.Common.{◌≡◌, ℕ, ◌+◌, ◌<◌, ◌≤◌, true, false, cond, List, [], ◌∷◌, ◌++◌, length, drop, get_or, Option, Some, None, refl, sym, ap, subst, ◌∙◌, append_assoc}
 use Rattle.std.proofs.lemmas.List.{append-nil, drop_all, drop_more}
 use Rattle.std.proofs.lemmas.List.Sums.{take_while-cons}
-use Rattle.mt_outside.specs.Stream.{Took, TookPart}
+use Rattle.mt_outside.specs.Stream.{Took, TookLess}
 use Rattle.mt_outside.specs.Laws.{StreamLaws}
 use Rattle.mt_model.specs.declared.texts.recording.Event.{Event}
 use Rattle.mt_model.specs.declared.texts.recording.Sent.{Sent}
@@ -12,13 +12,12 @@ use Rattle.mt_machine.specs.Lines.{built_events, is_built, next, run, sent}
 use Rattle.mt_machine.specs.State.{State}
 use Rattle.mt_top.specs.declared.fault.Fault.TheVariants.{Unbuilt}
 use Rattle.mt_top.specs.Endings.{unbuilt_from}
-use Rattle.mt_top.specs.Parts.{Steps}
 
--- the text of what is sent for events, up to the first that is not built
-abbrev pub output_of : State → List Event → List ℕ
-output_of s events = output_text (run s (built_events events))
+-- what is sent for events, up to the first that is not built
+abbrev pub sent_of : State → List Event → List Sent
+sent_of s events = run s (built_events events)
 
-output-append : (xs ys : List Sent) → output_text (xs ++ ys) ≡ output_text xs ++ output_text ys
+pub output-append : (xs ys : List Sent) → output_text (xs ++ ys) ≡ output_text xs ++ output_text ys
 output-append [] ys = refl
 output-append (x ∷ xs) ys = ap (λ (w : List ℕ). ended (sent_line x) ++ w) (output-append xs ys) ∙ sym (append_assoc (ended (sent_line x)) (output_text xs) (output_text ys))
 
@@ -27,11 +26,11 @@ pub output-one : (xs : List Sent) (x : Sent) → output_text (xs ++ x ∷ []) �
 output-one xs x = output-append xs (x ∷ []) ∙ ap (λ (w : List ℕ). output_text xs ++ w) (append-nil (ended (sent_line x)))
 
 -- an event that is built
-output_built : (s : State) (event : Event) (events : List Event) → is_built event ≡ true → output_of s (event ∷ events) ≡ output_text (sent s event) ++ output_of (next s event) events
-output_built s event events built = ap (λ es. output_text (run s es)) (take_while-cons is_built event events) ∙ ap (λ t. output_text (run s (cond t (event ∷ built_events events) []))) built ∙ output-append (sent s event) (run (next s event) (built_events events))
+sent_built : (s : State) (event : Event) (events : List Event) → is_built event ≡ true → sent_of s (event ∷ events) ≡ sent s event ++ sent_of (next s event) events
+sent_built s event events built = ap (run s) (take_while-cons is_built event events) ∙ ap (λ t. run s (cond t (event ∷ built_events events) [])) built
 
-output_unbuilt : (s : State) (event : Event) (events : List Event) → is_built event ≡ false → output_of s (event ∷ events) ≡ []
-output_unbuilt s event events not = ap (λ es. output_text (run s es)) (take_while-cons is_built event events) ∙ ap (λ t. output_text (run s (cond t (event ∷ built_events events) []))) not
+sent_unbuilt : (s : State) (event : Event) (events : List Event) → is_built event ≡ false → sent_of s (event ∷ events) ≡ []
+sent_unbuilt s event events not = ap (run s) (take_while-cons is_built event events) ∙ ap (λ t. run s (cond t (event ∷ built_events events) [])) not
 
 unbuilt_built : (line : ℕ) (event : Event) (events : List Event) → is_built event ≡ true → unbuilt_from line (event ∷ events) ≡ unbuilt_from (line + 1) events
 unbuilt_built line event events built = ap (λ t. cond t (unbuilt_from (line + 1) events) (Some (Unbuilt line))) built
@@ -43,25 +42,25 @@ unbuilt_here line event events not = ap (λ t. cond t (unbuilt_from (line + 1) e
 pub drop_event : (all : List Event) (i : ℕ) (event : Event) → i < length all → event ≡ get_or all i event → drop i all ≡ event ∷ drop (i + 1) all
 drop_event all i event lt is = drop_more all i event lt ∙ ap (λ e. e ∷ drop (i + 1) all) (sym is)
 
-pub output-step : (s new : State) (all : List Event) (i : ℕ) (event : Event) (text : List ℕ) → i < length all → event ≡ get_or all i event → is_built event ≡ true → Steps text s new event → output_of s (drop i all) ≡ text ++ output_of new (drop (i + 1) all)
-output-step s new all i event text lt is built step =
-    ap (output_of s) (drop_event all i event lt is)
-    ∙ output_built s event (drop (i + 1) all) built
-    ∙ (λ k. sym step.0 k ++ output_of (sym step.1 k) (drop (i + 1) all))
+pub sent-step : (s new : State) (all : List Event) (i : ℕ) (event : Event) → i < length all → event ≡ get_or all i event → is_built event ≡ true → new ≡ next s event → sent_of s (drop i all) ≡ sent s event ++ sent_of new (drop (i + 1) all)
+sent-step s new all i event lt is built step =
+    ap (sent_of s) (drop_event all i event lt is)
+    ∙ sent_built s event (drop (i + 1) all) built
+    ∙ ap (λ x. sent s event ++ sent_of x (drop (i + 1) all)) (sym step)
 
 pub unbuilt-step : (line : ℕ) (all : List Event) (i : ℕ) (event : Event) → i < length all → event ≡ get_or all i event → is_built event ≡ true → unbuilt_from line (drop i all) ≡ unbuilt_from (line + 1) (drop (i + 1) all)
 unbuilt-step line all i event lt is built = ap (unbuilt_from line) (drop_event all i event lt is) ∙ unbuilt_built line event (drop (i + 1) all) built
 
 -- the event at this place is not built
-pub output-stop : (s : State) (all : List Event) (i : ℕ) (event : Event) → i < length all → event ≡ get_or all i event → is_built event ≡ false → output_of s (drop i all) ≡ []
-output-stop s all i event lt is not = ap (output_of s) (drop_event all i event lt is) ∙ output_unbuilt s event (drop (i + 1) all) not
+pub sent-stop : (s : State) (all : List Event) (i : ℕ) (event : Event) → i < length all → event ≡ get_or all i event → is_built event ≡ false → sent_of s (drop i all) ≡ []
+sent-stop s all i event lt is not = ap (sent_of s) (drop_event all i event lt is) ∙ sent_unbuilt s event (drop (i + 1) all) not
 
 pub unbuilt-stop : (line : ℕ) (all : List Event) (i : ℕ) (event : Event) → i < length all → event ≡ get_or all i event → is_built event ≡ false → unbuilt_from line (drop i all) ≡ Some (Unbuilt line)
 unbuilt-stop line all i event lt is not = ap (unbuilt_from line) (drop_event all i event lt is) ∙ unbuilt_here line event (drop (i + 1) all) not
 
 -- no more events
-pub output-end : (s : State) (all : List Event) (i : ℕ) → length all ≤ i → output_of s (drop i all) ≡ []
-output-end s all i le = ap (output_of s) (drop_all i all le)
+pub sent-end : (s : State) (all : List Event) (i : ℕ) → length all ≤ i → sent_of s (drop i all) ≡ []
+sent-end s all i le = ap (sent_of s) (drop_all i all le)
 
 pub unbuilt-end : (line : ℕ) (all : List Event) (i : ℕ) → length all ≤ i → unbuilt_from line (drop i all) ≡ None
 unbuilt-end line all i le = ap (unbuilt_from line) (drop_all i all le)
@@ -77,9 +76,21 @@ pub text-end : (all : List Sent) (i : ℕ) (text whole : List ℕ) → length al
 text-end all i text whole le h = sym (append-nil text) ∙ ap (λ (w : List ℕ). text ++ w) (sym (ap output_text (drop_all i all le))) ∙ h
 
 -- all was told
-pub took-all : (a b : Option (List ℕ)) (told rest all : List ℕ) → Took a b told → all ≡ told ++ rest → rest ≡ [] → Took a b all
-took-all a b told rest all took is none = let same : all ≡ told = is ∙ ap (λ (w : List ℕ). told ++ w) none ∙ append-nil told in rw same took
+pub took-all : (a b : Option (List ℕ)) (told rest all : List Sent) → Took a b (output_text told) → all ≡ told ++ rest → rest ≡ [] → Took a b (output_text all)
+took-all a b told rest all took is none = let same : all ≡ told = is ∙ ap (λ (w : List Sent). told ++ w) none ∙ append-nil told in rw same took
 
--- a front of the next text was told
-pub took-front : StreamLaws → (a b c : Option (List ℕ)) (told text rest all : List ℕ) → Took a b told → TookPart b c text → all ≡ told ++ (text ++ rest) → TookPart a c all
-took-front laws a b c told text rest all took part is = laws.part_of_more a c (told ++ text) all (laws.then_part a b c told text took part) (rest, is ∙ sym (append_assoc told text rest))
+-- more was told
+pub took-more : StreamLaws → (a b c : Option (List ℕ)) (told more : List Sent) (text : List ℕ) → Took a b (output_text told) → text ≡ output_text more → Took b c text → Took a c (output_text (told ++ more))
+took-more laws a b c told more text took is next =
+    subst (Took a c) (ap (λ (w : List ℕ). output_text told ++ w) is ∙ sym (output-append told more)) (laws.then a b c (output_text told) text took next)
+
+-- less was told than the next text
+pub took-less : StreamLaws → (a b c : Option (List ℕ)) (told more rest all : List Sent) (text : List ℕ) → Took a b (output_text told) → text ≡ output_text more → TookLess b c text → all ≡ told ++ (more ++ rest) → TookLess a c (output_text all)
+took-less laws a b c told more rest all text took is less whole =
+    let spelled : (output_text told ++ text) ++ output_text rest ≡ output_text all =
+    append_assoc (output_text told) text (output_text rest)
+    ∙ ap (λ (w : List ℕ). output_text told ++ (w ++ output_text rest)) is
+    ∙ ap (λ (w : List ℕ). output_text told ++ w) (sym (output-append more rest))
+    ∙ sym (output-append told (more ++ rest))
+    ∙ ap output_text (sym whole) in
+    subst (TookLess a c) spelled (laws.less_of_more a c (output_text told ++ text) (output_text rest) (laws.then_less a b c (output_text told) text took less))

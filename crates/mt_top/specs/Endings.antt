@@ -1,7 +1,8 @@
--- What a replay comes to, by what its two files hold: all that is written, and the fault that ended it.
+-- What a replay comes to, by what its two files hold: all that is sent, and the fault that ended it.
 use Rattle.std.specs.Prelude.{ℕ, ◌+◌, List, [], ◌∷◌, ◌++◌, Option, Some, None, Result, Ok, Err, if◌then◌else◌}
 use Rattle.std.specs.Option.{option_map}
 use Rattle.mt_model.specs.declared.texts.recording.Event.{Event}
+use Rattle.mt_model.specs.declared.texts.recording.Sent.{Sent}
 use Rattle.mt_config.specs.Configuration.{configuration}
 use Rattle.mt_model.specs.texts.Contents.{Contents}
 use Rattle.mt_files.specs.Output.{output_text}
@@ -16,9 +17,9 @@ use Rattle.mt_top.specs.declared.fault.Fault.TheVariants.{BadConfig, Unbuilt}
 use Rattle.mt_top.specs.Faults.{fault_line, fault_of, status_of}
 use Rattle.mt_top.specs.Words.{files_of}
 
--- All that is written: the output, then the last line of the fault, where there is one.
+-- The messages that are sent, and then the fault, where there is one.
 pub record Ending : Type 0 where
-  pub output : List ℕ
+  pub sent : List Sent
   pub fault : Option Fault
 
 abbrev pub last_line : Option Fault → List ℕ
@@ -29,12 +30,13 @@ abbrev pub exit_status : Option Fault → ℕ
 exit_status None = 0
 exit_status (Some fault) = status_of fault
 
+-- all that is written: a line for each message, and the last line
 abbrev pub text_of : Ending → List ℕ
-text_of ending = ending.output ++ last_line ending.fault
+text_of ending = output_text ending.sent ++ last_line ending.fault
 
--- no output, but the line of the fault
+-- nothing is sent
 abbrev pub refused : Fault → Ending
-refused fault = record { output = []; fault = Some fault }
+refused fault = record { sent = []; fault = Some fault }
 
 -- the first line that is not built, where the first event stands in this line
 abbrev pub unbuilt_from : ℕ → List Event → Option Fault
@@ -43,7 +45,7 @@ unbuilt_from line (event ∷ events) = if is_built event then unbuilt_from (line
 
 -- Events are played up to the first that is not built. The first stands in line 2.
 abbrev pub played : State → List Event → Ending
-played s events = record { output = output_text (run s (built_events events)); fault = unbuilt_from 2 events }
+played s events = record { sent = run s (built_events events); fault = unbuilt_from 2 events }
 
 -- a recording is checked whole before it is played
 abbrev pub recorded : State → Result (List Event) LineFault → Ending

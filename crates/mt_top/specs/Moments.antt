@@ -1,6 +1,6 @@
 -- What the sources and the sink hold at a moment, and what reading a source to its end means.
 use Rattle.std.specs.Prelude.{ℕ, ◌≡◌, ◌<◌, ◌≤◌, List, [], length, Option, Some, None, ⊤}
-use Rattle.mt_outside.specs.Stream.{ReadToEnd}
+use Rattle.mt_outside.specs.Stream.{ReadToEnd, RoseByOne}
 use Rattle.mt_model.specs.declared.limits.TheConstants.{CONFIGURATION_BYTES, RECORDING_BYTES}
 use Rattle.mt_top.specs.declared.fault.Fault.{Fault}
 use Rattle.mt_top.specs.declared.fault.Fault.TheVariants.{BadConfig}
@@ -24,6 +24,24 @@ pub record Moment : Type 0 where
 
 abbrev pub moment : Input → Input → Option (List ℕ) → ℕ → Moment
 moment config first written write_faults = record { config = config; first = first; written = written; write_faults = write_faults }
+
+-- no call of a source has failed
+pub record AreSourcesCalm (old new : Moment) : Type 0 where
+  pub config : new.config.faults ≡ old.config.faults
+  pub first : new.first.faults ≡ old.first.faults
+
+-- no call of the sink has failed
+abbrev pub IsSinkCalm : Moment → Moment → Type 0
+IsSinkCalm old new = new.write_faults ≡ old.write_faults
+
+-- no call of either has
+pub record AreCalm (old new : Moment) : Type 0 where
+  pub sources : AreSourcesCalm old new
+  pub sink : IsSinkCalm old new
+
+-- one call of the sink has failed
+abbrev pub HasSinkFailed : Moment → Moment → Type 0
+HasSinkFailed old new = RoseByOne old.write_faults new.write_faults
 
 abbrev pub input : Option (List ℕ) → ℕ → Input
 input left faults = record { left = left; faults = faults }

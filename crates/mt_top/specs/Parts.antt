@@ -1,10 +1,11 @@
 -- The parts of a run: what holds where one of them stops.
-use Rattle.std.specs.Prelude.{ℕ, ◌≡◌, Bool, true, false, List, [], Option, Some, None, Result, Ok, Err, ⊤}
+use Rattle.std.specs.Prelude.{ℕ, ◌≡◌, ◌++◌, Bool, true, false, List, [], Option, Some, None, Ok, Err, ⊤}
 use Rattle.std.specs.Global.{Vec}
-use Rattle.mt_outside.specs.Stream.{Rose, Took, TookPart}
+use Rattle.mt_outside.specs.Stream.{RoseByOne, Took, TookLess}
 use Rattle.mt_model.specs.declared.texts.config.Config.{Config}
 use Rattle.mt_model.specs.declared.limits.TheConstants.{CONFIGURATION_BYTES, RECORDING_BYTES}
 use Rattle.mt_model.specs.declared.texts.recording.Event.{Event}
+use Rattle.mt_model.specs.declared.texts.recording.Sent.{Sent}
 use Rattle.mt_config.specs.Configuration.{IsConfiguration, configuration}
 use Rattle.mt_files.specs.Output.{output_text}
 use Rattle.mt_files.specs.Recording.{recording_of}
@@ -15,42 +16,40 @@ use Rattle.mt_top.specs.declared.fault.Fault.{Fault}
 use Rattle.mt_top.specs.declared.fault.Fault.TheVariants.{BadWords, BadConfig, ReadFault, WriteFault, Memory, Unbuilt}
 use Rattle.mt_top.specs.Faults.{fault_line, fault_of, status_of}
 use Rattle.mt_top.specs.Endings.{Ending, refused}
-use Rattle.mt_top.specs.Moments.{Input, Moment, IsLeft, HasRead, Reads}
+use Rattle.mt_top.specs.Moments.{Input, Moment, AreCalm, AreSourcesCalm, HasRead, HasSinkFailed, IsLeft, IsSinkCalm, Reads}
 use Rattle.mt_top.specs.Statuses.{SourceFailed, TellsMemory}
 
--- a front of the output was written, where the recording holds what it held
-abbrev pub Fronts : (List ℕ → List ℕ → Ending) → Moment → Moment → Type 0
-Fronts ending old new = (config recording : List ℕ) × IsLeft old.config.left config × IsLeft old.first.left recording × TookPart old.written new.written (ending config recording).output
+-- some of the messages, from the first on, were written: a whole line for each
+abbrev pub TookFirst : Option (List ℕ) → Option (List ℕ) → List Sent → Type 0
+TookFirst before after all = (told : List Sent) × (others : List Sent) × (all ≡ told ++ others) × Took before after (output_text told)
 
--- Why a run stops before the last line is written: the output to which the files come is written, and the
+-- so it is with the messages to which the files come
+abbrev pub Fronts : (List ℕ → List ℕ → Ending) → Moment → Moment → Type 0
+Fronts ending old new = (config recording : List ℕ) × IsLeft old.config.left config × IsLeft old.first.left recording × TookFirst old.written new.written (ending config recording).sent
+
+-- Why a run stops before the last line is written: the messages to which the files come are written, and the
 -- fault is theirs; or there is another cause.
 abbrev pub Stops : Fault → (List ℕ → List ℕ → Ending) → Moment → Moment → Type 0
 Stops BadWords ending old new = ⊥
 Stops ReadFault ending old new = SourceFailed ending old new × Took old.written new.written []
-Stops WriteFault ending old new = Rose old.write_faults new.write_faults × ((config recording : List ℕ) × Reads ending old new config recording × TookPart old.written new.written (ending config recording).output)
+Stops WriteFault ending old new = HasSinkFailed old new × ((config recording : List ℕ) × Reads ending old new config recording × TookLess old.written new.written (output_text (ending config recording).sent))
 Stops Memory ending old new = Fronts ending old new
 Stops (BadConfig field) ending old new = (config : List ℕ) × HasRead CONFIGURATION_BYTES old.config new.config config × ((recording : List ℕ) → ending config recording ≡ refused (BadConfig field)) × (new.first ≡ old.first) × Took old.written new.written []
-Stops fault ending old new = (config recording : List ℕ) × Reads ending old new config recording × ((ending config recording).fault ≡ Some fault) × Took old.written new.written (ending config recording).output
+Stops fault ending old new = (config recording : List ℕ) × Reads ending old new config recording × ((ending config recording).fault ≡ Some fault) × Took old.written new.written (output_text (ending config recording).sent)
 
--- neither a source nor the sink has failed
-pub record AreCalm (old new : Moment) : Type 0 where
-  pub config_calm : new.config.faults ≡ old.config.faults
-  pub first_calm : new.first.faults ≡ old.first.faults
-  pub sink_calm : new.write_faults ≡ old.write_faults
-
--- so it is where a run stops for another cause
+-- what has not failed where a run stops
 abbrev pub StopsCalmly : Fault → Moment → Moment → Type 0
-StopsCalmly ReadFault old new = ⊤
-StopsCalmly WriteFault old new = ⊤
+StopsCalmly ReadFault old new = IsSinkCalm old new
+StopsCalmly WriteFault old new = AreSourcesCalm old new
 StopsCalmly fault old new = AreCalm old new
 
--- the files were read, and all to which they come was written
+-- the files were read, no call has failed, and all to which they come was written
 abbrev pub Done : (List ℕ → List ℕ → Ending) → Moment → Moment → Type 0
-Done ending old new = (config recording : List ℕ) × Reads ending old new config recording × ((ending config recording).fault ≡ None) × Took old.written new.written (ending config recording).output
+Done ending old new = (config recording : List ℕ) × Reads ending old new config recording × ((ending config recording).fault ≡ None) × AreCalm old new × Took old.written new.written (output_text (ending config recording).sent)
 
 -- events were played to their end
 abbrev pub PlayedTo : Ending → Option (List ℕ) → Option (List ℕ) → Type 0
-PlayedTo ending before after = (ending.fault ≡ None) × Took before after ending.output
+PlayedTo ending before after = (ending.fault ≡ None) × Took before after (output_text ending.sent)
 
 -- the text is that of what an event sends, and the new state the one behind it
 abbrev pub Steps : List ℕ → State → State → Event → Type 0
@@ -73,9 +72,9 @@ is_read_fault fault = false
 
 -- why playing events stops
 abbrev pub StopsPlaying : Fault → Ending → Option (List ℕ) → Option (List ℕ) → ℕ → ℕ → Type 0
-StopsPlaying WriteFault ending before after old new = Rose old new × TookPart before after ending.output
-StopsPlaying Memory ending before after old new = TookPart before after ending.output
-StopsPlaying (Unbuilt line) ending before after old new = (ending.fault ≡ Some (Unbuilt line)) × Took before after ending.output
+StopsPlaying WriteFault ending before after old new = RoseByOne old new × TookLess before after (output_text ending.sent)
+StopsPlaying Memory ending before after old new = TookFirst before after ending.sent
+StopsPlaying (Unbuilt line) ending before after old new = (ending.fault ≡ Some (Unbuilt line)) × Took before after (output_text ending.sent)
 StopsPlaying fault ending before after old new = ⊥
 
 -- the source held this configuration
@@ -88,13 +87,13 @@ Recorded events old new = (bytes : List ℕ) × HasRead RECORDING_BYTES old new 
 
 -- why a recording is not played: the source failed, there was no memory, or it is none
 abbrev pub StopsRecording : Fault → Input → Input → Type 0
-StopsRecording ReadFault old new = Rose old.faults new.faults
+StopsRecording ReadFault old new = RoseByOne old.faults new.faults
 StopsRecording Memory old new = ⊤
 StopsRecording fault old new = (refused : LineFault) × (fault ≡ fault_of refused) × ((bytes : List ℕ) × HasRead RECORDING_BYTES old new bytes × (recording_of bytes ≡ Err refused))
 
 -- why a configuration is not read
 abbrev pub StopsConfiguring : Fault → Input → Input → Type 0
-StopsConfiguring ReadFault old new = Rose old.faults new.faults
+StopsConfiguring ReadFault old new = RoseByOne old.faults new.faults
 StopsConfiguring Memory old new = ⊤
 StopsConfiguring (BadConfig field) old new = (bytes : List ℕ) × HasRead CONFIGURATION_BYTES old new bytes × (configuration bytes ≡ Err field)
 StopsConfiguring fault old new = ⊥
@@ -108,10 +107,10 @@ is_memory fault = false
 abbrev pub TellsThere : Option (List ℕ) → Option (List ℕ) → ℕ → ℕ → Type 0
 TellsThere before after old new = (line : List ℕ) × TellsMemory line old new × Took before after line
 
--- the line of a fault was written, with its status, or the sink failed
+-- the line of a fault was written, with its status, or the sink failed at it
 pub data IsTold (fault : Fault) (status : ℕ) (before after : Option (List ℕ)) (old new : ℕ) : Type 0 where
-  whole_line : status ≡ status_of fault → Took before after (fault_line fault) → IsTold fault status before after old new
-  part_of_line : status ≡ 6 → Rose old new → TookPart before after (fault_line fault) → IsTold fault status before after old new
+  whole_line : status ≡ status_of fault → new ≡ old → Took before after (fault_line fault) → IsTold fault status before after old new
+  part_of_line : status ≡ 6 → RoseByOne old new → TookLess before after (fault_line fault) → IsTold fault status before after old new
 
 -- How a run ends that a fault stopped: its line was written, or the sink failed; or there was no memory, or none for the
 -- line, which a source that failed does not want.

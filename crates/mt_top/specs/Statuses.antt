@@ -1,57 +1,62 @@
--- The rows of the table of statuses: what was read and written at each exit status.
-use Rattle.std.specs.Prelude.{ℕ, ◌≡◌, ◌+◌, ◌==◌, Bool, true, false, List, [], ◌∷◌, ◌++◌, Option, Some, None}
+-- The rows of the table of statuses: what was read and written at each exit status, and which calls have failed.
+use Rattle.std.specs.Prelude.{ℕ, ◌≡◌, ◌==◌, Bool, true, false, List, [], ◌∷◌, ◌++◌, Option, Some, None}
 use Rattle.std.specs.List.{list_any}
-use Rattle.mt_outside.specs.Stream.{IsPrefix, Rose, Took, TookPart}
+use Rattle.mt_outside.specs.Stream.{IsProperPrefix, RoseByOne, Took, TookLess}
 use Rattle.mt_model.specs.declared.limits.TheConstants.{CONFIGURATION_BYTES}
+use Rattle.mt_model.specs.declared.texts.recording.Sent.{Sent}
+use Rattle.mt_files.specs.Output.{output_text}
 use Rattle.mt_top.specs.declared.fault.Fault.{Fault}
 use Rattle.mt_top.specs.declared.fault.Fault.TheVariants.{BadWords, BadConfig, ReadFault, Memory}
 use Rattle.mt_top.specs.Faults.{fault_line}
 use Rattle.mt_top.specs.Endings.{Ending, exit_status, text_of}
-use Rattle.mt_top.specs.Moments.{Moment, IsLeft, HasRead, Reads}
+use Rattle.mt_top.specs.Moments.{Moment, AreCalm, AreSourcesCalm, IsLeft, HasRead, Reads}
 
--- Statuses 0, 3, 4, 10 and 14: the files were read, the status is that of the ending to which they come, and all of it was written.
+-- Statuses 0, 3, 4, 10 and 14: no call has failed, the files were read, the status is that of the ending to which they come, and all
+-- of it was written.
 pub record Told (status : ℕ) (ending : List ℕ → List ℕ → Ending) (old new : Moment) : Type 0 where
   pub config : List ℕ
   pub recording : List ℕ
   pub reads : Reads ending old new config recording
   pub is : status ≡ exit_status (ending config recording).fault
+  pub calm : AreCalm old new
   pub written : Took old.written new.written (text_of (ending config recording))
 
--- The line that tells want of memory is whole, and the sink has not failed; or the sink failed at it, and it is a front.
+-- The line that tells want of memory is whole, and no call of the sink has failed; or one call has, and the line is cut off.
 pub data TellsMemory (line : List ℕ) (old new : ℕ) : Type 0 where
   whole : line ≡ fault_line Memory → new ≡ old → TellsMemory line old new
-  cut_short : IsPrefix line (fault_line Memory) → Rose old new → TellsMemory line old new
+  cut_short : IsProperPrefix line (fault_line Memory) → RoseByOne old new → TellsMemory line old new
 
--- Status 7: no source has failed; a front of the output to which the files come was written, and then the fault line.
+-- Status 7: no source has failed. Some of the messages to which the files come were written, from the first on, each with its whole line;
+-- and then the fault line.
 pub record NoMemory (ending : List ℕ → List ℕ → Ending) (old new : Moment) : Type 0 where
   pub config : List ℕ
   pub recording : List ℕ
   pub config_left : IsLeft old.config.left config
   pub first_left : IsLeft old.first.left recording
-  pub config_calm : new.config.faults ≡ old.config.faults
-  pub first_calm : new.first.faults ≡ old.first.faults
-  pub output : List ℕ
+  pub calm : AreSourcesCalm old new
+  pub sent : List Sent
+  pub others : List Sent
+  pub front : (ending config recording).sent ≡ sent ++ others
   pub last : List ℕ
-  pub output_front : IsPrefix output (ending config recording).output
   pub tells : TellsMemory last old.write_faults new.write_faults
-  pub written : Took old.written new.written (output ++ last)
+  pub written : Took old.written new.written (output_text sent ++ last)
 
 abbrev pub is_bad_config : Option Fault → Bool
 is_bad_config (Some (BadConfig field)) = true
 is_bad_config fault = false
 
--- A source failed: that of the configuration, and the recording was not read; or that of the recording,
+-- One call of a source failed: of the configuration's, and the recording was not read; or of the recording's,
 -- behind a configuration that is one.
 pub data SourceFailed (ending : List ℕ → List ℕ → Ending) (old new : Moment) : Type 0 where
-  config_failed : Rose old.config.faults new.config.faults → new.first ≡ old.first → SourceFailed ending old new
-  first_failed : (config : List ℕ) → HasRead CONFIGURATION_BYTES old.config new.config config → ((recording : List ℕ) → is_bad_config (ending config recording).fault ≡ false) → Rose old.first.faults new.first.faults → SourceFailed ending old new
+  config_failed : RoseByOne old.config.faults new.config.faults → new.first ≡ old.first → SourceFailed ending old new
+  first_failed : (config : List ℕ) → HasRead CONFIGURATION_BYTES old.config new.config config → new.config.faults ≡ old.config.faults → ((recording : List ℕ) → is_bad_config (ending config recording).fault ≡ false) → RoseByOne old.first.faults new.first.faults → SourceFailed ending old new
 
--- Status 6: what could not be written whole.
+-- Status 6: what could not be written whole. Less than all of it was.
 pub data Cut (ending : List ℕ → List ℕ → Ending) (old new : Moment) : Type 0 where
   -- all that the files come to
-  text_cut : (config recording : List ℕ) → Reads ending old new config recording → TookPart old.written new.written (text_of (ending config recording)) → Cut ending old new
+  text_cut : (config recording : List ℕ) → Reads ending old new config recording → AreSourcesCalm old new → TookLess old.written new.written (text_of (ending config recording)) → Cut ending old new
   -- the fault line of a source that failed
-  read_fault_cut : SourceFailed ending old new → TookPart old.written new.written (fault_line ReadFault) → Cut ending old new
+  read_fault_cut : SourceFailed ending old new → TookLess old.written new.written (fault_line ReadFault) → Cut ending old new
 
 -- neither file was read
 abbrev pub ReadsNothing : Moment → Moment → Type 0
@@ -59,7 +64,7 @@ ReadsNothing old new = (new.config ≡ old.config) × (new.first ≡ old.first)
 
 -- that, or the fault line of words that have no form
 abbrev pub CouldNotWrite : Option (List ℕ → List ℕ → Ending) → Moment → Moment → Type 0
-CouldNotWrite None old new = ReadsNothing old new × TookPart old.written new.written (fault_line BadWords)
+CouldNotWrite None old new = ReadsNothing old new × TookLess old.written new.written (fault_line BadWords)
 CouldNotWrite (Some ending) old new = Cut ending old new
 
 abbrev pub is_among : List ℕ → ℕ → Bool

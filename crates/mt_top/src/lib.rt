@@ -9,6 +9,3 @@ mod words;
 
 pub use replaying::{replay_with, run};
 pub use words::{BadWords, Files, files_of};
-
-#[cfg(test)]
-mod tests;

@@ -1,13 +1,12 @@
 //! Replaying a recording, and what a caller is told of how it ended.
 
 ghost use Rattle.std.specs.Prelude.{◌≡◌, ◌≢◌, ◌≤◌, false, Some, Err, IfErr, IfOk, OnOk};
-ghost use Rattle.mt_outside.specs.Stream.{TookPart};
 ghost use Rattle.mt_machine.specs.Opened.{opened_whole};
 ghost use Rattle.mt_top.specs.declared.fault.Fault.TheVariants.{Memory};
 ghost use Rattle.mt_top.specs.Faults.{fault_line};
 ghost use Rattle.mt_top.specs.Endings.{asked_of, played, replayed_from};
 ghost use Rattle.mt_top.specs.Moments.{in_hand, input, moment};
-ghost use Rattle.mt_top.specs.Parts.{IsTold, Recorded, StopsCalmly, StopsRecording, TellsThere, is_memory, is_write_fault, Configured, Done, Finishes, PlayedTo, Stops, StopsConfiguring, StopsPlaying};
+ghost use Rattle.mt_top.specs.Parts.{Configured, Done, Finishes, IsTold, PlayedTo, Recorded, Stops, StopsCalmly, StopsConfiguring, StopsPlaying, StopsRecording, TellsThere, is_memory};
 ghost use Rattle.mt_top.specs.Run.{Ends};
 ghost use Rattle.mt_top.specs.Words.{words_of};
 
@@ -101,7 +100,6 @@ fn replay<A: Source, W: Sink>(
     ensures err { IfErr result (λ fault. Stops fault (replayed_from (opened_whole config.now))
         (moment in_hand (input (A.left first.old) (A.faults first.old)) (W.written out.old) (W.faults out.old))
         (moment in_hand (input (A.left first.new) (A.faults first.new)) (W.written out.new) (W.faults out.new))) }
-    ensures never_falls { W.faults out.old ≤ W.faults out.new }
     ensures calm { IfErr result (λ fault. StopsCalmly fault
         (moment in_hand (input (A.left first.old) (A.faults first.old)) (W.written out.old) (W.faults out.old))
         (moment in_hand (input (A.left first.new) (A.faults first.new)) (W.written out.new) (W.faults out.new))) }
@@ -138,8 +136,7 @@ fn recorded<A: Source>(alloc: Global, first: &mut A) -> Result<Events, Fault>
 fn play<W: Sink>(alloc: Global, mut whole: Whole, events: &Events, out: &mut W) -> Result<(), Fault>
     ensures ok { OnOk result (PlayedTo (played whole events.now) (W.written out.old) (W.written out.new)) }
     ensures err { IfErr result (λ fault. StopsPlaying fault (played whole events.now) (W.written out.old) (W.written out.new) (W.faults out.old) (W.faults out.new)) }
-    ensures never_falls { W.faults out.old ≤ W.faults out.new }
-    ensures calm { IfErr result (λ fault. is_write_fault fault ≡ false → W.faults out.new ≡ W.faults out.old) }
+    ensures calm { result ≢ Err Fault.WriteFault → W.faults out.new ≡ W.faults out.old }
 {
     writings_add_up();
     let mut line = 2u64;

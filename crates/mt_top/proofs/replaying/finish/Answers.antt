@@ -1,5 +1,4 @@
-use Rattle.std.proofs.Common.{ap, refl, sym, ◌∙◌}
-use Rattle.mt_top.specs.declared.fault.Fault.TheVariants.{ReadFault}
+use Rattle.std.proofs.Common.{refl}
 use Rattle.mt_top.specs.Faults.{fault_line, fault_text}
 use Rattle.mt_top.proofs.replaying.finish.Goals as goal
 

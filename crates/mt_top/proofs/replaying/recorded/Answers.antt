@@ -1,8 +1,8 @@
-use Rattle.std.proofs.Common.{◌≡◌, Ok, length, arith, ap, sym, ◌∙◌, rules}
+use Rattle.std.proofs.Common.{length, arith, ap, sym, ◌∙◌, rules}
 use Rattle.mt_files.specs.Recording.{recording_of}
 use Rattle.mt_model.specs.declared.limits.TheConstants.{RECORDING_BYTES}
 use Rattle.mt_top.specs.Moments.{HasRead, input, to_end}
-use Rattle.mt_top.proofs.Rows.{recorded_badly, recorded_too_long}
+use Rattle.mt_top.proofs.Rows.{recorded_too_long}
 use Rattle.mt_top.proofs.replaying.recorded.Goals as goal
 
 pub returns-in-Err-TooLong-clause-err : goal.returns-in-Err-TooLong-clause-err

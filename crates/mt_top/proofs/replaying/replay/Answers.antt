@@ -1,11 +1,12 @@
-use Rattle.std.proofs.Common.{◌≡◌, false, Ok, refl, subst, rules}
+use Rattle.std.proofs.Common.{◌≡◌, false, refl, subst, rules}
 use Rattle.std.specs.Prelude.{IfErr, OnOk}
 use Rattle.mt_machine.specs.Opened.{opened_whole}
 use Rattle.mt_machine.specs.State.{State}
+use Rattle.mt_top.specs.declared.fault.Fault.TheVariants.{WriteFault}
 use Rattle.mt_top.specs.Endings.{played, replayed_from}
 use Rattle.mt_top.specs.Moments.{in_hand, input, moment}
 use Rattle.mt_top.specs.Parts.{Done, PlayedTo, Stops, StopsCalmly, StopsPlaying, is_write_fault}
-use Rattle.mt_top.proofs.Rows.{if_err, on_ok, played_calmly, plays_done, plays_stop, recorded_calmly, stops_early, stops_recording}
+use Rattle.mt_top.proofs.Rows.{if_err, on_ok, played_calmly, plays_done, plays_stop, recorded_calmly, stops_early, stops_recording, unless_written}
 use Rattle.mt_top.proofs.replaying.replay.Goals as goal
 
 pub returns-in_default-clause-err : goal.returns-in_default-clause-err
@@ -17,7 +18,7 @@ returns-in_default-clause-err g c =
     stops_early c.writings_add_up.ensures (opened_whole c.args.config.now) (input (left c.args.first.now) (reads c.args.first.now)) (input (left c.args.first.now) (reads c.args.first.now)) (written c.args.out.now) (written c.args.out.now) (faults c.args.out.now) (faults c.args.out.now) refl
 
 pub returns-in_default-clause-calm : goal.returns-in_default-clause-calm
-returns-in_default-clause-calm g c = record { config_calm = refl; first_calm = refl; sink_calm = refl }
+returns-in_default-clause-calm g c = record { sources = record { config = refl; first = refl }; sink = refl }
 
 pub returns-in-Ok-recorded-clause-ok : goal.returns-in-Ok-recorded-clause-ok
 returns-in-Ok-recorded-clause-ok g c =
@@ -33,7 +34,7 @@ returns-in-Ok-recorded-clause-ok g c =
     let from : s ≡ opened_whole c.args.config.now = c.in-Ok.ensures in
     let Told = λ (x : State). OnOk c.play.result (Done (replayed_from x) (moment in_hand old (written c.args.out.now) (faults c.args.out.now)) (moment in_hand new (written c.play.new.out) (faults c.play.new.out))) in
     subst Told from (on_ok c.play.result (PlayedTo (played s events) (written c.args.out.now) (written c.play.new.out)) (Done (replayed_from s) (moment in_hand old (written c.args.out.now) (faults c.args.out.now)) (moment in_hand new (written c.play.new.out) (faults c.play.new.out)))
-    (plays_done c.writings_add_up.ensures s old new (written c.args.out.now) (written c.play.new.out) (faults c.args.out.now) (faults c.play.new.out) held.0 events held.1 held.2)
+    (λ well. plays_done c.writings_add_up.ensures s old new (written c.args.out.now) (written c.play.new.out) (faults c.args.out.now) (faults c.play.new.out) held.0 events held.1 held.2 (record { sources = record { config = refl; first = c.recorded.ensures.calm (search rules) }; sink = c.play.ensures.calm (well WriteFault) }))
     c.play.ensures.ok)
 
 pub returns-in-Ok-recorded-clause-err : goal.returns-in-Ok-recorded-clause-err
@@ -64,7 +65,7 @@ returns-in-Ok-recorded-clause-calm g c =
     let same : new.faults ≡ old.faults = c.recorded.ensures.calm (search rules) in
     if_err c.play.result (λ fault. is_write_fault fault ≡ false → faults c.play.new.out ≡ faults c.args.out.now) (λ fault. StopsCalmly fault (moment in_hand old (written c.args.out.now) (faults c.args.out.now)) (moment in_hand new (written c.play.new.out) (faults c.play.new.out)))
     (λ fault h. played_calmly c.writings_add_up.ensures fault old new (written c.args.out.now) (written c.play.new.out) (faults c.args.out.now) (faults c.play.new.out) same h)
-    c.play.ensures.calm
+    (unless_written c.play.result (faults c.play.new.out ≡ faults c.args.out.now) c.play.ensures.calm)
 
 pub returns-in-Err-clause-err : goal.returns-in-Err-clause-err
 returns-in-Err-clause-err g c =

@@ -15,7 +15,7 @@ returns-in-Ok g c =
     ends_done (replayed_from (opened_whole c.args.config.now))
     (moment in_hand (input (left c.args.first.now) (reads c.args.first.now)) (written c.args.out.now) (faults c.args.out.now))
     (moment in_hand (input (left c.replay.new.first) (reads c.replay.new.first)) (written c.replay.new.out) (faults c.replay.new.out))
-    h.0 h.1 h.2 h.3 h.4
+    h.0 h.1 h.2 h.3 h.4 h.5
 
 pub returns-in-Err-WriteFault : goal.returns-in-Err-WriteFault
 returns-in-Err-WriteFault g c =
@@ -26,7 +26,7 @@ returns-in-Err-WriteFault g c =
     ends_cut c.writings_add_up.ensures (replayed_from (opened_whole c.args.config.now))
     (moment in_hand (input (left c.args.first.now) (reads c.args.first.now)) (written c.args.out.now) (faults c.args.out.now))
     (moment in_hand (input (left c.replay.new.first) (reads c.replay.new.first)) (written c.replay.new.out) (faults c.replay.new.out))
-    c.in-Err-WriteFault.field-0 c.in-Err-WriteFault.field-0-is c.in-Err-WriteFault.ensures.err
+    c.in-Err-WriteFault.field-0 c.in-Err-WriteFault.field-0-is c.in-Err-WriteFault.ensures.err c.in-Err-WriteFault.ensures.calm
 
 pub returns-in-Err : goal.returns-in-Err
 returns-in-Err g c =
@@ -37,4 +37,4 @@ returns-in-Err g c =
     ends_by c.writings_add_up.ensures (replayed_from (opened_whole c.args.config.now))
     (moment in_hand (input (left c.args.first.now) (reads c.args.first.now)) (written c.args.out.now) (faults c.args.out.now))
     (moment in_hand (input (left c.replay.new.first) (reads c.replay.new.first)) (written c.replay.new.out) (faults c.replay.new.out))
-    (written c.finish.new.out) (faults c.finish.new.out) c.in-Err.fault c.finish.result (search rules) c.in-Err.ensures.err c.in-Err.ensures.calm c.in-Err.ensures.never_falls c.finish.ensures
+    (written c.finish.new.out) (faults c.finish.new.out) c.in-Err.fault c.finish.result (search rules) c.in-Err.ensures.err c.in-Err.ensures.calm c.finish.ensures

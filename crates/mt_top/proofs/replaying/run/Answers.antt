@@ -1,4 +1,4 @@
-use Rattle.std.proofs.Common.{◌≡◌, Some, None, ap, refl, sym, ◌∙◌, arith, rules}
+use Rattle.std.proofs.Common.{◌≡◌, Some, None, ap, refl, sym, ◌∙◌, rules}
 use Rattle.std.specs.Option.{option_map}
 use Rattle.std.specs.Result.{result_ok}
 use Rattle.mt_top.specs.Faults.{fault_line, fault_text}
@@ -46,5 +46,5 @@ returns-in-Err g c =
     rw some (ends_by c.writings_add_up.ensures replayed (moment config first written faults) (moment read first written faults) (g.W.Sink.written c.finish.new.out) (g.W.Sink.faults c.finish.new.out) c.in-Err.fault c.finish.result
     (configuring_never_writes c.writings_add_up.ensures c.in-Err.fault config read c.in-Err.ensures.err)
     (configuring_stops c.writings_add_up.ensures c.in-Err.fault config read first written faults c.in-Err.ensures.err)
-    (stops_calmly c.writings_add_up.ensures c.in-Err.fault (moment config first written faults) (moment read first written faults) (λ quiet other. record { config_calm = c.configured.ensures.calm (λ same. absurd (cc)); first_calm = refl; sink_calm = refl }))
-    (omega arith) c.finish.ensures)
+    (stops_calmly c.writings_add_up.ensures c.in-Err.fault (moment config first written faults) (moment read first written faults) (λ quiet. record { config = c.configured.ensures.calm (λ same. absurd (cc)); first = refl }) (λ other. refl))
+    c.finish.ensures)

@@ -11,5 +11,5 @@ returns-in-Ok-clause-tells g c = (fault_line Memory, whole refl (c.write_all.ens
 pub returns-in-Err-clause-tells : goal.returns-in-Err-clause-tells
 unfolding fault_line fault_text
 returns-in-Err-clause-tells g c =
-    let part = c.in-Err.ensures.part in
-    (part.0, cut_short part.1 (c.write_all.ensures.cause.rose (search rules)), part.2)
+    let less = c.in-Err.ensures.less in
+    (less.0, cut_short less.1 (c.write_all.ensures.cause.rose (search rules)), less.2)
