@@ -1,41 +1,27 @@
-//! How many lines of a recording a second `replay_with` plays, for recordings of growing length: reads of
-//! one attribute, and reads of all attributes of an endpoint. With no argument a short recording of each
-//! is played, and what was written is counted. With any argument the speeds follow.
+//! How many lines of a recording a second `replay_with` plays, for each recording of a table. With no
+//! argument a short one of each is played, and what was written is counted. `time` prints the speeds, for
+//! recordings of growing length. `configuration NAME` and `recording NAME LINES` print what the program
+//! matter_node is given to play one: `speed/replay.sh` counts its instructions.
 #![tactic(auto)]
 
 ghost use Rattle.std.specs.Prelude.{None};
 
-use mt_files::{config as configuration, write_event};
-use mt_model::{Config, Event};
+mod table;
+mod written;
+
+use mt_files::config as configuration;
 use mt_outside::{Failed, MemSource, Sink};
-use mt_tlv::Bytes;
 use mt_top::replay_with;
-use std::alloc::{AllocError, Global};
+use std::io::Write;
 use std::time::Instant;
 use std::{env, io};
+use table::{Recording, recordings};
 
-/// How many reads a recording has where speeds are printed.
-const SIZES: [u64; 3] = [50_000, 100_000, 200_000];
+/// How many requests a recording has where speeds are printed.
+const SIZES: [u64; 2] = [20_000, 200_000];
 
 /// How many it has where none are.
-const FEW: u64 = 1_000;
-
-// One fabric, in which node 1 may do all.
-const ONE_FABRIC: &str =
-    r#"{"fabrics": [{"root": "a1", "root_key": "0411111111111111111111111111111111111111111111111111111111111111111111111111111111111111111111111111111111111111111111111111111111",
-"fabric_id": "0000000000000001", "node_id": "000000000000000a", "noc": "b1", "icac": "", "ipk": "c1c1c1c1c1c1c1c1c1c1c1c1c1c1c1c1",
-"vendor": 65521, "label": "one", "acl": [{"privilege": 5, "mode": 2, "subjects": ["0000000000000001"]}]}]}"#;
-
-// On/Off of endpoint 1.
-const ONE_ATTRIBUTE: [u8; 21] = [
-    0x15, 0x36, 0x00, 0x17, 0x24, 0x02, 0x01, 0x24, 0x03, 0x06, 0x24, 0x04, 0x00, 0x18, 0x18, 0x29,
-    0x03, 0x24, 0xff, 0x01, 0x18,
-];
-
-// All attributes of all clusters of endpoint 0.
-const AN_ENDPOINT: [u8; 15] = [
-    0x15, 0x36, 0x00, 0x17, 0x24, 0x02, 0x00, 0x18, 0x18, 0x29, 0x03, 0x24, 0xff, 0x01, 0x18,
-];
+const FEW: u64 = 100;
 
 /// A sink that counts what it is given, and keeps none of it.
 #[derive(Drop)]
@@ -58,59 +44,69 @@ impl Sink for Counter {
 }
 
 fn main(rt: HostRuntime) -> io::Result<()> {
-    let alloc = rt.alloc();
-    let timed = env::args(&rt)?.count() > 1;
-    let Ok(config) = configuration(alloc, ONE_FABRIC.as_bytes()) else {
-        return println!(rt; "the configuration is none");
-    };
-    play(&rt, &config, "one attribute", &ONE_ATTRIBUTE, FEW, false)?;
-    play(&rt, &config, "an endpoint", &AN_ENDPOINT, FEW, false)?;
-    if timed {
-        for reads in SIZES {
-            play(&rt, &config, "one attribute", &ONE_ATTRIBUTE, reads, true)?;
-            play(&rt, &config, "an endpoint", &AN_ENDPOINT, reads, true)?;
+    let mut words = env::args(&rt)?.skip(1);
+    let command = words.next();
+    let name = words.next();
+    let lines = words.next();
+    match (command, name) {
+        (Some(command), Some(name)) => print(&rt, command.as_str(), name.as_str(), lines),
+        (Some(_), None) => measure(&rt),
+        _ => {
+            for recording in &recordings() {
+                play(&rt, recording, FEW, false)?;
+            }
+            Ok(())
+        }
+    }
+}
+
+// The speeds of all recordings, for each size.
+fn measure(rt: &HostRuntime) -> io::Result<()> {
+    for recording in &recordings() {
+        for requests in SIZES {
+            play(rt, recording, requests, true)?;
         }
     }
     Ok(())
 }
 
-// The head, and so many reads.
-fn recording(alloc: Global, reads: u64, payload: &[u8]) -> Result<Vec<u8>, AllocError> {
-    let mut text = Vec::from_slice(alloc, b"matter-record 1\n")?;
-    for ms in 0..reads {
-        let event = Event::Ask {
-            ms,
-            fabric: 1,
-            node: 1,
-            cats: [0; 3],
-            opcode: 2,
-            payload: Bytes::from_slice(alloc, payload)?,
-        };
-        write_event(&event, &mut text)?;
+// Prints the configuration of the recording of this name, or the recording itself.
+fn print(rt: &HostRuntime, command: &str, name: &str, lines: Option<String>) -> io::Result<()> {
+    let alloc = rt.alloc();
+    for recording in &recordings() {
+        if recording.name == name {
+            if command == "configuration" {
+                let text = recording.configuration(alloc)?;
+                return print!(rt; "{text}");
+            }
+            let requests = lines.and_then(|lines| lines.parse::<u64>().ok());
+            let text = recording.text(alloc, requests.unwrap_or(FEW))?;
+            return io::writer(rt).write_all(&text);
+        }
     }
-    Ok(text)
+    println!(rt; "there is no recording of this name")
 }
 
-fn play(
-    rt: &HostRuntime,
-    config: &Config,
-    name: &str,
-    payload: &[u8],
-    reads: u64,
-    timed: bool,
-) -> io::Result<()> {
+fn play(rt: &HostRuntime, recording: &Recording, requests: u64, timed: bool) -> io::Result<()> {
     let alloc = rt.alloc();
-    let text = recording(alloc, reads, payload)?;
+    let name = recording.name;
+    let words = recording.configuration(alloc)?;
+    let Ok(config) = configuration(alloc, words.as_bytes()) else {
+        return println!(rt; "the configuration of {name} is none");
+    };
+    let text = recording.text(alloc, requests)?;
     let mut source = MemSource::new(alloc, &text, &[])?;
     let mut counter = Counter { lines: 0, bytes: 0 };
     let start = Instant::now(rt)?;
-    let status = replay_with(alloc, config, &mut source, &mut counter);
+    let status = replay_with(alloc, &config, &mut source, &mut counter);
     let micros = start.elapsed(rt)?.as_micros();
     let lines = counter.lines;
     let bytes = counter.bytes;
-    println!(rt; "{reads} reads of {name}: status {status}, {lines} lines, {bytes} bytes written")?;
+    println!(rt;
+        "{requests} requests, {name}: status {status}, {lines} lines, {bytes} bytes written"
+    )?;
     if timed {
-        let speed = lines_a_second(reads, micros);
+        let speed = lines_a_second(requests, micros);
         println!(rt; "{speed} lines of the recording/s")?;
     }
     Ok(())

@@ -1,0 +1,227 @@
+//! The recordings that are measured: each is one configuration, and one request over and over. Writes change what
+//! stands each time.
+
+use crate::written::{Written, items};
+use mt_files::write_event;
+use mt_im_out::encode_request;
+use mt_model::opcode::{READ_REQUEST, WRITE_REQUEST};
+use mt_model::{Event, Index, Path, Paths, Request, Version, Versions};
+use std::alloc::{AllocError, Global};
+
+/// A recording of the table, which is made and not stored.
+#[derive(Clone, Copy)]
+pub(crate) struct Recording {
+    pub(crate) name: &'static str,
+    /// How many fabrics the node has, and how many entries each of them.
+    fabrics: u8,
+    entries: u8,
+    /// How many bytes a fabric's root certificate has.
+    root: u32,
+    asked: Asked,
+    filtered: bool,
+    /// How many fabrics ask, one after the other.
+    turns: u8,
+}
+
+/// What is asked.
+#[derive(Clone, Copy)]
+enum Asked {
+    One(Path),
+    /// Eight attributes once and one of another cluster eight times, with sixteen filters that fit none.
+    Sixteen,
+    Write(Written),
+}
+
+fn of_two_fabrics(name: &'static str, asked: Path, filtered: bool) -> Recording {
+    Recording {
+        name,
+        fabrics: 2,
+        entries: 2,
+        root: 1,
+        asked: Asked::One(asked),
+        filtered,
+        turns: 1,
+    }
+}
+
+fn writes(name: &'static str, what: Written) -> Recording {
+    Recording {
+        asked: Asked::Write(what),
+        ..of_two_fabrics(name, acl(), false)
+    }
+}
+
+/// The path of the attributes that these numbers name.
+pub(crate) fn attributes(endpoint: u16, cluster: Option<u32>, leaf: Option<u32>) -> Path {
+    Path {
+        endpoint: Some(endpoint),
+        cluster,
+        leaf,
+        index: Index::Whole,
+    }
+}
+
+/// The path of the access control list.
+pub(crate) fn acl() -> Path {
+    attributes(0, Some(0x1f), Some(0))
+}
+
+/// The recordings of the table.
+pub(crate) fn recordings() -> [Recording; 10] {
+    [
+        of_two_fabrics("attribute", attributes(1, Some(6), Some(0)), true),
+        of_two_fabrics("endpoint-0", attributes(0, None, None), true),
+        of_two_fabrics("endpoint-1", attributes(1, None, None), true),
+        of_two_fabrics("entries", acl(), false),
+        Recording {
+            asked: Asked::Sixteen,
+            ..of_two_fabrics("paths", acl(), true)
+        },
+        Recording {
+            fabrics: 16,
+            entries: 4,
+            ..of_two_fabrics("all-entries", acl(), false)
+        },
+        Recording {
+            fabrics: 5,
+            root: 400,
+            ..of_two_fabrics("roots", attributes(0, Some(0x3e), Some(4)), true)
+        },
+        writes("label", Written::Label),
+        Recording {
+            fabrics: 16,
+            turns: 16,
+            ..writes("items-by-turns", Written::Items)
+        },
+        writes("own-entries", Written::Entries),
+    ]
+}
+
+impl Recording {
+    /// The text of the configuration.
+    pub(crate) fn configuration(&self, alloc: Global) -> Result<String, AllocError> {
+        let mut text = String::from_str(alloc, "{\"fabrics\": [")?;
+        for number in 1..self.fabrics.saturating_add(1) {
+            if number > 1 {
+                text.push_str(",")?;
+            }
+            self.push_fabric(alloc, number, &mut text)?;
+        }
+        text.push_str("]}\n")?;
+        Ok(text)
+    }
+
+    // The row of a fabric, in which node 1 may do all.
+    fn push_fabric(&self, alloc: Global, number: u8, text: &mut String) -> Result<(), AllocError> {
+        let pair = hex::encode(alloc, [number].as_slice())?;
+        text.push_str("\n{\"root\": \"")?;
+        push_times(self.root, pair.as_str(), text)?;
+        text.push_str("\", \"root_key\": \"04")?;
+        push_times(64, pair.as_str(), text)?;
+        text.push_str("\", \"fabric_id\": \"00000000000000")?;
+        text.push_str(pair.as_str())?;
+        text.push_str(
+            "\", \"node_id\": \"000000000000000a\", \"noc\": \"b1\", \"icac\": \"\", \"ipk\": \"",
+        )?;
+        push_times(16, pair.as_str(), text)?;
+        text.push_str("\", \"vendor\": 65521, \"label\": \"")?;
+        text.push_str(pair.as_str())?;
+        text.push_str("\", \"acl\": [")?;
+        push_entries(self.entries, text)?;
+        text.push_str("]}")
+    }
+
+    /// The text of a recording of so many requests.
+    pub(crate) fn text(&self, alloc: Global, lines: u64) -> Result<Vec<u8>, AllocError> {
+        let even = encode_request(alloc, &self.request(alloc, false)?)?;
+        let odd = encode_request(alloc, &self.request(alloc, true)?)?;
+        let turns = (self.turns as u64).max(1);
+        let mut text = Vec::from_slice(alloc, b"matter-record 1\n")?;
+        for ms in 0..lines {
+            let payload = if ms / turns % 2 == 0 {
+                even.copy()?
+            } else {
+                odd.copy()?
+            };
+            let event = Event::Ask {
+                ms,
+                fabric: u8::try_from(ms % turns).unwrap_or(0).saturating_add(1),
+                node: 1,
+                cats: [0; 3],
+                opcode: self.opcode(),
+                payload,
+            };
+            write_event(&event, &mut text)?;
+        }
+        Ok(text)
+    }
+
+    fn opcode(&self) -> u8 {
+        match self.asked {
+            Asked::Write(_) => WRITE_REQUEST,
+            _ => READ_REQUEST,
+        }
+    }
+
+    // The request of even lines, or that of odd ones.
+    fn request(&self, alloc: Global, odd: bool) -> Result<Request, AllocError> {
+        let mut paths = Paths::new(alloc);
+        let mut versions = Versions::new(alloc);
+        match self.asked {
+            Asked::One(path) => paths.push(path)?,
+            Asked::Sixteen => push_sixteen(&mut paths, &mut versions)?,
+            Asked::Write(what) => {
+                return Ok(Request::Write {
+                    suppress: false,
+                    timed: false,
+                    items: items(alloc, what, odd)?,
+                });
+            },
+        }
+        Ok(Request::Read {
+            paths,
+            events: Paths::new(alloc),
+            minimum: 0,
+            filtered: self.filtered,
+            versions,
+        })
+    }
+}
+
+fn push_times(times: u32, part: &str, text: &mut String) -> Result<(), AllocError> {
+    for _ in 0..times {
+        text.push_str(part)?;
+    }
+    Ok(())
+}
+
+fn push_entries(entries: u8, text: &mut String) -> Result<(), AllocError> {
+    for index in 0..entries {
+        if index > 0 {
+            text.push_str(", ")?;
+        }
+        text.push_str("{\"privilege\": 5, \"mode\": 2, \"subjects\": [\"0000000000000001\"]}")?;
+    }
+    Ok(())
+}
+
+fn push_sixteen(paths: &mut Paths, versions: &mut Versions) -> Result<(), AllocError> {
+    for leaf in 0..8u32 {
+        paths.push(attributes(0, Some(0x28), Some(leaf)))?;
+        paths.push(attributes(1, Some(6), Some(0)))?;
+        push_two(versions)?;
+    }
+    Ok(())
+}
+
+// Two filters of a version that the cluster never has.
+fn push_two(versions: &mut Versions) -> Result<(), AllocError> {
+    for _ in 0..2 {
+        versions.push(Version {
+            endpoint: 0,
+            cluster: 0x28,
+            version: 99,
+        })?;
+    }
+    Ok(())
+}

@@ -1,0 +1,38 @@
+#!/bin/sh
+# For each recording of speed_replay: how many instructions matter_node takes for a line of it, and how many
+# calls of malloc and realloc. They are counted by valgrind, and less those of a recording with no line.
+#        speed/replay.sh [LINES]
+set -eu
+cd "$(dirname "$0")/.."
+lines=${1:-3000}
+folder=$(mktemp -d)
+trap 'rm -rf "$folder"' EXIT
+(cd crates/speed_replay && rt run >/dev/null 2>&1)
+# With no words it ends with status 2, and is built.
+(cd crates/matter_node && rt run >/dev/null 2>&1) || true
+
+# The instructions, and the calls of malloc and realloc, of a run on a recording of so many lines.
+counts() {
+    crates/speed_replay/out/speed_replay recording "$1" "$2" >"$folder/recording"
+    valgrind --tool=callgrind --callgrind-out-file="$folder/counts" \
+        crates/matter_node/out/matter_node replay "$folder/configuration" "$folder/recording" \
+        >/dev/null 2>&1
+    awk '
+        /^c?fn=\(/ {
+            id = $1; sub(/^c?fn=/, "", id)
+            if (NF > 1) name[id] = $2
+            if ($1 ~ /^cfn=/) callee = id
+        }
+        /^calls=/ { sub(/^calls=/, "", $1); calls[name[callee]] += $1 }
+        /^summary:/ { instructions = $2 }
+        END { printf "%d %d %d\n", instructions, calls["malloc"], calls["realloc"] }
+    ' "$folder/counts"
+}
+
+for name in attribute endpoint-0 endpoint-1 entries paths all-entries roots label items-by-turns own-entries; do
+    crates/speed_replay/out/speed_replay configuration "$name" >"$folder/configuration"
+    echo "$name $lines $(counts "$name" "$lines") $(counts "$name" 0)"
+done | awk '{
+    printf "%s: %.0f instructions a line, %.1f calls of malloc and %.1f of realloc\n",
+        $1, ($3 - $6) / $2, ($4 - $7) / $2, ($5 - $8) / $2
+}'
