@@ -2,21 +2,30 @@
 //!
 //! `stream` has the traits `Source` and `Sink`, `memory` a form of each that keeps its bytes in
 //! memory and fails at the calls that a test names, `whole` reads and writes everything, `network`
-//! says who a datagram comes from or goes to, and `fate` what becomes of a disk that stops. `laws` says
-//! how what is read and written adds up.
+//! says who a datagram comes from or goes to. `laws` says how what is read and written adds up.
+//!
+//! `disk` has the trait `Disk`, with what a loss of power may leave of it, `memory_disk` a form that
+//! keeps its bytes in memory and stops where it is told to, `stop` where that is, `fate` what becomes
+//! of it then, and `replaying` how what was done to it is done again.
 #![tactic(auto)]
 
+mod disk;
 mod failures;
 mod fate;
 mod laws;
 mod memory;
+mod memory_disk;
 mod network;
+mod replaying;
+mod stop;
 mod stream;
 mod whole;
 
+pub use disk::Disk;
 pub use fate::Fate;
 pub use laws::writings_add_up;
 pub use memory::{MemSink, MemSource};
+pub use memory_disk::MemDisk;
 pub use network::Peer;
 pub use stream::{Failed, Sink, Source};
 pub use whole::{ReadFault, read_all, write_all};
