@@ -1,0 +1,26 @@
+//! Prints what a journal on a disk in memory answers. Each line of its input is a case, and what must be
+//! printed for it is worked out outside of the program. A case is the bytes of a file in hex, `-` for none, and
+//! then what is done, a word each:
+//!
+//! - `s16..18`: an image; `a17..18`: a change, where it fits; `b60000`: a change of so many bytes, where it fits;
+//! - `x3kept`, `x3lost`, `x3torn`: the disk stops at that one of the writes and syncs to come, with this fate;
+//! - `r`: the disk is restarted if it has stopped, and the journal recovered;
+//! - `d`: the first bytes of the file.
+//!
+//! The journal is recovered at first, and each time it is, its list is printed.
+#![tactic(auto)]
+
+mod form;
+mod play;
+
+use std::io;
+
+fn main(rt: HostRuntime) -> io::Result<()> {
+    let cases = io::read_to_string(rt.alloc(), rt.stdin())?;
+    for case in cases.as_str().lines() {
+        print!(rt; "{case}:")?;
+        play::play(&rt, case)?;
+        println!(rt; "")?;
+    }
+    Ok(())
+}

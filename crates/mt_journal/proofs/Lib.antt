@@ -1,0 +1,11 @@
+pub mod Adding
+pub mod Faults
+pub mod Fields
+pub mod Images
+pub mod Lists
+pub mod Marks
+pub mod Moments
+pub mod Pieces
+pub mod Slots
+pub mod Records
+pub mod Replacing

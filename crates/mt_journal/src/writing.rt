@@ -1,0 +1,48 @@
+//! One write that is safe when it is done.
+
+ghost use Rattle.std.specs.Prelude.{◌≡◌, ◌≤◌, ◌+◌, ◌++◌, [], ◌∷◌, List, ℕ, Some, length, vec_capacity, OnOk};
+ghost use Rattle.mt_journal.specs.Standing.{length_field};
+ghost use Rattle.mt_outside.specs.Disk.{CutShort, LeavesContents, LeavesOnly, overwritten};
+ghost use Rattle.mt_outside.specs.Stream.{HasCause, one_more};
+
+use mt_outside::{Disk, Failed};
+
+// A gate that is not open.
+const CLOSED: u8 = 0;
+
+/// Writes bytes at an offset and makes them safe, in two calls of the disk.
+pub fn put<D: Disk>(disk: &mut D, at: u64, bytes: &[u8]) -> Result<(), Failed>
+    ensures safe { (file : List ℕ) → D.contents disk.old ≡ Some file → LeavesContents (Some file) (D.images disk.old)
+        → OnOk result ((D.contents disk.new ≡ Some (overwritten at bytes.now file)) × LeavesContents (Some (overwritten at bytes.now file)) (D.images disk.new)) }
+    // A crash at any moment leaves the file after a write that is cut short.
+    ensures moments { (file : List ℕ) → D.contents disk.old ≡ Some file → LeavesContents (Some file) (D.images disk.old)
+        → LeavesOnly D.moment D.images_since disk.old disk.new (CutShort at (length bytes.now) file) }
+    ensures calls { OnOk result (D.calls disk.new ≡ one_more (one_more (D.calls disk.old))) }
+    ensures cause { HasCause (D.faults disk.old) (D.faults disk.new) result }
+{
+    disk.write_at(at, bytes)?;
+    disk.sync()
+}
+
+/// Lays out what is written of an image or a change: what stands in front of its length, the length, the
+/// bytes, and a closed gate.
+pub fn lay_out(buffer: &mut Vec<u8>, front: &[u8], bytes: &[u8])
+    requires room { length front.now + length bytes.now + 5 ≤ vec_capacity buffer.old }
+    requires short { length bytes.now ≤ 65536 }
+    ensures laid { buffer.new.items ≡ front.now ++ length_field (length bytes.now) ++ bytes.now ++ 0 ∷ [] }
+    ensures capacity { vec_capacity buffer.old ≤ vec_capacity buffer.new }
+{
+    let count = bytes.len();
+    let field = [
+        (count % 256) as u8,
+        (count / 256 % 256) as u8,
+        (count / 65536 % 256) as u8,
+        (count / 16777216 % 256) as u8,
+    ];
+    // There is room for all of it.
+    buffer.clear();
+    let _ = buffer.extend_from_slice(front);
+    let _ = buffer.extend_from_slice(&field);
+    let _ = buffer.extend_from_slice(bytes);
+    let _ = buffer.push(CLOSED);
+}
