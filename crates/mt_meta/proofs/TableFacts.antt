@@ -24,7 +24,7 @@ all-ascend = refl
 
 -- Numbers.
 
-eqb-sym : (a b : ℕ) → (a == b) ≡ (b == a)
+pub eqb-sym : (a b : ℕ) → (a == b) ≡ (b == a)
 eqb-sym a b = elim (eqb_tells a b) [
   | inl same ↦ same.0 ∙ sym (eq-eqb b a (sym same.1))
   | inr other ↦ elim (eqb_tells b a) [ inl same ↦ absurd (other.1 (sym same.1)) | inr back ↦ other.0 ∙ sym back.0 ]
@@ -36,7 +36,7 @@ endpoint-device endpoint = rw (eqb-sym 0 endpoint, eqb-sym 1 endpoint) (elim (en
 
 -- Tests of lists.
 
-any-ext : {X : Type 0} (p q : X → Bool) → ((x : X) → p x ≡ q x) → (xs : List X) → list_any p xs ≡ list_any q xs
+pub any-ext : {X : Type 0} (p q : X → Bool) → ((x : X) → p x ≡ q x) → (xs : List X) → list_any p xs ≡ list_any q xs
 any-ext p q same [] = refl
 any-ext p q same (x ∷ xs) = rw (same x, any-ext p q same xs) refl
 

@@ -1,8 +1,10 @@
 pub mod clusters
+pub mod Fields
 pub mod Finding
 pub mod Forms
 pub mod Places
 pub mod Rows
 pub mod Stored
 pub mod Table
+pub mod Targets
 pub mod Writable

@@ -10,7 +10,7 @@ use Rattle.mt_meta.specs.declared.rows.FirstValue.{FirstValue}
 use Rattle.mt_meta.specs.declared.rows.Origin.TheVariants.{Computed, Stored, StoredItems}
 use Rattle.mt_meta.specs.declared.rows.Field.{Field}
 use Rattle.mt_meta.specs.declared.rows.Form.{Form}
-use Rattle.mt_meta.specs.declared.rows.Form.TheVariants.{FabricIndex}
+use Rattle.mt_meta.specs.declared.rows.Form.TheVariants.{FabricIndex, Octets, Text, Uint}
 use Rattle.mt_meta.specs.declared.rows.Sensitive.{Sensitive}
 use Rattle.mt_meta.specs.declared.rows.Sensitive.TheVariants.{Nothing}
 use Rattle.mt_meta.specs.declared.rows.Takes.TheVariants as takes
@@ -63,7 +63,7 @@ stored_items row = record row { origin = StoredItems }
 abbrev pub hiding : Sensitive → AttributeRow → AttributeRow
 hiding fields row = record row { sensitive = fields }
 
--- Fields of items.
+-- Fields of items and of commands.
 
 abbrev pub needed : ℕ → Form → Field
 needed number form = record { number = number; needed = true; form = form }
@@ -74,6 +74,17 @@ optional number form = record { number = number; needed = false; form = form }
 -- which fabric's it is: any number, which may be missing
 abbrev pub fabric_field : Field
 fabric_field = optional 254 FabricIndex
+
+-- forms of fields of commands whose sizes are their command's own matter
+
+abbrev pub any_number : Form
+any_number = Uint 0xffffffffffffffff
+
+abbrev pub any_text : Form
+any_text = Text 0 0xffff
+
+abbrev pub any_octets : Form
+any_octets = Octets 0 0xffff
 
 -- Commands, and events.
 

@@ -68,6 +68,13 @@ commands_of cluster = if cluster == on_off.cluster then on_off.commands
     else if cluster == bench.cluster then bench.commands
     else []
 
+-- the fields of a command that a cluster accepts; those of On/Off and of Bench have none
+unfoldable pub command_fields : ℕ → ℕ → List Field
+command_fields cluster command = if cluster == general_commissioning.cluster then general_commissioning.command_fields command
+    else if cluster == network_commissioning.cluster then network_commissioning.command_fields command
+    else if cluster == operational_credentials.cluster then operational_credentials.command_fields command
+    else []
+
 -- the commands that a cluster generates
 unfoldable pub responses_of : ℕ → List ℕ
 responses_of cluster = if cluster == general_commissioning.cluster then general_commissioning.responses

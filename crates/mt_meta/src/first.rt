@@ -6,16 +6,17 @@ ghost use Rattle.mt_meta.specs.Stored.{first_rows, first_rows_of, first_rows_of_
 
 use crate::rows::{AttributeRow, FirstValue, Origin};
 use crate::table::{attributes_of, clusters_of, endpoints, extensions_of, globals};
-use mt_model::{Place, Row, Rows};
+use mt_model::{Place, Row, StoredRows};
 use mt_tlv::{Bytes, Members, Value};
 use std::alloc::{AllocError, Global};
 
 /// The stored attributes that are not fabric-scoped, each with its first value, in the order of their
 /// places.
-pub fn first_rows(alloc: Global) -> Result<Rows, AllocError>
+pub fn first_rows(alloc: Global) -> Result<StoredRows, AllocError>
     ensures { IfOk result (λ rows. rows ≡ first_rows) }
 {
-    Ok(Rows::from_vec(rows(alloc)?))
+    let rows = rows(alloc)?;
+    StoredRows::from_vec(alloc, rows)
 }
 
 fn rows(alloc: Global) -> Result<Vec<Row>, AllocError>

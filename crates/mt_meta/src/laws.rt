@@ -1,14 +1,15 @@
 //! Laws of the table. Each is the contract of a function that does nothing.
 
-ghost use Rattle.std.specs.Prelude.{◌≡◌, ℕ, IsTrue, is_ok, is_some, true};
+ghost use Rattle.std.specs.Prelude.{◌≡◌, ◌&&◌, ℕ, IsTrue, is_ok, is_some, true};
 ghost use Rattle.std.specs.List.{list_all, list_any};
 ghost use Rattle.mt_model.specs.rows.Devices.{device_of};
 ghost use Rattle.mt_model.specs.declared.rows.place.Place.{Place};
 ghost use Rattle.mt_meta.specs.Finding.{find_of, is_endpoint};
 ghost use Rattle.mt_meta.specs.Places.{all_places, ascend, is_at};
-ghost use Rattle.mt_meta.specs.Stored.{begins_rightly, is_sensitive_by_table};
+ghost use Rattle.mt_meta.specs.Stored.{begins_rightly, is_sensitive_by_table, is_stored};
 ghost use Rattle.mt_meta.specs.Writable.{takes_rightly};
 ghost use Rattle.mt_model.specs.rows.Sight.{is_sensitive_field};
+ghost use Rattle.mt_model.specs.rows.Stored.{is_stored_place};
 
 /// The places of all attributes ascend, so that none stands twice.
 pub fn places_ascend()
@@ -34,6 +35,11 @@ pub fn sensitive_fields_are_those_of_sight()
 /// any.
 pub fn stored_places_begin()
     ensures { IsTrue (list_all begins_rightly all_places) }
+{}
+
+/// Rows are kept under a place exactly where the table has the place and it is stored.
+pub fn stored_places_are_those_of_the_model()
+    ensures { (place : Place) → is_stored_place place ≡ (is_stored place && is_ok (find_of place)) }
 {}
 
 /// An attribute takes something exactly where it has a privilege to write it, and then what fits its kind.

@@ -36,7 +36,7 @@ pub enum Sensitive {
     AllButFabric,
 }
 
-/// The form of a value that is written, or of a field of an item that is.
+/// The form of a value that is written, or of a field of an item or of a command.
 #[derive(Clone, Copy, Debug, PartialEq, Eq)]
 pub enum Form {
     Bool,
@@ -44,7 +44,8 @@ pub enum Form {
     Uint { greatest: u64 },
     /// A text of so many bytes.
     Text { least: u16, most: u16 },
-    Octets { most: u16 },
+    /// So many octets.
+    Octets { least: u16, most: u16 },
     /// Null, or an array of numbers of 64 bits: whom an entry names.
     Subjects,
     /// Null, or an array of targets: what an entry reaches.
@@ -53,7 +54,7 @@ pub enum Form {
     FabricIndex,
 }
 
-/// A field of an item of a list that is written.
+/// A field of an item of a list that is written, or of a command.
 #[derive(Clone, Copy, Debug, PartialEq, Eq)]
 pub struct Field {
     pub number: u8,
@@ -104,6 +105,20 @@ pub(crate) const FABRIC_FIELD: Field = Field {
     form: Form::FabricIndex,
 };
 
+// Forms of fields of commands whose sizes are their command's own matter.
+
+pub(crate) const ANY_NUMBER: Form = Form::Uint { greatest: u64::MAX };
+
+pub(crate) const ANY_TEXT: Form = Form::Text {
+    least: 0,
+    most: u16::MAX,
+};
+
+pub(crate) const ANY_OCTETS: Form = Form::Octets {
+    least: 0,
+    most: u16::MAX,
+};
+
 /// What most attributes are: everyone may read them and nobody may write them, and they are not kept.
 pub(crate) const PLAIN: Meta = Meta {
     kind: Kind::Uint,
@@ -136,7 +151,7 @@ macro_rules! computed {
     };
 }
 
-// A field of an item: number, whether it must be there, and its form.
+// A field: number, whether it must be there, and its form.
 macro_rules! field {
     ($number:expr, $needed:literal, $form:expr) => {
         $crate::rows::Field {

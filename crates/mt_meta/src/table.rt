@@ -2,7 +2,7 @@
 //! proved to be that of `specs/Table.antt`, and its rows to be those of `specs/clusters/`.
 
 ghost use Rattle.std.specs.Prelude.{◌≡◌};
-ghost use Rattle.mt_meta.specs.Table.{attributes_of, clusters_of, commands_of, endpoints, events_of, extensions_of, fields_of, globals, responses_of};
+ghost use Rattle.mt_meta.specs.Table.{attributes_of, clusters_of, command_fields, commands_of, endpoints, events_of, extensions_of, fields_of, globals, responses_of};
 
 use crate::clusters::{
     ACCESS_CONTROL, BASIC_INFORMATION, BENCH, BINDING, DESCRIPTOR, GENERAL_COMMISSIONING,
@@ -121,6 +121,19 @@ pub fn commands_of(cluster: u32) -> &'static [CommandRow]
         NETWORK_COMMISSIONING => &network_commissioning::COMMANDS,
         OPERATIONAL_CREDENTIALS => &operational_credentials::COMMANDS,
         BENCH => &bench::COMMANDS,
+        _ => &[],
+    }
+}
+
+/// The fields of a command that a cluster accepts, ascending; none where it has none.
+#[tactic(auto, unfolding(crate::specs::Table::command_fields))]
+pub fn command_fields(cluster: u32, command: u32) -> &'static [Field]
+    ensures { result.now ≡ command_fields cluster command }
+{
+    match cluster {
+        GENERAL_COMMISSIONING => general_commissioning::command_fields(command),
+        NETWORK_COMMISSIONING => network_commissioning::command_fields(command),
+        OPERATIONAL_CREDENTIALS => operational_credentials::command_fields(command),
         _ => &[],
     }
 }

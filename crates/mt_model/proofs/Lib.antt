@@ -4,8 +4,9 @@ pub mod Fabrics
 pub mod FirstField
 pub mod OfFabric
 pub mod Order
-pub mod Places
 pub mod Ranges
 pub mod Replaced
+pub mod Same
 pub mod Setting
 pub mod Sizes
+pub mod Stored

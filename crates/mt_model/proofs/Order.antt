@@ -1,7 +1,8 @@
 -- What the order of rows implies.
-use Rattle.std.proofs.Common.{◌≡◌, ℕ, zero, suc, ◌+◌, ◌<◌, ◌≤◌, ◌⊎◌, inl, inr, Bool, true, false, ◌&&◌, List, [], ◌∷◌, refl, sym, subst, length, get_or, take, drop, arith, leb}
+use Rattle.std.proofs.Common.{◌≡◌, ℕ, zero, suc, ◌+◌, ◌<◌, ◌≤◌, ◌⊎◌, inl, inr, Bool, true, false, ◌&&◌, List, [], ◌∷◌, ◌++◌, refl, sym, ap, ◌∙◌, subst, length, get_or, take, arith, leb}
 use Rattle.std.proofs.lemmas.Grind.{common_steps}
 use Rattle.std.proofs.lemmas.Bool.{both_ways, false_from_ne_true, and_parts, and_from, or_cases, or_left, or_right, leb-true, le-leb}
+use Rattle.std.proofs.lemmas.List.{take_at}
 use Rattle.std.specs.List.{AllAdjacentBelow, IsAllAdjacentAnswer}
 use Rattle.mt_model.specs.rows.Order.{stands_before, may_follow, ascend_after, are_ascending}
 use Rattle.mt_model.specs.rows.Sight.{same_place}
@@ -25,15 +26,6 @@ same_place-sym p q a = grind (arith, common_steps)
 
 pub same_place-refl : (p : Place) → same_place p p ≡ true
 same_place-refl p = grind (arith, common_steps)
-
-pub before_not_same : (p q : Place) → stands_before p q ≡ true → same_place p q ≡ false
-before_not_same p q a = grind (arith, common_steps)
-
-pub after_not_same : (p q : Place) → stands_before q p ≡ true → same_place p q ≡ false
-after_not_same p q a = grind (arith, common_steps)
-
-pub neither_same : (p q : Place) → stands_before p q ≡ false → stands_before q p ≡ false → same_place p q ≡ true
-neither_same p q a b = grind (arith, common_steps)
 
 pub same_not_before : (p q : Place) → same_place p q ≡ true → stands_before p q ≡ true → ⊥
 same_not_before p q a b = grind (arith, common_steps)
@@ -92,17 +84,16 @@ ascending_pairs (row ∷ rows) e i zero d lt h = absurd (omega arith)
 ascending_pairs (row ∷ rows) e zero (suc j) d lt h = later row rows e j d (omega arith)
 ascending_pairs (row ∷ rows) e (suc i) (suc j) d lt h = ascending_pairs rows (ascending-tail row rows e) i j d (omega arith) (omega arith)
 
-pub ascending-drop : (n : ℕ) (rows : List Row) → are_ascending rows ≡ true → are_ascending (drop n rows) ≡ true
-ascending-drop zero rows e = e
-ascending-drop (suc n) [] e = refl
-ascending-drop (suc n) (row ∷ rows) e = ascending-drop n rows (ascending-tail row rows e)
-
 pub ascending-take : (n : ℕ) (rows : List Row) → are_ascending rows ≡ true → are_ascending (take n rows) ≡ true
 ascending-take zero rows e = refl
 ascending-take (suc n) [] e = refl
 ascending-take (suc zero) (row ∷ rows) e = refl
 ascending-take (suc (suc n)) (row ∷ []) e = refl
 ascending-take (suc (suc n)) (row ∷ (next ∷ rows)) e = and_from _ _ (and_parts _ _ e).0 (ascending-take (suc n) (next ∷ rows) (and_parts _ _ e).1)
+
+-- what stands in front of others in order
+pub ascending-front : (rows others : List Row) → are_ascending (rows ++ others) ≡ true → are_ascending rows ≡ true
+ascending-front rows others e = ap are_ascending (sym (take_at rows others (length rows) refl)) ∙ ascending-take (length rows) (rows ++ others) e
 
 -- what a test of neighbours tells
 neighbours_ascend : (row : Row) (rows : List Row) → AllAdjacentBelow (λ a b. true ≡ may_follow a b) (row ∷ rows) (length (row ∷ rows)) → ascend_after row rows ≡ true

@@ -1,9 +1,9 @@
 -- Rows and entries stay in their order where those of one fabric are set, and the others stay.
-use Rattle.std.proofs.Common.{◌≡◌, ℕ, ◌<◌, ◌≤◌, inl, inr, Bool, true, false, not, List, [], ◌∷◌, ◌++◌, refl, sym, ap, ◌∙◌, subst, filter, get_or, map, arith}
+use Rattle.std.proofs.Common.{◌≡◌, ℕ, ◌<◌, ◌≤◌, ◌⊎◌, inl, inr, Bool, true, false, not, List, [], ◌∷◌, ◌++◌, refl, sym, ap, ◌∙◌, subst, filter, get_or, map, arith}
 use Rattle.std.specs.List.{list_all}
 use Rattle.std.specs.List.Sorted.{IsPartitionedBy}
 use Rattle.std.proofs.lemmas.Grind.{common_steps}
-use Rattle.std.proofs.lemmas.Bool.{and_from, and_parts, cases_Bool, false_from_ne_true, both_ways, not_from_false, not-false, not-true, or_cases, or_left, or_right, ltb-true, lt-ltb, le-ltb, leb-true, le-leb, eqb-true}
+use Rattle.std.proofs.lemmas.Bool.{and_from, and_parts, cases_Bool, cases_order, false_from_ne_true, both_ways, not_from_false, not-false, not-true, or_cases, or_left, or_right, ltb-true, lt-ltb, le-ltb, leb-true, le-leb, eqb-true}
 use Rattle.std.proofs.lemmas.List.Folds.{list_all-append}
 use Rattle.mt_tlv.specs.declared.value.Value.{Value}
 use Rattle.mt_tlv.specs.declared.value.Value.TheVariants.{Null}
@@ -13,8 +13,13 @@ use Rattle.mt_model.specs.rows.Setting.{is_above, is_at, is_below, is_entry_abov
 use Rattle.mt_model.specs.declared.tables.access.AclEntry.{AclEntry}
 use Rattle.mt_model.specs.declared.rows.place.Place.{Place}
 use Rattle.mt_model.specs.declared.rows.place.Row.{Row}
-use Rattle.mt_model.proofs.Places.{same_or_less}
 use Rattle.mt_model.proofs.Order.{after_on, ascending-tail, ascending_pairs, before_back, before_same, follow_before, follow_cases, follow_same, may_follow-trans, same_before, same_place-refl, same_place-trans}
+
+same_or_less : (i j : ℕ) → i ≤ j → (i ≡ j) ⊎ (i < j)
+same_or_less i j le = elim (cases_order i j) [
+  | inl same ↦ inl same
+  | inr apart ↦ elim apart [ inl lt ↦ inr lt | inr gt ↦ absurd (omega arith) ]
+]
 
 -- Lists.
 
@@ -69,7 +74,7 @@ ascend_filter p row (next ∷ rows) up = elim (cases_Bool (p next)) [
   | inr e ↦ rw e (ascend_filter p row rows (ascend_skipped row next rows up))
 ]
 
-ascending_filter : (p : Row → Bool) (rows : List Row) → are_ascending rows ≡ true → are_ascending (filter p rows) ≡ true
+pub ascending_filter : (p : Row → Bool) (rows : List Row) → are_ascending rows ≡ true → are_ascending (filter p rows) ≡ true
 ascending_filter p [] up = refl
 ascending_filter p (row ∷ rows) up = elim (cases_Bool (p row)) [
   | inl e ↦ rw e (ascend_filter p row rows up)
@@ -216,7 +221,7 @@ entries_from least more (e ∷ es) le up =
     let first : more ≤ e.fabric = leb-true _ _ (and_parts _ _ up).0 in
     and_from _ _ (le-leb least e.fabric (omega arith)) (and_parts _ _ up).1
 
-entries_filter : (p : AclEntry → Bool) (least : ℕ) (es : List AclEntry) → ascend_from least es ≡ true → ascend_from least (filter p es) ≡ true
+pub entries_filter : (p : AclEntry → Bool) (least : ℕ) (es : List AclEntry) → ascend_from least es ≡ true → ascend_from least (filter p es) ≡ true
 entries_filter p least [] up = refl
 entries_filter p least (e ∷ es) up = elim (cases_Bool (p e)) [
   | inl x ↦ rw x (and_from _ _ (and_parts _ _ up).0 (entries_filter p e.fabric es (and_parts _ _ up).1))

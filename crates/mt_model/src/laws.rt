@@ -1,12 +1,13 @@
 //! Laws of the order of rows and of the form of access control entries, over the definitions alone, and the
 //! numbers of the opcodes and limits. Each is the contract of a function that does nothing.
 
-ghost use Rattle.std.specs.Prelude.{◌≡◌, ◌≤◌, ◌++◌, ℕ, IsTrue, List, Some, filter, map, not};
+ghost use Rattle.std.specs.Prelude.{◌≡◌, ◌↔◌, ◌≤◌, ◌++◌, ℕ, Bool, IsTrue, List, Some, filter, map, not};
 ghost use Rattle.std.specs.List.{list_all};
 ghost use Rattle.mt_tlv.specs.declared.value.Value.{Value};
 ghost use Rattle.mt_model.specs.texts.Config.{are_numbered_from, ascend_from};
 ghost use Rattle.mt_model.specs.tables.Entries.{entry_in, entry_value};
 ghost use Rattle.mt_model.specs.rows.Order.{are_ascending, entry_rows, fabric_rows, fabrics_ascend, in_order};
+ghost use Rattle.mt_model.specs.rows.Same.{are_same_rows, is_same_entry};
 ghost use Rattle.mt_model.specs.rows.Setting.{is_above, is_at, is_below, is_entry_above, is_entry_below, is_entry_of, with_entries, with_rows};
 ghost use Rattle.mt_model.specs.rows.Sight.{seen_by, stands_at};
 ghost use Rattle.mt_model.specs.declared.tables.access.AclEntry.{AclEntry};
@@ -68,9 +69,21 @@ pub fn set_entries_stand_in_order()
         → filter (is_entry_below fabric) entries ++ filter (is_entry_above fabric) entries ≡ filter (λ (entry : AclEntry). not (is_entry_of fabric entry)) entries }
 {}
 
+/// What stays of rows that ascend, or of entries, ascends.
+pub fn what_stays_stands_in_order()
+    ensures rows { (keep : Row → Bool) (rows : List Row) → IsTrue (are_ascending rows) → IsTrue (are_ascending (filter keep rows)) }
+    ensures entries { (keep : AclEntry → Bool) (least : ℕ) (entries : List AclEntry) → IsTrue (ascend_from least entries) → IsTrue (ascend_from least (filter keep entries)) }
+{}
+
 /// The value that an access control entry is written as is read as that entry.
 pub fn entries_are_read_again()
     ensures { (entry : AclEntry) → entry_in (entry_value entry) ≡ Some entry }
+{}
+
+/// Rows are told to be the same exactly where they are, and entries likewise.
+pub fn what_is_told_the_same_is()
+    ensures rows { (rows others : List Row) → IsTrue (are_same_rows rows others) ↔ (rows ≡ others) }
+    ensures entries { (entry other : AclEntry) → IsTrue (is_same_entry entry other) ↔ (entry ≡ other) }
 {}
 
 /// The opcodes of the interaction model are the numbers that the standard gives them.

@@ -17,6 +17,7 @@ pub use laws::{
     entries_are_in_order, entries_are_read_again, fabrics_are_in_order, in_order_sees,
     limits_are_these, numbered_fabrics_ascend, opcodes_are_those_of_the_standard,
     rows_of_a_place_are_in_order, set_entries_stand_in_order, set_rows_stand_in_order,
+    what_is_told_the_same_is, what_stays_stands_in_order,
 };
 pub use listed::{ExactCopy, Listed};
 pub use messages::message::{
@@ -27,15 +28,16 @@ pub use messages::opcode;
 pub use messages::size::item_size;
 pub use messages::status::Status;
 pub use node::action::{
-    Action, NodeStep, PlainDeadline, PlainDeadlines, SessionIds, Steps, Values,
+    Action, Effect, NodeStep, PlainDeadline, PlainDeadlines, SessionIds, Steps, Values,
 };
 pub use node::state::{
     ChangeNumber, ChangeNumbers, NodeSession, NodeSessions, NodeState, Standing, Version, Versions,
 };
 pub use rows::place::{Place, Row, Rows, device_type};
-pub use rows::setting::{set_entries, set_rows};
+pub use rows::setting::set_entries;
 pub use rows::shown::{shown_items, shown_value};
 pub use rows::sight::{Sight, View, sees};
+pub use rows::stored::{StoredRows, stored_places};
 pub use tables::access::{
     AclEntries, AclEntry, Actor, Auth, Privilege, Subjects, Target, Targets, entries_ascend_from,
     entries_of,

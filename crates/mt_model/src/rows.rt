@@ -4,3 +4,4 @@ pub(crate) mod place;
 pub(crate) mod setting;
 pub(crate) mod shown;
 pub(crate) mod sight;
+pub(crate) mod stored;

@@ -35,6 +35,6 @@ events =
 abbrev pub fields : List Field
 fields =
     needed 1 (forms.Text 0 32)  -- the name
-    ∷ needed 2 (forms.Octets 64)  -- the secret
+    ∷ needed 2 (forms.Octets 0 64)  -- the secret
     ∷ fabric_field
     ∷ []

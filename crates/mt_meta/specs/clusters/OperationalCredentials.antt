@@ -1,11 +1,13 @@
 -- Operational Credentials.
-use Rattle.std.specs.Prelude.{ℕ, List, [], ◌∷◌}
+use Rattle.std.specs.Prelude.{ℕ, List, [], ◌∷◌, ◌==◌, if◌then◌else◌}
 use Rattle.mt_model.specs.declared.tables.access.Privilege.TheVariants.{Administer}
 use Rattle.mt_meta.specs.declared.meta.Kind.TheVariants as kinds
 use Rattle.mt_meta.specs.declared.rows.AttributeRow.{AttributeRow}
 use Rattle.mt_meta.specs.declared.rows.CommandRow.{CommandRow}
+use Rattle.mt_meta.specs.declared.rows.Field.{Field}
 use Rattle.mt_meta.specs.declared.rows.Sensitive.TheVariants.{TwoFields}
-use Rattle.mt_meta.specs.Rows.{plain, read_by, scoped, hiding, invoked_by, scoped_command}
+use Rattle.mt_meta.specs.declared.rows.Form.TheVariants as forms
+use Rattle.mt_meta.specs.Rows.{plain, read_by, scoped, hiding, invoked_by, scoped_command, needed, optional, any_number, any_octets, any_text}
 
 abbrev pub cluster : ℕ
 cluster = 0x3e
@@ -35,3 +37,36 @@ responses =
     5  -- CSRResponse
     ∷ 8  -- NOCResponse
     ∷ []
+
+-- the fields of commands
+
+abbrev pub csr_request_fields : List Field
+csr_request_fields =
+    needed 0 (forms.Octets 32 32)  -- CSRNonce
+    ∷ optional 1 forms.Bool  -- IsForUpdateNOC
+    ∷ []
+
+abbrev pub add_noc_fields : List Field
+add_noc_fields =
+    needed 0 any_octets  -- NOCValue
+    ∷ optional 1 any_octets  -- ICACValue
+    ∷ needed 2 (forms.Octets 16 16)  -- IPKValue
+    ∷ needed 3 any_number  -- CaseAdminSubject
+    ∷ needed 4 (forms.Uint 0xffff)  -- AdminVendorId
+    ∷ []
+
+abbrev pub update_noc_fields : List Field
+update_noc_fields =
+    needed 0 any_octets  -- NOCValue
+    ∷ optional 1 any_octets  -- ICACValue
+    ∷ []
+
+abbrev pub command_fields : ℕ → List Field
+command_fields command =
+    if command == 4 then csr_request_fields
+    else if command == 6 then add_noc_fields
+    else if command == 7 then update_noc_fields
+    else if command == 9 then needed 0 any_text ∷ []  -- UpdateFabricLabel: Label
+    else if command == 10 then needed 0 any_number ∷ []  -- RemoveFabric: FabricIndex
+    else if command == 11 then needed 0 any_octets ∷ []  -- AddTrustedRootCertificate: RootCACertificate
+    else []

@@ -81,6 +81,7 @@ pub(crate) static FIELDS: [Field; 3] = [
         SECRET,
         true,
         Form::Octets {
+            least: 0,
             most: BENCH_SECRET_BYTES
         }
     ),

@@ -1,8 +1,12 @@
 //! General Commissioning.
 
+ghost use Rattle.std.specs.Prelude.{◌≡◌};
+ghost use Rattle.mt_meta.specs.clusters.GeneralCommissioning.{command_fields};
+
 use crate::meta::Meta;
 use crate::rows::{
-    AttributeRow, CommandRow, FirstValue, Form, Origin, PLAIN, Sensitive, Takes, command, computed,
+    ANY_NUMBER, AttributeRow, CommandRow, Field, FirstValue, Form, Origin, PLAIN, Sensitive, Takes,
+    command, computed, field,
 };
 use mt_model::Privilege;
 
@@ -80,3 +84,38 @@ pub(crate) static RESPONSES: [u32; 3] = [
     SET_REGULATORY_CONFIG_RESPONSE,
     COMMISSIONING_COMPLETE_RESPONSE,
 ];
+
+// The fields of commands, ascending.
+
+static ARM_FAIL_SAFE_FIELDS: [Field; 2] = [
+    // for how many seconds
+    field!(
+        0,
+        true,
+        Form::Uint {
+            greatest: u16::MAX as u64
+        }
+    ),
+    // Breadcrumb
+    field!(1, true, ANY_NUMBER),
+];
+
+static SET_REGULATORY_CONFIG_FIELDS: [Field; 3] = [
+    // where the node stands
+    field!(0, true, ANY_NUMBER),
+    // the two letters of a country's code
+    field!(1, true, Form::Text { least: 2, most: 2 }),
+    // Breadcrumb
+    field!(2, true, ANY_NUMBER),
+];
+
+/// The fields of a command that the cluster accepts; none where it has none.
+pub(crate) fn command_fields(command: u32) -> &'static [Field]
+    ensures { result.now ≡ command_fields command }
+{
+    match command {
+        ARM_FAIL_SAFE => &ARM_FAIL_SAFE_FIELDS,
+        SET_REGULATORY_CONFIG => &SET_REGULATORY_CONFIG_FIELDS,
+        _ => &[],
+    }
+}

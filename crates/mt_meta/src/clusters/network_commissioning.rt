@@ -1,8 +1,12 @@
 //! Network Commissioning.
 
+ghost use Rattle.std.specs.Prelude.{◌≡◌};
+ghost use Rattle.mt_meta.specs.clusters.NetworkCommissioning.{command_fields};
+
 use crate::meta::{Kind, Meta};
 use crate::rows::{
-    AttributeRow, CommandRow, FirstValue, Form, Origin, PLAIN, Sensitive, Takes, command, computed,
+    ANY_NUMBER, ANY_OCTETS, AttributeRow, CommandRow, Field, FirstValue, Form, Origin, PLAIN,
+    Sensitive, Takes, command, computed, field,
 };
 use mt_model::Privilege;
 
@@ -96,3 +100,43 @@ pub(crate) static COMMANDS: [CommandRow; 4] = [
 ];
 
 pub(crate) static RESPONSES: [u32; 2] = [NETWORK_CONFIG_RESPONSE, CONNECT_NETWORK_RESPONSE];
+
+// The fields of commands, ascending.
+
+static ADD_OR_UPDATE_WIFI_NETWORK_FIELDS: [Field; 3] = [
+    // the name of the network
+    field!(0, true, ANY_OCTETS),
+    // its secret
+    field!(1, true, ANY_OCTETS),
+    // Breadcrumb
+    field!(2, false, ANY_NUMBER),
+];
+
+static NETWORK_FIELDS: [Field; 2] = [
+    // the name of the network
+    field!(0, true, ANY_OCTETS),
+    // Breadcrumb
+    field!(1, false, ANY_NUMBER),
+];
+
+static REORDER_NETWORK_FIELDS: [Field; 3] = [
+    // the name of the network
+    field!(0, true, ANY_OCTETS),
+    // its place
+    field!(1, true, ANY_NUMBER),
+    // Breadcrumb
+    field!(2, false, ANY_NUMBER),
+];
+
+/// The fields of a command that the cluster accepts.
+pub(crate) fn command_fields(command: u32) -> &'static [Field]
+    ensures { result.now ≡ command_fields command }
+{
+    match command {
+        ADD_OR_UPDATE_WIFI_NETWORK => &ADD_OR_UPDATE_WIFI_NETWORK_FIELDS,
+        REMOVE_NETWORK => &NETWORK_FIELDS,
+        CONNECT_NETWORK => &NETWORK_FIELDS,
+        REORDER_NETWORK => &REORDER_NETWORK_FIELDS,
+        _ => &[],
+    }
+}

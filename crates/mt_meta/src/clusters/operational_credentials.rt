@@ -1,7 +1,13 @@
 //! Operational Credentials.
 
+ghost use Rattle.std.specs.Prelude.{◌≡◌};
+ghost use Rattle.mt_meta.specs.clusters.OperationalCredentials.{command_fields};
+
 use crate::meta::{Kind, Meta};
-use crate::rows::{AttributeRow, CommandRow, Origin, PLAIN, Sensitive, Takes, command, computed};
+use crate::rows::{
+    ANY_NUMBER, ANY_OCTETS, ANY_TEXT, AttributeRow, CommandRow, Field, Form, Origin, PLAIN,
+    Sensitive, Takes, command, computed, field,
+};
 use mt_model::Privilege;
 
 /// The number of the cluster.
@@ -86,3 +92,71 @@ pub(crate) static COMMANDS: [CommandRow; 6] = [
 ];
 
 pub(crate) static RESPONSES: [u32; 2] = [CSR_RESPONSE, NOC_RESPONSE];
+
+// The fields of commands, ascending.
+
+static CSR_REQUEST_FIELDS: [Field; 2] = [
+    // the nonce
+    field!(
+        0,
+        true,
+        Form::Octets {
+            least: 32,
+            most: 32
+        }
+    ),
+    // whether it is for UpdateNOC
+    field!(1, false, Form::Bool),
+];
+
+static ADD_NOC_FIELDS: [Field; 5] = [
+    // the certificates
+    field!(0, true, ANY_OCTETS),
+    field!(1, false, ANY_OCTETS),
+    // the identity protection key
+    field!(
+        2,
+        true,
+        Form::Octets {
+            least: 16,
+            most: 16
+        }
+    ),
+    // whom the first entry names
+    field!(3, true, ANY_NUMBER),
+    // the administrator's vendor
+    field!(
+        4,
+        true,
+        Form::Uint {
+            greatest: u16::MAX as u64
+        }
+    ),
+];
+
+static UPDATE_NOC_FIELDS: [Field; 2] = [
+    // the certificates
+    field!(0, true, ANY_OCTETS),
+    field!(1, false, ANY_OCTETS),
+];
+
+static UPDATE_FABRIC_LABEL_FIELDS: [Field; 1] = [field!(0, true, ANY_TEXT)];
+
+static REMOVE_FABRIC_FIELDS: [Field; 1] = [field!(0, true, ANY_NUMBER)];
+
+static ADD_TRUSTED_ROOT_CERTIFICATE_FIELDS: [Field; 1] = [field!(0, true, ANY_OCTETS)];
+
+/// The fields of a command that the cluster accepts.
+pub(crate) fn command_fields(command: u32) -> &'static [Field]
+    ensures { result.now ≡ command_fields command }
+{
+    match command {
+        CSR_REQUEST => &CSR_REQUEST_FIELDS,
+        ADD_NOC => &ADD_NOC_FIELDS,
+        UPDATE_NOC => &UPDATE_NOC_FIELDS,
+        UPDATE_FABRIC_LABEL => &UPDATE_FABRIC_LABEL_FIELDS,
+        REMOVE_FABRIC => &REMOVE_FABRIC_FIELDS,
+        ADD_TRUSTED_ROOT_CERTIFICATE => &ADD_TRUSTED_ROOT_CERTIFICATE_FIELDS,
+        _ => &[],
+    }
+}

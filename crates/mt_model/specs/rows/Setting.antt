@@ -1,6 +1,6 @@
 -- What rows and entries are once those of one fabric are set: those of lower places or fabrics, the new ones, those of
 -- higher ones.
-use Rattle.std.specs.Prelude.{ℕ, ◌==◌, ◌&&◌, ◌||◌, nat_lt, Bool, List, ◌++◌, filter, map}
+use Rattle.std.specs.Prelude.{ℕ, ◌==◌, ◌&&◌, ◌||◌, not, nat_lt, Bool, List, ◌++◌, filter, map}
 use Rattle.mt_tlv.specs.declared.value.Value.{Value}
 use Rattle.mt_model.specs.rows.Order.{row_at, stands_before}
 use Rattle.mt_model.specs.rows.Sight.{same_place}
@@ -18,6 +18,10 @@ is_above place fabric row = stands_before place row.place || (same_place place r
 -- a row of this fabric at this place
 abbrev pub is_at : Place → ℕ → Row → Bool
 is_at place fabric row = same_place row.place place && row.fabric == fabric
+
+-- a row of another fabric at this place
+abbrev pub is_other_at : Place → ℕ → Row → Bool
+is_other_at place fabric row = same_place row.place place && not (row.fabric == fabric)
 
 -- the rows of this fabric at this place are these
 abbrev pub with_rows : Place → ℕ → List Value → List Row → List Row

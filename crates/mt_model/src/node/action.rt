@@ -1,12 +1,15 @@
 //! What the node is asked to do, and what an answer makes of it, as data.
 
 ghost use Rattle.std.specs.Prelude.{◌≡◌};
+ghost use Rattle.mt_model.specs.messages.Effects.{answered_with, refused_at};
 
 use crate::listed::Listed;
-use crate::messages::message::Request;
+use crate::messages::message::{Reply, Request};
+use crate::messages::status::Status;
 use crate::rows::place::Place;
 use crate::tables::access::{AclEntries, Actor};
 use mt_tlv::{Bytes, Value};
+use std::alloc::Global;
 
 /// Ids of sessions, as the node gave them.
 pub type SessionIds = Listed<u16>;
@@ -63,10 +66,48 @@ pub enum NodeStep {
         id: Bytes,
         index: u8,
     },
+    /// An event of this place happened. It changes nothing that is kept yet: events are not recorded.
+    Emit {
+        place: Place,
+        priority: u8,
+        /// To whom alone it is told; 0 where all fabrics may see it.
+        fabric: u8,
+        value: Value,
+    },
 }
 
 /// Steps, in the order in which they are made.
 pub type Steps = Listed<NodeStep>;
+
+/// What an answer to a request comes to: the reply, and what it makes of the node.
+#[derive(Drop)]
+pub struct Effect {
+    pub reply: Reply,
+    /// Made one after the other, with whoever asked as the asker.
+    pub steps: Steps,
+}
+
+impl Effect {
+    /// A status under the path of the command, and these steps.
+    pub fn answered_with(command: &Place, status: Status, steps: Steps) -> Effect
+        ensures { result ≡ answered_with command.now status steps }
+    {
+        Effect {
+            reply: Reply::InvokeStatus {
+                command: *command,
+                code: status.code(),
+            },
+            steps,
+        }
+    }
+
+    /// The command is refused with this status, and nothing changes. It takes no memory.
+    pub fn refused_at(alloc: Global, command: &Place, status: Status) -> Effect
+        ensures { result ≡ refused_at command.now status }
+    {
+        Effect::answered_with(command, status, Steps::new(alloc))
+    }
+}
 
 /// Until when the next request of a plain actor must come. An actor is a fabric (0 for a PASE session
 /// that has none), a node and its CATs together.

@@ -3,7 +3,8 @@
 ghost use Rattle.std.specs.Prelude.{◌≡◌};
 
 use crate::listed::{ExactCopy, Listed};
-use crate::rows::place::{Place, Rows};
+use crate::rows::place::Place;
+use crate::rows::stored::StoredRows;
 use crate::tables::access::{AclEntries, Auth};
 use crate::tables::fabric::Fabrics;
 use crate::tables::network::{Armed, Networks, Roots};
@@ -91,7 +92,7 @@ pub type NodeSessions = Listed<NodeSession>;
 #[derive(Drop)]
 pub struct NodeState {
     /// The stored attributes.
-    pub rows: Rows,
+    pub rows: StoredRows,
     /// The access control list.
     pub entries: AclEntries,
     pub fabrics: Fabrics,

@@ -7,13 +7,12 @@ ghost use Rattle.mt_model.specs.rows.Setting.{is_at};
 ghost use Rattle.mt_model.specs.rows.Sight.{stands_at};
 
 use crate::listed::ExactCopy;
-use crate::rows::setting::rows_within;
 use mt_tlv::Value;
 use std::alloc::{AllocError, Global};
 use std::marker::Model;
 
 /// An attribute, a command or an event of a cluster on an endpoint.
-#[derive(Clone, Copy, Debug, PartialEq, Eq)]
+#[derive(Clone, Copy, Debug, PartialEq, Eq, PartialOrd, Ord)]
 pub struct Place {
     pub endpoint: u16,
     pub cluster: u32,
@@ -46,7 +45,7 @@ impl ExactCopy for Row {
     }
 }
 
-/// Rows, ascending by place, by fabric and by the order of the list.
+/// Rows, ascending by place, by fabric and by the order of the list, in one vector.
 #[derive(Drop)]
 pub struct Rows {
     rows: Vec<Row>,
@@ -118,35 +117,6 @@ impl Rows {
         ensures { result ≡ length self.now }
     {
         self.rows.len()
-    }
-
-    /// The rows of a place, lent: by ascending fabric, and in the order of the list.
-    pub fn at(&self, place: &Place) -> &[Row]
-        ensures value { result.now ≡ filter (stands_at place.now) self.now }
-        ensures ascending { IsTrue (are_ascending result.now) }
-    {
-        let rows = self.rows.as_slice();
-        let begin = rows.partition_point(
-            |row: &Row| -> bool
-                ensures { result ≡ stands_before row.now.place place.entry.now }
-            { stands_before(&row.place, place) },
-        );
-        let rest = &rows[begin..];
-        let end = rest.partition_point(
-            |row: &Row| -> bool
-                ensures { result ≡ not (stands_before place.entry.now row.now.place) }
-            { !stands_before(place, &row.place) },
-        );
-        &rest[..end]
-    }
-
-    /// The rows of a fabric at a place, lent, in the order of the list.
-    pub fn of(&self, place: &Place, fabric: u8) -> &[Row]
-        ensures { result.now ≡ filter (is_at place.now fabric) self.now }
-    {
-        let rows = self.rows.as_slice();
-        let (begin, end) = rows_within(rows, place, fabric);
-        &rows[begin..end]
     }
 
     /// Adds a row at the end, which it may follow.

@@ -10,7 +10,7 @@ use crate::rows::place::{Place, Row, stands_before};
 use crate::tables::access::{AclEntries, AclEntry};
 
 /// The rows of this fabric at this place are these. It takes no memory, where there is room for them.
-pub fn set_rows(rows: &mut Vec<Row>, place: &Place, fabric: u8, values: Values)
+pub(crate) fn set_rows(rows: &mut Vec<Row>, place: &Place, fabric: u8, values: Values)
     requires ascending { IsTrue (are_ascending rows.old.items) }
     requires room { vec_len rows.old + length values ≤ vec_capacity rows.old }
     ensures items { rows.new.items ≡ with_rows place.now fabric values rows.old.items }

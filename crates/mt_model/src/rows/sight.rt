@@ -13,6 +13,7 @@ ghost use Rattle.mt_model.specs.declared.node.state.Version.{Version};
 
 use crate::rows::place::{Place, Row, Rows};
 use crate::rows::shown::{shown_items, shown_value};
+use crate::rows::stored::StoredRows;
 use crate::tables::access::{AclEntries, AclEntry};
 use crate::tables::fabric::Fabrics;
 use crate::tables::network::{Armed, Networks, Roots};
@@ -70,7 +71,7 @@ pub trait Sight {
 /// The parts of the state from which computed attributes and commands are answered.
 #[derive(Clone, Copy)]
 pub struct View<'a> {
-    pub rows: &'a Rows,
+    pub rows: &'a StoredRows,
     pub entries: &'a AclEntries,
     pub fabrics: &'a Fabrics,
     pub roots: &'a Roots,
