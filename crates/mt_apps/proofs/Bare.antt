@@ -1,8 +1,7 @@
 -- Computed rows as a fabric sees them.
-use Rattle.std.proofs.Common.{◌≡◌, ◌==◌, ◌&&◌, ◌||◌, ℕ, Bool, true, false, Option, Some, None, List, [], ◌∷◌, refl, ap, sym, ◌∙◌, if◌then◌else◌}
+use Rattle.std.proofs.Common.{◌≡◌, ◌==◌, ◌||◌, ℕ, Bool, true, false, Some, refl, ap, ◌∙◌, if◌then◌else◌}
 use Rattle.std.proofs.lemmas.Bool.{and_parts, eqb-true}
 use Rattle.mt_tlv.specs.declared.value.Value.{Value}
-use Rattle.mt_tlv.specs.declared.value.Value.TheVariants as values
 use Rattle.mt_model.specs.tables.Entries.{entry_value}
 use Rattle.mt_model.specs.rows.Shown.{shown_value}
 use Rattle.mt_model.specs.rows.Sight.{bare_value, is_acl, is_nocs, seen_by}

@@ -1,3 +1,4 @@
-pub mod Untagged
 pub mod Bare
+pub mod EntryEvents
 pub mod Nulls
+pub mod Untagged

@@ -1,11 +1,15 @@
 pub mod AccessControl
 pub mod BasicInformation
+pub mod Bench
+pub mod Commands
 pub mod Computed
 pub mod Descriptor
+pub mod EntryEvents
 pub mod GeneralCommissioning
 pub mod Globals
 pub mod Members
 pub mod NetworkCommissioning
+pub mod OnOff
 pub mod OperationalCredentials
 pub mod Parts
 pub mod Places

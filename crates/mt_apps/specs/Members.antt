@@ -1,6 +1,6 @@
 -- Values as trees, and as members of an array.
 use Rattle.std.specs.Prelude.{ℕ, List, map}
-use Rattle.mt_tlv.specs.Tree.{Tree, int, uint, bool, text, octets, null, bits32, bits64, structure, array, list, none, more}
+use Rattle.mt_tlv.specs.Tree.{Tree, uint, none, more}
 use Rattle.mt_tlv.specs.declared.value.Tag.{Tag}
 use Rattle.mt_tlv.specs.declared.value.Tag.TheVariants.{Anonymous, Context}
 use Rattle.mt_tlv.specs.declared.value.Value.{Value}

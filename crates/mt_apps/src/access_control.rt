@@ -114,7 +114,7 @@ fn shown_entry(
     fabric_alone(alloc, entry.fabric)
 }
 
-fn entry_value(alloc: Global, entry: &AclEntry) -> Result<Value, AllocError>
+pub(crate) fn entry_value(alloc: Global, entry: &AclEntry) -> Result<Value, AllocError>
     ensures { IfOk result (λ value. value ≡ entry_value entry.now) }
 {
     let subjects = subjects(alloc, entry.subjects.as_slice())?;

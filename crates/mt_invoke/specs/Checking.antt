@@ -2,7 +2,11 @@
 -- that stands in its way.
 use Rattle.std.specs.Prelude.{◌&&◌, not, Bool, true, false, Option, Some, None, Result, Ok, Err, if◌then◌else◌}
 use Rattle.mt_acl.specs.Access.{is_granted}
+use Rattle.mt_tlv.specs.View.{tree}
+use Rattle.mt_tlv.specs.declared.value.Value.{Value}
+use Rattle.mt_meta.specs.Fields.{has_fields}
 use Rattle.mt_meta.specs.Finding.{find_command_of, privilege_of}
+use Rattle.mt_meta.specs.Table.{command_fields}
 use Rattle.mt_meta.specs.declared.finding.Asked.TheVariants.{Command}
 use Rattle.mt_meta.specs.declared.meta.CommandMeta.{CommandMeta}
 use Rattle.mt_model.specs.rows.Seen.{Seen}
@@ -34,3 +38,7 @@ if_found timed (Ok meta) = timely timed meta
 -- access comes before it is told that something is not there
 abbrev pub checked : Seen → Actor → Place → Bool → Result CommandMeta Status
 checked seen actor command timed = if may_invoke seen actor command then if_found timed (find_command_of command) else Err UnsupportedAccess
+
+-- Whether these are fields of the command, as the table says. It is asked once nothing of the above stands in its way.
+abbrev pub has_form : Place → Value → Bool
+has_form command fields = has_fields (command_fields command.cluster command.leaf) (tree fields)

@@ -1,13 +1,14 @@
-//! The first status that stands in a command's way.
+//! The first status that stands in a command's way, and the form of its fields.
 
 ghost use Rattle.std.specs.Prelude.{◌≡◌};
 ghost use Rattle.mt_meta.specs.Finding.{find_command_of};
 ghost use Rattle.mt_model.specs.rows.Seen.{seen_as};
-ghost use Rattle.mt_invoke.specs.Checking.{checked, is_scoped, may_invoke, timely};
+ghost use Rattle.mt_invoke.specs.Checking.{checked, has_form, is_scoped, may_invoke, timely};
 
 use mt_acl::grants;
-use mt_meta::{Asked, CommandMeta, find_command, privilege_asked};
+use mt_meta::{Asked, CommandMeta, command_fields, find_command, has_fields, privilege_asked};
 use mt_model::{Actor, Place, Sight, Status};
+use mt_tlv::Value;
 
 /// What the table says of a command, if nothing stands in its way. `timed` says whether the request was
 /// timed.
@@ -68,4 +69,14 @@ fn timely(timed: bool, meta: CommandMeta) -> Result<CommandMeta, Status>
         return Err(Status::NeedsTimedInteraction);
     }
     Ok(meta)
+}
+
+/// Whether these may be the fields of a command, as the table says: a structure in which each field that must
+/// be there is, and each that is there has its type, its width and, where that is fixed, its length. What the
+/// table does not name is passed over. A command whose fields have another form is refused with
+/// INVALID_COMMAND, once `check` has nothing against it and before its cluster is asked.
+pub fn has_form(command: &Place, fields: &Value) -> bool
+    ensures { result ≡ has_form command.now fields.now }
+{
+    has_fields(command_fields(command.cluster, command.leaf), fields)
 }

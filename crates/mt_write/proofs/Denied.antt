@@ -26,7 +26,7 @@ use Rattle.mt_tlv.specs.Tree.{Tree, Elements, none, more}
 use Rattle.mt_tlv.specs.View.{tree}
 use Rattle.mt_tlv.specs.declared.value.Value.{Value}
 use Rattle.mt_write.specs.Entries.{kept_entry}
-use Rattle.mt_write.specs.Forms.{all_elements, has_type, is_item, is_within}
+use Rattle.mt_meta.specs.Fields.{all_elements, has_type, is_item, is_within}
 use Rattle.mt_write.specs.Items.{given_items, in_front, is_append, kept_each, kept_item, new_items, with_room}
 use Rattle.mt_write.specs.Laws.{DeniesExactly, IsDenied}
 use Rattle.mt_write.specs.Latest.{entries_now, rows_now}

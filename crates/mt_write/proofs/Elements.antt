@@ -1,18 +1,12 @@
 -- Elements of containers, and the members that they are of.
-use Rattle.std.proofs.Common.{◌≡◌, ◌&&◌, ◌++◌, Bool, List, [], ◌∷◌, length, map, refl, ap, rules}
-use Rattle.std.specs.List.{list_all}
-use Rattle.mt_tlv.specs.Tree.{Tree, none, more}
+use Rattle.std.proofs.Common.{◌≡◌, ◌++◌, List, [], ◌∷◌, length, map, refl, ap, rules}
+use Rattle.mt_tlv.specs.Tree.{none, more}
 use Rattle.mt_tlv.specs.declared.value.Tag.TheVariants.{Anonymous}
 use Rattle.mt_tlv.specs.View.{elements, tree}
 use Rattle.mt_tlv.specs.declared.value.Tag.{Tag}
 use Rattle.mt_tlv.specs.declared.value.Value.{Value}
-use Rattle.mt_write.specs.Forms.{all_elements}
 use Rattle.mt_write.specs.Writing.{with_items}
 use Rattle.mt_meta.specs.Forms.{count_in}
-
-pub all_of_elements : (test : Tree → Bool) (members : List (Tag × Value)) → all_elements test (elements members) ≡ list_all (λ (m : Tag × Value). test (tree m.1)) members
-all_of_elements test [] = refl
-all_of_elements test (m ∷ members) = ap (λ rest. test (tree m.1) && rest) (all_of_elements test members)
 
 pub count_in_elements : (members : List (Tag × Value)) → count_in (elements members) ≡ length members
 count_in_elements [] = refl

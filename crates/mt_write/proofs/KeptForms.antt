@@ -17,7 +17,7 @@ use Rattle.mt_meta.specs.declared.meta.Kind.TheVariants as kinds
 use Rattle.mt_meta.specs.declared.rows.Field.{Field}
 use Rattle.mt_meta.specs.declared.rows.Form.{Form}
 use Rattle.mt_meta.specs.declared.rows.Form.TheVariants as forms
-use Rattle.mt_write.specs.Forms.{are_octets, are_within, has_type, have_types, is_bool, is_item, is_number, is_text, is_within, field_has_type, field_is_within, octets_fit, text_fits}
+use Rattle.mt_meta.specs.Fields.{are_octets, are_within, has_type, have_types, is_bool, is_item, is_number, is_text, is_within, field_has_type, field_is_within, octets_fit, text_fits}
 use Rattle.mt_write.specs.Items.{kept_fields, kept_item, kept_value, tagged}
 
 pub and-both : (a b : Bool) → (a && b) ≡ true → (a ≡ true) × (b ≡ true)
@@ -43,12 +43,12 @@ text-form most (structure es) typed fits = typed
 text-form most (array es) typed fits = typed
 text-form most (list es) typed fits = typed
 
-octets-form : (most : ℕ) (t : Tree) → are_octets t ≡ true → octets_fit most t ≡ true → kept.are_octets most t ≡ true
+octets-form : (most : ℕ) (t : Tree) → are_octets t ≡ true → octets_fit 0 most t ≡ true → kept.are_octets most t ≡ true
 octets-form most (int z) typed fits = typed
 octets-form most (uint n) typed fits = typed
 octets-form most (bool b) typed fits = typed
 octets-form most (text s) typed fits = typed
-octets-form most (octets s) typed fits = fits
+octets-form most (octets s) typed fits = (and-both (nat_le 0 (length s)) (nat_le (length s) most) fits).1
 octets-form most null typed fits = typed
 octets-form most (bits32 n) typed fits = typed
 octets-form most (bits64 n) typed fits = typed
@@ -141,21 +141,21 @@ pub value-form : (kind : Kind) (limit : ℕ) (form : Form) (v : Value) → fits_
 value-form kinds.Bool limit forms.Bool v fits typed within = bool-value limit v typed
 value-form kinds.Bool limit (forms.Uint greatest) v fits typed within = absurd cc
 value-form kinds.Bool limit (forms.Text least most) v fits typed within = absurd cc
-value-form kinds.Bool limit (forms.Octets most) v fits typed within = absurd cc
+value-form kinds.Bool limit (forms.Octets least most) v fits typed within = absurd cc
 value-form kinds.Bool limit forms.Subjects v fits typed within = absurd cc
 value-form kinds.Bool limit forms.Targets v fits typed within = absurd cc
 value-form kinds.Bool limit forms.FabricIndex v fits typed within = absurd cc
 value-form kinds.Uint limit forms.Bool v fits typed within = absurd cc
 value-form kinds.Uint limit (forms.Uint greatest) v fits typed within = uint-value limit greatest v fits typed
 value-form kinds.Uint limit (forms.Text least most) v fits typed within = absurd cc
-value-form kinds.Uint limit (forms.Octets most) v fits typed within = absurd cc
+value-form kinds.Uint limit (forms.Octets least most) v fits typed within = absurd cc
 value-form kinds.Uint limit forms.Subjects v fits typed within = absurd cc
 value-form kinds.Uint limit forms.Targets v fits typed within = absurd cc
 value-form kinds.Uint limit forms.FabricIndex v fits typed within = absurd cc
 value-form kinds.Uint32 limit forms.Bool v fits typed within = absurd cc
 value-form kinds.Uint32 limit (forms.Uint greatest) v fits typed within = uint32-value limit greatest v fits typed
 value-form kinds.Uint32 limit (forms.Text least most) v fits typed within = absurd cc
-value-form kinds.Uint32 limit (forms.Octets most) v fits typed within = absurd cc
+value-form kinds.Uint32 limit (forms.Octets least most) v fits typed within = absurd cc
 value-form kinds.Uint32 limit forms.Subjects v fits typed within = absurd cc
 value-form kinds.Uint32 limit forms.Targets v fits typed within = absurd cc
 value-form kinds.Uint32 limit forms.FabricIndex v fits typed within = absurd cc
@@ -165,7 +165,7 @@ value-form kinds.Null limit form v fits typed within = absurd cc
 value-form kinds.Text limit forms.Bool v fits typed within = absurd cc
 value-form kinds.Text limit (forms.Uint greatest) v fits typed within = absurd cc
 value-form kinds.Text limit (forms.Text least most) v fits typed within = text-value limit least most v fits typed within
-value-form kinds.Text limit (forms.Octets most) v fits typed within = absurd cc
+value-form kinds.Text limit (forms.Octets least most) v fits typed within = absurd cc
 value-form kinds.Text limit forms.Subjects v fits typed within = absurd cc
 value-form kinds.Text limit forms.Targets v fits typed within = absurd cc
 value-form kinds.Text limit forms.FabricIndex v fits typed within = absurd cc
@@ -190,7 +190,7 @@ module _ (tree_value : (t : Tree) → tree (value_of t) ≡ t) where
   text-kept : (most : ℕ) (t : Tree) → is_text t ≡ true → text_fits 0 most t ≡ true → kept.is_text most (tree (value_of t)) ≡ true
   text-kept most t typed fits = subst (λ u. kept.is_text most u ≡ true) (sym (tree_value t)) (text-form most t typed fits)
 
-  octets-kept : (most : ℕ) (t : Tree) → are_octets t ≡ true → octets_fit most t ≡ true → kept.are_octets most (tree (value_of t)) ≡ true
+  octets-kept : (most : ℕ) (t : Tree) → are_octets t ≡ true → octets_fit 0 most t ≡ true → kept.are_octets most (tree (value_of t)) ≡ true
   octets-kept most t typed fits = subst (λ u. kept.are_octets most u ≡ true) (sym (tree_value t)) (octets-form most t typed fits)
 
   number-kept : (greatest bits : ℕ) (t : Tree) → ((n : ℕ) → nat_le n greatest ≡ true → nat_lt n (2 ^ bits) ≡ true) → is_number greatest t ≡ true → kept.is_number bits (tree (value_of t)) ≡ true
@@ -210,16 +210,16 @@ module _ (tree_value : (t : Tree) → tree (value_of t) ≡ t) where
       and-true (kept.is_text 16 (tree (value_of t))) (kept.is_text 16 (tree (value_of u))) (text-kept 16 t types.0 limits.0) (text-kept 16 u last_type.0 last_limit.0)
 
   bench-form : (fabric : ℕ) (a b c : Option Tree) → nat_lt fabric (2 ^ 8) ≡ true
-      → (field_has_type (needed 1 (forms.Text 0 32)) a && (field_has_type (needed 2 (forms.Octets 64)) b && (field_has_type fabric_field c && true))) ≡ true
-      → (field_is_within (needed 1 (forms.Text 0 32)) a && (field_is_within (needed 2 (forms.Octets 64)) b && (field_is_within fabric_field c && true))) ≡ true
-      → is_bench_item (elements (tagged 1 (kept_value fabric (forms.Text 0 32) a) ++ (tagged 2 (kept_value fabric (forms.Octets 64) b) ++ (tagged 254 (kept_value fabric forms.FabricIndex c) ++ [])))) ≡ true
+      → (field_has_type (needed 1 (forms.Text 0 32)) a && (field_has_type (needed 2 (forms.Octets 0 64)) b && (field_has_type fabric_field c && true))) ≡ true
+      → (field_is_within (needed 1 (forms.Text 0 32)) a && (field_is_within (needed 2 (forms.Octets 0 64)) b && (field_is_within fabric_field c && true))) ≡ true
+      → is_bench_item (elements (tagged 1 (kept_value fabric (forms.Text 0 32) a) ++ (tagged 2 (kept_value fabric (forms.Octets 0 64) b) ++ (tagged 254 (kept_value fabric forms.FabricIndex c) ++ [])))) ≡ true
   bench-form fabric None b c fits typed within = impossible typed
   bench-form fabric (Some t) None c fits typed within = impossible ((and-both (is_text t) (false && (field_has_type fabric_field c && true)) typed).1)
   bench-form fabric (Some t) (Some u) c fits typed within =
       let types = and-both (is_text t) (are_octets u && (field_has_type fabric_field c && true)) typed in
-      let limits = and-both (text_fits 0 32 t) (octets_fit 64 u && (field_is_within fabric_field c && true)) within in
+      let limits = and-both (text_fits 0 32 t) (octets_fit 0 64 u && (field_is_within fabric_field c && true)) within in
       let secret_type = and-both (are_octets u) (field_has_type fabric_field c && true) types.1 in
-      let secret_limit = and-both (octets_fit 64 u) (field_is_within fabric_field c && true) limits.1 in
+      let secret_limit = and-both (octets_fit 0 64 u) (field_is_within fabric_field c && true) limits.1 in
       let name = kept.is_text 32 (tree (value_of t)) in
       let secret = kept.are_octets 64 (tree (value_of u)) in
       and-true (name && secret) (nat_lt fabric (2 ^ 8)) (and-true name secret (text-kept 32 t types.0 limits.0) (octets-kept 64 u secret_type.0 secret_limit.0)) fits

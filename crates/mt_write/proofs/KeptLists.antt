@@ -16,7 +16,7 @@ use Rattle.mt_meta.specs.Table.{fields_of}
 use Rattle.mt_meta.specs.declared.meta.Kind.TheVariants as kinds
 use Rattle.mt_meta.specs.declared.meta.Meta.{Meta}
 use Rattle.mt_meta.specs.declared.rows.Field.{Field}
-use Rattle.mt_write.specs.Forms.{all_elements, is_item}
+use Rattle.mt_meta.specs.Fields.{all_elements, is_item}
 use Rattle.mt_write.specs.Items.{given_items, in_front, kept_each, new_items, with_room}
 use Rattle.mt_write.specs.Writing.{array_of, array_with, behind, list_with, members_of, with_items}
 use Rattle.mt_write.proofs.KeptForms.{and-both, and-true}

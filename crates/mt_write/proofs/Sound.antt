@@ -7,7 +7,6 @@ use Rattle.mt_tlv.specs.View.{tree, value_of}
 use Rattle.mt_tlv.specs.declared.value.Value.{Value}
 use Rattle.mt_model.specs.texts.Config.{is_entry}
 use Rattle.mt_model.specs.tables.Entries.{entry_of, entry_with}
-use Rattle.mt_model.specs.messages.Blocks.{place_named}
 use Rattle.mt_model.specs.rows.Seen.{Seen}
 use Rattle.mt_model.specs.rows.Sight.{same_place}
 use Rattle.mt_model.specs.declared.tables.access.AclEntry.{AclEntry}
@@ -16,7 +15,7 @@ use Rattle.mt_model.specs.declared.tables.access.Auth.{Auth}
 use Rattle.mt_model.specs.declared.tables.access.Privilege.{Privilege}
 use Rattle.mt_model.specs.declared.tables.access.Target.{Target}
 use Rattle.mt_model.specs.declared.node.action.NodeStep.{NodeStep}
-use Rattle.mt_model.specs.declared.node.action.NodeStep.TheVariants.{SetRow, SetEntries, PutNetwork, RemoveNetwork, ConnectNetwork, MoveNetwork}
+use Rattle.mt_model.specs.declared.node.action.NodeStep.TheVariants.{SetRow, SetEntries, PutNetwork, RemoveNetwork, ConnectNetwork, MoveNetwork, Emit}
 use Rattle.mt_model.specs.declared.messages.message.Index.{Index}
 use Rattle.mt_model.specs.declared.messages.message.WriteItem.{WriteItem}
 use Rattle.mt_model.specs.declared.rows.place.Place.{Place}
@@ -33,8 +32,9 @@ use Rattle.mt_meta.specs.declared.meta.Meta.{Meta}
 use Rattle.mt_meta.specs.declared.rows.Form.{Form}
 use Rattle.mt_meta.specs.declared.rows.Takes.{Takes}
 use Rattle.mt_meta.specs.declared.rows.Takes.TheVariants as takes
-use Rattle.mt_write.specs.Entries.{kept_entry, target_in, valid_entry}
-use Rattle.mt_write.specs.Forms.{has_type, is_item, is_within}
+use Rattle.mt_meta.specs.Targets.{target_in}
+use Rattle.mt_write.specs.Entries.{kept_entry, valid_entry}
+use Rattle.mt_meta.specs.Fields.{has_type, is_item, is_within}
 use Rattle.mt_write.specs.Items.{is_append, kept_item}
 use Rattle.mt_write.specs.Latest.{entries_now, entries_set, latest, newer, row_set, rows_now}
 use Rattle.mt_write.specs.Laws.{IsSoundSight, LeavesSound, are_entries_of, is_entry_of, is_sound_row, is_sound_step}
@@ -315,6 +315,7 @@ module _ (place : Place) (meta : Meta) (there : find_of place ≡ Ok meta) (fabr
   newer-row (RemoveNetwork id) found is before = before
   newer-row (ConnectNetwork id) found is before = before
   newer-row (MoveNetwork id index) found is before = before
+  newer-row (Emit place priority fabric value) found is before = before
 
   latest-row : (found : Option (List Value)) (steps : List NodeStep) → list_all is_sound_step steps ≡ true → fine (unwrap_or found stored) → fine (unwrap_or (latest (row_set place fabric) found steps) stored)
   latest-row found [] all before = before
@@ -341,6 +342,7 @@ module _ (fabric : ℕ) (stored : List AclEntry) where
   newer-entries (RemoveNetwork id) found is before = before
   newer-entries (ConnectNetwork id) found is before = before
   newer-entries (MoveNetwork id index) found is before = before
+  newer-entries (Emit place priority fabric value) found is before = before
 
   latest-entries : (found : Option (List AclEntry)) (steps : List NodeStep) → list_all is_sound_step steps ≡ true → fine-entries (unwrap_or found stored) → fine-entries (unwrap_or (latest (entries_set fabric) found steps) stored)
   latest-entries found [] all before = before

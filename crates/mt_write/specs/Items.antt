@@ -16,7 +16,7 @@ use Rattle.mt_model.specs.declared.messages.status.Status.TheVariants.{Constrain
 use Rattle.mt_meta.specs.declared.rows.Field.{Field}
 use Rattle.mt_meta.specs.declared.rows.Form.{Form}
 use Rattle.mt_meta.specs.declared.rows.Form.TheVariants as forms
-use Rattle.mt_write.specs.Forms.{all_elements, are_within, is_item}
+use Rattle.mt_meta.specs.Fields.{all_elements, are_within, is_item}
 
 -- The items that are written.
 

@@ -15,24 +15,26 @@ use Rattle.mt_tlv.specs.declared.value.Value.{Value}
 use Rattle.mt_model.specs.declared.tables.access.Actor.{Actor}
 use Rattle.mt_model.specs.declared.tables.access.Privilege.{Privilege}
 use Rattle.mt_model.specs.declared.node.action.NodeStep.{NodeStep}
-use Rattle.mt_model.specs.declared.node.action.NodeStep.TheVariants.{SetRow, SetEntries}
+use Rattle.mt_model.specs.declared.node.action.NodeStep.TheVariants.{SetRow, SetEntries, Emit}
 use Rattle.mt_model.specs.declared.messages.message.WriteItem.{WriteItem}
 use Rattle.mt_model.specs.declared.rows.place.Place.{Place}
 use Rattle.mt_model.specs.declared.messages.status.Status.TheVariants.{UnsupportedAccess}
 use Rattle.mt_write.specs.Writing.{fabric_of, is_scoped, item_step, own_values, write_answer}
 
--- a step sets what is the writer's own, or nobody's where a place is not scoped
+-- a step sets what is the asker's own, or nobody's where a place is not scoped, or tells the asker's fabric of something
 abbrev pub is_own_step : Actor → NodeStep → Bool
 is_own_step actor (SetRow place fabric values) = fabric == (if is_scoped (find_of place) then actor.fabric else 0)
 is_own_step actor (SetEntries fabric entries) = fabric == actor.fabric
+is_own_step actor (Emit place priority fabric value) = fabric == actor.fabric
 is_own_step actor step = false
 
 abbrev pub TouchesItsOwn : Type 0
 TouchesItsOwn = (seen : Seen) (actor : Actor) (items : List WriteItem) (timed : Bool) → IsTrue (list_all (is_own_step actor) (write_answer seen actor items timed).rows)
 
--- a step sets the row of a place that is not scoped
+-- a step sets the row of a place that is not scoped, or sets nothing
 abbrev pub is_unscoped_step : NodeStep → Bool
 is_unscoped_step (SetRow place fabric values) = not (is_scoped (find_of place))
+is_unscoped_step (Emit place priority fabric value) = true
 is_unscoped_step step = false
 
 -- A writer of no fabric, for whom no entry stands, sets nothing that is scoped.
@@ -69,6 +71,7 @@ are_entries_of fabric entries = list_all (is_entry_of fabric) entries && nat_le 
 abbrev pub is_sound_step : NodeStep → Bool
 is_sound_step (SetRow place fabric values) = is_sound_row (is_stored place) values (find_of place)
 is_sound_step (SetEntries fabric entries) = are_entries_of fabric entries
+is_sound_step (Emit place priority fabric value) = true
 is_sound_step step = false
 
 -- What the writer's fabric sees is its own in its form.

@@ -1,5 +1,4 @@
 pub mod Entries
-pub mod Forms
 pub mod Items
 pub mod Latest
 pub mod Laws

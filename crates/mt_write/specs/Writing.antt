@@ -37,7 +37,7 @@ use Rattle.mt_meta.specs.declared.rows.Form.{Form}
 use Rattle.mt_meta.specs.declared.rows.Takes.{Takes}
 use Rattle.mt_meta.specs.declared.rows.Takes.TheVariants as takes
 use Rattle.mt_write.specs.Entries.{kept_entry}
-use Rattle.mt_write.specs.Forms.{has_type, is_within}
+use Rattle.mt_meta.specs.Fields.{has_type, is_within}
 use Rattle.mt_write.specs.Items.{given_items, is_append, kept_item, new_items}
 use Rattle.mt_write.specs.Latest.{entries_now, rows_now}
 use Rattle.mt_write.specs.declared.writing.Written.{Written}

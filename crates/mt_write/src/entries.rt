@@ -5,65 +5,15 @@ ghost use Rattle.mt_tlv.specs.View.{elements, tree};
 ghost use Rattle.mt_model.specs.tables.Entries.{each_in, entry_of, list_in, mode_numbered, number_in, privilege_numbered};
 ghost use Rattle.mt_model.specs.Trees.{field_in};
 ghost use Rattle.mt_model.specs.texts.Config.{is_entry};
-ghost use Rattle.mt_write.specs.Entries.{kept_entry, nullable_field, nullable_in, target_in, valid_entry};
+ghost use Rattle.mt_meta.specs.Targets.{target_in};
+ghost use Rattle.mt_write.specs.Entries.{kept_entry, valid_entry};
 
 use mt_acl::valid;
 use mt_meta::clusters::access_control::{AUTH_MODE, PRIVILEGE, SUBJECTS, TARGETS};
-use mt_model::{AclEntry, Auth, Privilege, Subjects, Target, Targets, field, structure_of};
+use mt_meta::target_of;
+use mt_model::{AclEntry, Auth, Privilege, Subjects, Targets, field, structure_of};
 use mt_tlv::{Tag, Value};
 use std::alloc::{AllocError, Global};
-
-/// The target that a value is, None where it is none.
-pub(crate) fn target_of(value: &Value) -> Option<Target>
-    ensures { result ≡ target_in (tree value.now) }
-{
-    let members = structure_of(value)?;
-    Some(Target {
-        cluster: u32_or_null(members, 0)?,
-        endpoint: u16_or_null(members, 1)?,
-        device: u32_or_null(members, 2)?,
-    })
-}
-
-// A number of 32 bits, or null.
-fn u32_or_null(members: &[(Tag, Value)], number: u8) -> Option<Option<u32>>
-    ensures { result ≡ nullable_field 0xffffffff (field_in number (elements members.now)) }
-{
-    match field(members, number) {
-        Some(value) => nullable_u32(value),
-        None => Some(None),
-    }
-}
-
-fn nullable_u32(value: &Value) -> Option<Option<u32>>
-    ensures { result ≡ nullable_in 0xffffffff (tree value.now) }
-{
-    match value {
-        Value::Null => Some(None),
-        Value::Uint(number) if *number <= u32::MAX as u64 => Some(Some(*number as u32)),
-        _ => None,
-    }
-}
-
-// A number of 16 bits, or null.
-fn u16_or_null(members: &[(Tag, Value)], number: u8) -> Option<Option<u16>>
-    ensures { result ≡ nullable_field 0xffff (field_in number (elements members.now)) }
-{
-    match field(members, number) {
-        Some(value) => nullable_u16(value),
-        None => Some(None),
-    }
-}
-
-fn nullable_u16(value: &Value) -> Option<Option<u16>>
-    ensures { result ≡ nullable_in 0xffff (tree value.now) }
-{
-    match value {
-        Value::Null => Some(None),
-        Value::Uint(number) if *number <= u16::MAX as u64 => Some(Some(*number as u16)),
-        _ => None,
-    }
-}
 
 /// The entry of this fabric that an item is kept as, None where it breaks a rule.
 pub(crate) fn keep_entry(

@@ -11,8 +11,7 @@ ghost use Rattle.mt_write.specs.Entries.{kept_entry};
 ghost use Rattle.mt_write.specs.Items.{given_items, is_append, is_fabric_index, kept_each, kept_fields, kept_item, kept_value, new_items, tagged, with_room};
 
 use crate::entries::keep_entry;
-use crate::forms::{are_items, are_within, is_item};
-use mt_meta::{Field, Form};
+use mt_meta::{Field, Form, are_items, are_within, is_item};
 use mt_model::{AclEntry, Index, Listed, Status, field, structure_of};
 use mt_tlv::{Members, Tag, Value, values_are_trees};
 use std::alloc::{AllocError, Global};

@@ -3,7 +3,6 @@
 //!
 //! - `writing`: the answer to a request, item by item;
 //! - `entries`: access control entries as they are written;
-//! - `forms`: the forms of written values;
 //! - `opening`: whether an item gets to its attribute;
 //! - `values`: the values behind an item;
 //! - `latest`: what the steps before an item leave;
@@ -12,7 +11,6 @@
 #![tactic(auto)]
 
 mod entries;
-mod forms;
 mod items;
 mod latest;
 mod laws;

@@ -1,6 +1,6 @@
 use Rattle.std.proofs.Common.{◌≡◌, ◌∙◌, sym, Some, None}
 use Rattle.mt_tlv.specs.View.{tree}
-use Rattle.mt_write.specs.Entries.{target_in}
+use Rattle.mt_meta.specs.Targets.{target_in}
 use Rattle.mt_write.proofs.EachIn.{each_next, each_bad, each_end}
 use Rattle.mt_write.proofs.entries.each_target.Goals as goal
 

@@ -1,7 +1,7 @@
 use Rattle.std.proofs.Common.{◌≡◌, drop}
 use Rattle.mt_tlv.specs.View.{elements}
 use Rattle.mt_model.specs.tables.Entries.{each_in}
-use Rattle.mt_write.specs.Entries.{target_in}
+use Rattle.mt_meta.specs.Targets.{target_in}
 use Rattle.mt_write.proofs.EachIn.{with_front}
 use Rattle.mt_write.proofs.entries.each_target.Given as goal
 
