@@ -1,6 +1,6 @@
 //! What a single field tells.
 
-ghost use Rattle.std.specs.Prelude.{◌≡◌, ◌≤◌, ◌*◌, if◌then◌else◌, length, Some, None, IfOk, IfSome};
+ghost use Rattle.std.specs.Prelude.{◌≡◌, ◌↔◌, ◌≤◌, ◌*◌, if◌then◌else◌, length, Some, None, IfOk, IfSome};
 ghost use Rattle.mt_model.specs.declared.limits.TheConstants.{LAST_TIME};
 ghost use Rattle.hex.specs.Hex.{decode_of, hex_digit_value};
 ghost use Rattle.mt_files.specs.Field.{bytes_in, digits_from, fate_in, fate_text, number_between, ok_of, opcode_in, payload_in, peer_in, port_in, up_to};
@@ -70,20 +70,27 @@ pub fn payload(alloc: Global, most: usize, text: &[u8]) -> Result<Option<Bytes>,
     Ok(None)
 }
 
-// Reads a byte from each two digits; false where one is none.
+// Reads a byte from each two digits; false where one is none. It goes on behind one that is none, so that
+// the compiler works out many digits at once.
 fn decode(text: &[u8], bytes: &mut [u8]) -> bool
     requires { length text.now ≡ 2 * length bytes.old }
     ensures { ok_of (decode_of text.now) ≡ (if result then Some bytes.new else None) }
 {
+    let mut worst = 0;
     'bytes: for i in 0..bytes.len() {
         let high = digit(text[2 * i]);
         let low = digit(text[2 * i + 1]);
-        if high > 15 || low > 15 {
-            return false;
-        }
-        bytes[i] = high * 16 + low;
+        worst = greatest(worst, high, low);
+        bytes[i] = high % 16 * 16 + low % 16;
     }
-    true
+    worst <= 15
+}
+
+fn greatest(a: u8, b: u8, c: u8) -> u8
+    ensures { (result ≤ 15) ↔ ((a ≤ 15) × (b ≤ 15) × (c ≤ 15)) }
+{
+    let most = if a < b { b } else { a };
+    if most < c { c } else { most }
 }
 
 // The value of a hex digit, in either case; above 15 where it is none.

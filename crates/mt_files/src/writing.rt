@@ -11,6 +11,10 @@ use itoa::Buffer;
 use mt_outside::Peer;
 use std::alloc::AllocError;
 
+// How many bytes are written in hex at a time. The digits are written over zeroes, and longer runs of those are
+// filled byte by byte.
+const PART: usize = 512;
+
 /// The letter of a line.
 pub fn push_letter(letter: u8, out: &mut Vec<u8>) -> Result<(), AllocError>
     ensures written { OnOk result (out.new.items ≡ out.old.items ++ letter ∷ 32 ∷ []) }
@@ -92,6 +96,19 @@ pub fn push_payload(bytes: &[u8], out: &mut Vec<u8>) -> Result<(), AllocError>
 
 /// Bytes in lower case hex, with nothing behind them.
 pub fn push_hex(bytes: &[u8], out: &mut Vec<u8>) -> Result<(), AllocError>
+    ensures written { OnOk result (out.new.items ≡ out.old.items ++ encode_lower bytes.now) }
+    ensures kept { StartsWith out.new.items out.old.items }
+{
+    let mut rest = bytes;
+    'rest: while rest.len() > PART {
+        let (part, behind) = rest.split_at(PART);
+        push_part(part, out)?;
+        rest = behind;
+    }
+    push_part(rest, out)
+}
+
+fn push_part(bytes: &[u8], out: &mut Vec<u8>) -> Result<(), AllocError>
     ensures written { OnOk result (out.new.items ≡ out.old.items ++ encode_lower bytes.now) }
     ensures kept { StartsWith out.new.items out.old.items }
 {

@@ -1,10 +1,9 @@
 -- A read is denied exactly where nothing grants.
-use Rattle.std.proofs.Common.{◌≡◌, ◌↔◌, ◌⊎◌, inl, inr, ℕ, ◌||◌, not, Bool, true, false, List, [], ◌∷◌, Option, Some, None, Result, Ok, Err, refl, sym, ap, ◌∙◌, arith, if◌then◌else◌}
+use Rattle.std.proofs.Common.{◌≡◌, ◌⊎◌, inl, inr, ℕ, ◌||◌, not, Bool, true, false, List, [], ◌∷◌, Option, Some, None, Result, Ok, Err, refl, sym, ap, ◌∙◌, arith, if◌then◌else◌}
 use Rattle.std.specs.List.{list_any}
 use Rattle.std.specs.Result.{result_unwrap_or}
 use Rattle.mt_acl.specs.Access.{implicit_grants, own_entry_grants}
-use Rattle.mt_meta.specs.Finding.{attribute_of, find_of, found, has_cluster, is_endpoint, of_found, privilege_of}
-use Rattle.mt_meta.specs.declared.finding.Asked.TheVariants.{Read}
+use Rattle.mt_meta.specs.Finding.{attribute_of, find_of, found, has_cluster, is_endpoint, of_found}
 use Rattle.mt_meta.specs.declared.meta.Meta.{Meta}
 use Rattle.mt_model.specs.messages.Blocks.{path_of}
 use Rattle.mt_model.specs.rows.Seen.{Seen}

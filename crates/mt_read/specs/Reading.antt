@@ -1,6 +1,6 @@
 -- What a read answers (Matter Core Specification, section 8.4, Read Interaction), made of what the reader's
 -- fabric sees.
-use Rattle.std.specs.Prelude.{ℕ, ◌==◌, ◌&&◌, Bool, true, false, List, [], ◌∷◌, Option, Some, None, Result, Ok, Err, filter, map, if◌then◌else◌}
+use Rattle.std.specs.Prelude.{◌==◌, ◌&&◌, Bool, true, false, List, [], ◌∷◌, Option, Some, None, Result, Ok, Err, filter, if◌then◌else◌}
 use Rattle.std.specs.List.{flat_map, list_any}
 use Rattle.mt_tlv.specs.Tree.{Elements, none, more}
 use Rattle.mt_tlv.specs.View.{tree}

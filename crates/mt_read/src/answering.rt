@@ -1,6 +1,6 @@
 //! The answer to a request, path by path.
 
-ghost use Rattle.std.specs.Prelude.{◌≡◌, ◌↔◌, ◌++◌, None, Some, IfOk, OnOk, option_to_list};
+ghost use Rattle.std.specs.Prelude.{◌≡◌, ◌↔◌, ◌++◌, None, Some, IfOk, OnOk};
 ghost use Rattle.std.specs.List.{flat_map, list_any};
 ghost use Rattle.mt_read.specs.Reading.{path_items, read_answer, wildcard_items};
 ghost use Rattle.mt_model.specs.rows.Seen.{seen_as};
@@ -69,7 +69,7 @@ impl<'a, S: Sight> Reader<'a, S> {
         ensures { let seen = seen_as self.now.actor.now.fabric (S.rows_of self.now.sight.now) (S.versions self.now.sight.now) (S.all_entries self.now.sight.now) in
             IfOk result (λ items. items.items ≡ flat_map (path_items seen self.now.actor.now self.now.filtered self.now.versions.now) paths.now) }
     {
-        let mut items = Vec::new(self.alloc);
+        let mut items = Vec::with_capacity(self.alloc, paths.len())?;
         for path in paths {
             self.push_path(path, &mut items)?;
         }
@@ -81,10 +81,7 @@ impl<'a, S: Sight> Reader<'a, S> {
             OnOk result (items.new.items ≡ items.old.items ++ path_items seen self.now.actor.now self.now.filtered self.now.versions.now path.now) }
     {
         match path.place() {
-            Some(place) => {
-                let item = self.concrete_item(&place)?;
-                push_one(item, items)
-            }
+            Some(place) => self.push_concrete(&place, items),
             None => self.push_wildcard(path, items),
         }
     }
@@ -106,18 +103,8 @@ impl<'a, S: Sight> Reader<'a, S> {
     {
         items.reserve(places.len())?;
         for place in places {
-            let item = self.wildcard_item(place)?;
-            push_one(item, items)?;
+            self.push_named(place, items)?;
         }
         Ok(())
     }
-}
-
-fn push_one(item: Option<Item>, items: &mut Vec<Item>) -> Result<(), AllocError>
-    ensures { OnOk result (items.new.items ≡ items.old.items ++ option_to_list item) }
-{
-    if let Some(item) = item {
-        items.push(item)?;
-    }
-    Ok(())
 }

@@ -1,6 +1,6 @@
 //! A read: who asks of what, and what it is answered at one place.
 
-ghost use Rattle.std.specs.Prelude.{◌≡◌, ◌==◌, ◌&&◌, IfOk, Some, option_to_list};
+ghost use Rattle.std.specs.Prelude.{◌≡◌, ◌==◌, ◌&&◌, ◌++◌, ◌∷◌, [], OnOk, Some};
 ghost use Rattle.std.specs.List.{list_any};
 ghost use Rattle.std.specs.Result.{result_unwrap_or};
 ghost use Rattle.mt_meta.specs.Finding.{find_of, of_found};
@@ -31,31 +31,35 @@ pub(crate) struct Reader<'a, S> {
 }
 
 impl<'a, S: Sight> Reader<'a, S> {
-    /// What a place is answered with that a path names by itself: access comes first, then what there is.
-    pub(crate) fn concrete_item(&self, place: &Place) -> Result<Option<Item>, AllocError>
+    /// Appends what a place is answered with that a path names by itself: access comes first, then what there is.
+    pub(crate) fn push_concrete(
+        &self,
+        place: &Place,
+        items: &mut Vec<Item>,
+    ) -> Result<(), AllocError>
         ensures { let seen = seen_as self.now.actor.now.fabric (S.rows_of self.now.sight.now) (S.versions self.now.sight.now) (S.all_entries self.now.sight.now) in
-            IfOk result (λ item. option_to_list item ≡ concrete_items seen self.now.actor.now self.now.filtered self.now.versions.now place.now) }
+            OnOk result (items.new.items ≡ items.old.items ++ concrete_items seen self.now.actor.now self.now.filtered self.now.versions.now place.now) }
     {
         let found = find(place);
         if !self.may_read(place, &found) {
-            return Ok(Some(refusal(place, Status::UnsupportedAccess)));
+            return push(refusal(place, Status::UnsupportedAccess), items);
         }
         match found {
-            Ok(meta) => self.data_item(place, &meta),
-            Err(status) => Ok(Some(refusal(place, status))),
+            Ok(meta) => self.push_data(place, &meta, items),
+            Err(status) => push(refusal(place, status), items),
         }
     }
 
-    /// What a place is answered with that a wildcard names: nothing where access is not granted.
-    pub(crate) fn wildcard_item(&self, place: &Place) -> Result<Option<Item>, AllocError>
+    /// Appends what a place is answered with that a wildcard names: nothing where access is not granted.
+    pub(crate) fn push_named(&self, place: &Place, items: &mut Vec<Item>) -> Result<(), AllocError>
         ensures { let seen = seen_as self.now.actor.now.fabric (S.rows_of self.now.sight.now) (S.versions self.now.sight.now) (S.all_entries self.now.sight.now) in
-            IfOk result (λ item. option_to_list item ≡ wildcard_items seen self.now.actor.now self.now.filtered self.now.versions.now place.now) }
+            OnOk result (items.new.items ≡ items.old.items ++ wildcard_items seen self.now.actor.now self.now.filtered self.now.versions.now place.now) }
     {
         let found = find(place);
         let granted = self.may_read(place, &found);
         match found {
-            Ok(meta) if granted => self.data_item(place, &meta),
-            _ => Ok(None),
+            Ok(meta) if granted => self.push_data(place, &meta, items),
+            _ => Ok(()),
         }
     }
 
@@ -70,14 +74,14 @@ impl<'a, S: Sight> Reader<'a, S> {
         grants(entries, self.actor, place, read_privilege(found), false).is_some()
     }
 
-    // The data of a place, unless the actor has it already.
-    fn data_item(&self, place: &Place, meta: &Meta) -> Result<Option<Item>, AllocError>
+    // Appends the data of a place, unless the actor has it already.
+    fn push_data(&self, place: &Place, meta: &Meta, items: &mut Vec<Item>) -> Result<(), AllocError>
         ensures { let seen = seen_as self.now.actor.now.fabric (S.rows_of self.now.sight.now) (S.versions self.now.sight.now) (S.all_entries self.now.sight.now) in
-            IfOk result (λ item. option_to_list item ≡ data_items seen self.now.actor.now self.now.filtered self.now.versions.now place.now meta.now) }
+            OnOk result (items.new.items ≡ items.old.items ++ data_items seen self.now.actor.now self.now.filtered self.now.versions.now place.now meta.now) }
     {
         let version = self.sight.version(place.endpoint, place.cluster);
         if is_known(self.versions, place, version) {
-            return Ok(None);
+            return Ok(());
         }
         let value = value_at(
             self.alloc,
@@ -87,12 +91,20 @@ impl<'a, S: Sight> Reader<'a, S> {
             meta,
             self.filtered,
         )?;
-        Ok(Some(Item::Attribute {
+        let item = Item::Attribute {
             path: Path::from(*place),
             version,
             value,
-        }))
+        };
+        push(item, items)
     }
+}
+
+fn push(item: Item, items: &mut Vec<Item>) -> Result<(), AllocError>
+    ensures { OnOk result (items.new.items ≡ items.old.items ++ item ∷ []) }
+{
+    items.push(item)?;
+    Ok(())
 }
 
 // The privilege to read what the table says of a place: View where it says nothing.

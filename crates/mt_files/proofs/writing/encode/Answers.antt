@@ -1,4 +1,4 @@
-use Rattle.std.proofs.Common.{ℕ, arith, slice_index, refl}
+use Rattle.std.proofs.Common.{arith}
 use Rattle.hex.specs.Hex.{lower_digits}
 use Rattle.hex.proofs.Pairs.{encode_step, encode_done}
 use Rattle.mt_files.proofs.writing.encode.Goals as goal
