@@ -23,7 +23,7 @@ use Rattle.mt_model.specs.declared.tables.fabric.Fabric.{Fabric}
 use Rattle.mt_model.specs.declared.node.action.Action.{Action}
 use Rattle.mt_model.specs.declared.node.action.Action.TheVariants.{Ask, Nothing}
 use Rattle.mt_model.specs.declared.node.action.NodeStep.{NodeStep}
-use Rattle.mt_model.specs.declared.node.action.NodeStep.TheVariants.{SetRow, SetEntries, PutNetwork, RemoveNetwork, ConnectNetwork, MoveNetwork}
+use Rattle.mt_model.specs.declared.node.action.NodeStep.TheVariants.{SetRow, SetEntries, PutNetwork, RemoveNetwork, ConnectNetwork, MoveNetwork, Emit}
 use Rattle.mt_model.specs.declared.messages.message.Request.{Request}
 use Rattle.mt_model.specs.declared.messages.message.WriteItem.{WriteItem}
 use Rattle.mt_model.specs.declared.rows.place.Place.{Place}
@@ -39,6 +39,7 @@ use Rattle.mt_machine.specs.Effects.{after_all}
 use Rattle.mt_machine.specs.Observation.{observation}
 use Rattle.mt_machine.specs.State.{IsValid, is_among, is_plain_of, is_row, is_row_at, is_row_of, is_session, rows_of, stands_rightly}
 use Rattle.mt_machine.specs.Step.{after_action, asked_steps, asker, asker_of, asker_on, is_late, live_actor, pase_actor, plain_asker, steps_of, steps_to}
+use Rattle.mt_machine.proofs.Commands.{fitting_command, fitting_events}
 use Rattle.mt_machine.proofs.Good.{in_time, requested}
 use Rattle.mt_machine.proofs.Writes.{after_all_valid, all-filter, all-kept, all-three, any-weaker, fits, impossible, passes_among, place-same, settled_valid}
 
@@ -193,6 +194,7 @@ step_fits fabrics actor (PutNetwork id secret) own sound among = impossible own
 step_fits fabrics actor (RemoveNetwork id) own sound among = impossible own
 step_fits fabrics actor (ConnectNetwork id) own sound among = impossible own
 step_fits fabrics actor (MoveNetwork id index) own sound among = impossible own
+step_fits fabrics actor (Emit place priority fabric value) own sound among = refl
 
 member_fits : (fabrics : List Fabric) (actor : Actor) (steps : List NodeStep) → list_all (is_own_step actor) steps ≡ true → list_all is_sound_step steps ≡ true → is_among fabrics actor.fabric ≡ true → list_all (fits fabrics) steps ≡ true
 member_fits fabrics actor [] own sound among = refl
@@ -229,7 +231,7 @@ module _ (own : TouchesItsOwn) (sound : LeavesSound) (nobody : NobodySetsScoped)
   asked_fit s request deadline now (Some actor) valid known =
       let seen_by_it = observation actor.fabric s in
       in_time (fits s.fabrics) (is_late deadline now) (steps_to seen_by_it actor (is_some deadline) request)
-      (requested (fits s.fabrics) seen_by_it actor (is_some deadline) request (λ items timed. write_fits s actor items timed valid known))
+      (requested (fits s.fabrics) seen_by_it actor (is_some deadline) request (λ items timed. write_fits s actor items timed valid known) (fitting_events s.fabrics actor) (fitting_command s.fabrics actor seen_by_it))
 
   pub action_fits : (s : NodeState) (action : Action) (now : ℕ) → IsValid s → list_all (fits s.fabrics) (steps_of s action now) ≡ true
   action_fits s (Ask actor request deadline) now valid = asked_fit s request deadline now (asker s actor) valid (known_on s actor actor.session valid)

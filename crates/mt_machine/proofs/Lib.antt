@@ -1,3 +1,4 @@
+pub mod Commands
 pub mod Again
 pub mod Asked
 pub mod Deadlines
@@ -7,9 +8,11 @@ pub mod Good
 pub mod Kept
 pub mod Opening
 pub mod Order
+pub mod Rolled
 pub mod Rows
 pub mod Seeing
 pub mod Settled
+pub mod Spared
 pub mod Steps
 pub mod Times
 pub mod Veiled

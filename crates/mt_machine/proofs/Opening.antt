@@ -18,7 +18,8 @@ use Rattle.mt_model.specs.declared.rows.place.Place.{Place}
 use Rattle.mt_model.specs.declared.texts.config.SessionRow.{SessionRow}
 use Rattle.mt_model.specs.declared.tables.fabric.Fabric.{Fabric}
 use Rattle.mt_machine.specs.Opened.{live_or_waits, opened_with, session_of, sessions_of, standing_of, unchanged, with_root, with_roots_of}
-use Rattle.mt_machine.specs.State.{IsValid, has_index_up_to, has_one_row, is_change_up_to, is_owned, is_root_of, is_row, is_session, is_used, stands_once, stands_rightly}
+use Rattle.mt_model.specs.declared.node.state.NodeSession.{NodeSession}
+use Rattle.mt_machine.specs.State.{IsValid, follows, has_index_up_to, has_one_row, is_change_up_to, is_owned, is_root_of, is_row, is_session, is_used, stands_once, stands_rightly}
 
 -- Fabrics.
 
@@ -172,6 +173,18 @@ sessions_stand fabrics (row ∷ rows) = elim (cases_Bool (row.boot == 1)) [
   | inr later ↦ rw later (sessions_stand fabrics rows)
 ]
 
+pase_none : (fabrics : List Fabric) (row : SessionRow) (auth : Auth) → follows None auth (standing_of fabrics row auth) ≡ true
+pase_none fabrics row Pase = refl
+pase_none fabrics row Case = refl
+pase_none fabrics row Group = refl
+
+sessions_follow : (fabrics : List Fabric) (rows : List SessionRow) → list_all (λ (session : NodeSession). follows None session.auth session.standing) (sessions_of 1 fabrics rows) ≡ true
+sessions_follow fabrics [] = refl
+sessions_follow fabrics (row ∷ rows) = elim (cases_Bool (row.boot == 1)) [
+  | inl first ↦ rw first (and_from _ _ (pase_none fabrics row row.auth) (sessions_follow fabrics rows))
+  | inr later ↦ rw later (sessions_follow fabrics rows)
+]
+
 -- Change numbers.
 
 changes_counted : (places : List Place) → list_all (is_change_up_to 0) (map unchanged places) ≡ true
@@ -213,4 +226,7 @@ opens_valid numbered_ascend fabrics entries sessions good_fabrics good_entries =
       count_fits = refl;
       changes_counted = changes_counted all_places;
       failsafe_facts = refl;
+      saved_stand = refl;
+      sessions_follow = sessions_follow fabrics sessions;
+      plain_follow = refl;
     }

@@ -11,7 +11,7 @@ use Rattle.mt_model.specs.texts.Config.{ascend_from}
 use Rattle.mt_model.specs.declared.tables.access.AclEntry.{AclEntry}
 use Rattle.mt_model.specs.declared.tables.access.Actor.{Actor}
 use Rattle.mt_model.specs.declared.node.action.NodeStep.{NodeStep}
-use Rattle.mt_model.specs.declared.node.action.NodeStep.TheVariants.{SetRow, SetEntries, PutNetwork, RemoveNetwork, ConnectNetwork, MoveNetwork}
+use Rattle.mt_model.specs.declared.node.action.NodeStep.TheVariants.{SetRow, SetEntries, PutNetwork, RemoveNetwork, ConnectNetwork, MoveNetwork, Emit}
 use Rattle.mt_model.specs.declared.node.state.NodeState.{NodeState}
 use Rattle.mt_model.specs.declared.rows.place.Place.{Place}
 use Rattle.mt_model.specs.declared.rows.place.Row.{Row}
@@ -43,6 +43,7 @@ module _ (fabric : ℕ) where
   own_after (RemoveNetwork id) o = o
   own_after (ConnectNetwork id) o = o
   own_after (MoveNetwork id index) o = o
+  own_after (Emit place priority whose value) o = o
 
   rows-own : (place : Place) (whose : ℕ) (values : List Value) (rows : List Row) → filter (owns fabric) (with_rows place whose values rows) ≡ rows_after place whose values (filter (owns fabric) rows)
   rows-own place whose values rows =
@@ -63,6 +64,7 @@ module _ (fabric : ℕ) where
   own-after asker (RemoveNetwork id) s = refl
   own-after asker (ConnectNetwork id) s = refl
   own-after asker (MoveNetwork id index) s = refl
+  own-after asker (Emit place priority whose value) s = refl
 
   -- so where own parts are equal before steps, they are behind them
   pub own-alike : (asker other : Option Actor) (steps : List NodeStep) (s t : NodeState) → own fabric s ≡ own fabric t → own fabric (after_all asker steps s) ≡ own fabric (after_all other steps t)
@@ -76,6 +78,7 @@ module _ (fabric : ℕ) where
 abbrev pub is_step_of : ℕ → NodeStep → Bool
 is_step_of writer (SetRow place whose values) = if whose == 0 then true else whose == writer
 is_step_of writer (SetEntries whose entries) = whose == writer && list_all (is_entry_of whose) entries
+is_step_of writer (Emit place priority whose value) = whose == writer
 is_step_of writer step = false
 
 none_owned : (fabric whose : ℕ) (place : Place) (values : List Value) → (whose == fabric && not (whose == 0)) ≡ false → filter (owns fabric) (map (row_at place whose) values) ≡ []
@@ -146,3 +149,4 @@ module _
   own-kept asker (RemoveNetwork id ∷ steps) s up up_entries all = absurd (cc)
   own-kept asker (ConnectNetwork id ∷ steps) s up up_entries all = absurd (cc)
   own-kept asker (MoveNetwork id index ∷ steps) s up up_entries all = absurd (cc)
+  own-kept asker (Emit place priority whose value ∷ steps) s up up_entries all = own-kept asker steps s up up_entries (and_parts (whose == writer) (list_all (is_step_of writer) steps) all).1

@@ -1,8 +1,10 @@
 -- What an action does besides: without steps it sets the time alone, and none ends anything.
-use Rattle.std.proofs.Common.{◌≡◌, ℕ, ◌==◌, ◌&&◌, ◌||◌, not, Bool, true, false, List, [], ◌∷◌, ◌++◌, Option, None, append_assoc, arith, refl, ap, ◌∙◌, subst, if◌then◌else◌}
+use Rattle.std.proofs.Common.{◌≡◌, ◌↔◌, ℕ, ◌==◌, ◌&&◌, ◌||◌, not, Bool, true, false, List, [], ◌∷◌, ◌++◌, Option, None, append_assoc, arith, refl, ap, ◌∙◌, subst, if◌then◌else◌}
 use Rattle.std.specs.List.{find}
 use Rattle.std.specs.Option.{option_map}
 use Rattle.std.proofs.lemmas.List.Folds.{list_any-append}
+use Rattle.mt_model.specs.rows.Same.{are_same_rows}
+use Rattle.mt_model.specs.declared.rows.place.Row.{Row}
 use Rattle.mt_model.specs.declared.tables.access.Actor.{Actor}
 use Rattle.mt_model.specs.declared.node.action.Action.{Action}
 use Rattle.mt_model.specs.declared.node.action.NodeStep.{NodeStep}
@@ -11,17 +13,17 @@ use Rattle.mt_model.specs.declared.node.state.NodeSession.{NodeSession}
 use Rattle.mt_model.specs.declared.node.state.NodeState.{NodeState}
 use Rattle.mt_model.specs.declared.node.state.Standing.{Standing}
 use Rattle.mt_model.specs.declared.node.state.Standing.TheVariants.{Waits, Live, Ended}
-use Rattle.mt_model.specs.declared.node.action.NodeStep.TheVariants.{SetRow, SetEntries, PutNetwork, RemoveNetwork, ConnectNetwork, MoveNetwork}
+use Rattle.mt_model.specs.declared.node.action.NodeStep.TheVariants.{SetRow, SetEntries, PutNetwork, RemoveNetwork, ConnectNetwork, MoveNetwork, Emit}
 use Rattle.mt_machine.specs.Changes.{settled}
 use Rattle.mt_machine.specs.Effects.{after, after_all}
 use Rattle.mt_machine.specs.State.{is_among, is_indexed}
 use Rattle.mt_machine.specs.Step.{after_action, aside_of, asker_of, closed_between, gone_between, is_live, session_asking, steps_of}
 use Rattle.mt_machine.proofs.Settled.{settled-same}
 
-pub sets_time : (s : NodeState) (action : Action) (now : ℕ) → steps_of s action now ≡ [] → after_action s action now ≡ record s { clock = now }
-sets_time s action now none =
+pub sets_time : ((rows others : List Row) → (are_same_rows rows others ≡ true) ↔ (rows ≡ others)) → (s : NodeState) (action : Action) (now : ℕ) → steps_of s action now ≡ [] → after_action s action now ≡ record s { clock = now }
+sets_time same s action now none =
     ap (λ (steps : List NodeStep). record (settled s (after_all (asker_of s action) steps s)) { clock = now }) none
-    ∙ ap (λ (t : NodeState). record t { clock = now }) (settled-same s)
+    ∙ ap (λ (t : NodeState). record t { clock = now }) (settled-same same s)
 
 -- Nothing ends where nothing changes.
 
@@ -62,6 +64,7 @@ sessions-stay asker (PutNetwork id secret) s = refl
 sessions-stay asker (RemoveNetwork id) s = refl
 sessions-stay asker (ConnectNetwork id) s = refl
 sessions-stay asker (MoveNetwork id index) s = refl
+sessions-stay asker (Emit place priority whose value) s = refl
 
 fabrics-stay : (asker : Option Actor) (step : NodeStep) (s : NodeState) → (after asker step s).fabrics ≡ s.fabrics
 fabrics-stay asker (SetRow place whose values) s = refl
@@ -70,6 +73,7 @@ fabrics-stay asker (PutNetwork id secret) s = refl
 fabrics-stay asker (RemoveNetwork id) s = refl
 fabrics-stay asker (ConnectNetwork id) s = refl
 fabrics-stay asker (MoveNetwork id index) s = refl
+fabrics-stay asker (Emit place priority whose value) s = refl
 
 all_sessions-stay : (asker : Option Actor) (steps : List NodeStep) (s : NodeState) → (after_all asker steps s).sessions ≡ s.sessions
 all_sessions-stay asker [] s = refl

@@ -21,7 +21,7 @@ use Rattle.mt_model.specs.declared.tables.access.AclEntry.{AclEntry}
 use Rattle.mt_model.specs.declared.tables.access.Actor.{Actor}
 use Rattle.mt_model.specs.declared.tables.fabric.Fabric.{Fabric}
 use Rattle.mt_model.specs.declared.node.action.NodeStep.{NodeStep}
-use Rattle.mt_model.specs.declared.node.action.NodeStep.TheVariants.{SetRow, SetEntries, PutNetwork, RemoveNetwork, ConnectNetwork, MoveNetwork}
+use Rattle.mt_model.specs.declared.node.action.NodeStep.TheVariants.{SetRow, SetEntries, PutNetwork, RemoveNetwork, ConnectNetwork, MoveNetwork, Emit}
 use Rattle.mt_model.specs.declared.rows.place.Place.{Place}
 use Rattle.mt_model.specs.declared.rows.place.Row.{Row}
 use Rattle.mt_model.specs.declared.node.state.ChangeNumber.{ChangeNumber}
@@ -203,6 +203,9 @@ renewed s rows entries versions changes changed now valid are_rows are_entries a
   changes_counted = are_changes.counted;
   count_fits = are_changes.fits;
   failsafe_facts = valid.failsafe_facts;
+  saved_stand = valid.saved_stand;
+  sessions_follow = valid.sessions_follow;
+  plain_follow = valid.plain_follow;
 }
 
 same_rows : (s : NodeState) → IsValid s → AreRows s s.rows
@@ -217,7 +220,7 @@ same_changes s valid = record { counted = valid.changes_counted; fits = valid.co
 -- Rows that are set.
 
 -- a row at a place that is not scoped is nobody's
-nobodys : (fabrics : List Fabric) (row : Row) (found : Result Meta Status) → is_row_at fabrics row found ≡ true → is_unscoped found ≡ true → row.fabric ≡ 0
+pub nobodys : (fabrics : List Fabric) (row : Row) (found : Result Meta Status) → is_row_at fabrics row found ≡ true → is_unscoped found ≡ true → row.fabric ≡ 0
 nobodys fabrics row (Err status) is unscoped = impossible is
 nobodys fabrics row (Ok meta) is unscoped =
     let both = and_parts (has_form meta.kind meta.limit row.value) (is_row_of fabrics meta.scoped row.fabric) is in
@@ -390,6 +393,7 @@ fits_row fabrics fabric stored values found = is_sound_row stored values found &
 abbrev pub fits : List Fabric → NodeStep → Bool
 fits fabrics (SetRow place fabric values) = fits_row fabrics fabric (is_stored place) values (find_of place)
 fits fabrics (SetEntries fabric entries) = are_entries_of fabric entries && is_among fabrics fabric
+fits fabrics (Emit place priority fabric value) = true
 fits fabrics step = false
 
 module _
@@ -421,6 +425,7 @@ module _
     after_step asker (RemoveNetwork id) s valid fit = impossible fit
     after_step asker (ConnectNetwork id) s valid fit = impossible fit
     after_step asker (MoveNetwork id index) s valid fit = impossible fit
+    after_step asker (Emit place priority fabric value) s valid fit = valid
 
     keeps_fabrics : (asker : Option Actor) (step : NodeStep) (s : NodeState) → (after asker step s).fabrics ≡ s.fabrics
     keeps_fabrics asker (SetRow place fabric values) s = refl
@@ -429,6 +434,7 @@ module _
     keeps_fabrics asker (RemoveNetwork id) s = refl
     keeps_fabrics asker (ConnectNetwork id) s = refl
     keeps_fabrics asker (MoveNetwork id index) s = refl
+    keeps_fabrics asker (Emit place priority fabric value) s = refl
 
     pub after_all_valid : (asker : Option Actor) (steps : List NodeStep) (s : NodeState) → IsValid s → list_all (fits s.fabrics) steps ≡ true → IsValid (after_all asker steps s)
     after_all_valid asker [] s valid fit = valid

@@ -1,40 +1,15 @@
 -- What a change of values makes of data versions and change numbers. Both follow from comparing the state before an action
 -- with the state behind its steps, and say nothing of a value but that it is another.
-use Rattle.std.specs.Prelude.{ℕ, ◌+◌, ◌-◌, ◌%◌, ◌^◌, ◌==◌, ◌&&◌, min, not, Bool, true, false, List, [], ◌∷◌, filter, map, if◌then◌else◌, refl}
+use Rattle.std.specs.Prelude.{ℕ, ◌+◌, ◌-◌, ◌%◌, ◌^◌, ◌==◌, ◌&&◌, min, not, Bool, List, [], ◌∷◌, filter, map, if◌then◌else◌}
 use Rattle.std.specs.List.{list_any}
-use Rattle.std.specs.Coded.{Coded, code_by, coded_list, coded_ℕ, coded×}
-use base.Stored.{Gv, gnil, gnum, gcons}
-use Rattle.mt_tlv.specs.contracts.value.Value as values
-use Rattle.mt_tlv.specs.declared.value.Value.{Value}
 use Rattle.mt_meta.specs.Places.{all_places}
+use Rattle.mt_model.specs.rows.Same.{are_same_rows}
 use Rattle.mt_model.specs.rows.Sight.{same_place}
 use Rattle.mt_model.specs.declared.rows.place.Place.{Place}
-use Rattle.mt_model.specs.declared.rows.place.Row.{Row}
 use Rattle.mt_model.specs.declared.node.state.ChangeNumber.{ChangeNumber}
 use Rattle.mt_model.specs.declared.node.state.NodeState.{NodeState}
 use Rattle.mt_model.specs.declared.node.state.Version.{Version}
 use Rattle.mt_machine.specs.State.{rows_of}
-
--- Whether two lists of rows are the same, told by the codes that stand for them one to one.
-
-abbrev pub are_same_codes : Gv → Gv → Bool
-are_same_codes gnil gnil = true
-are_same_codes (gnum m) (gnum n) = m == n
-are_same_codes (gcons a b) (gcons c d) = are_same_codes a c && are_same_codes b d
-are_same_codes a b = false
-
--- the code of a row, by its fields
-abbrev pub row_code : Coded Row
-row_code = code_by ((ℕ × ℕ) × ((ℕ × ℕ) × Value)) (coded× (coded× coded_ℕ coded_ℕ) (coded× (coded× coded_ℕ coded_ℕ) values.the_row.coded))
-    (λ row. ((row.place.endpoint, row.place.cluster), ((row.place.leaf, row.fabric), row.value)))
-    (λ t. record { place = record { endpoint = t.0.0; cluster = t.0.1; leaf = t.1.0.0 }; fabric = t.1.0.1; value = t.1.1 })
-    (λ _. refl)
-
-abbrev pub rows_code : Coded (List Row)
-rows_code = coded_list row_code
-
-abbrev pub are_same_rows : List Row → List Row → Bool
-are_same_rows rows others = are_same_codes (rows_code.code rows) (rows_code.code others)
 
 -- The places whose attributes have other rows in the second state.
 

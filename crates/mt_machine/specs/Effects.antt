@@ -2,9 +2,10 @@
 use Rattle.std.specs.Prelude.{ℕ, not, Bool, true, false, List, [], ◌∷◌, ◌++◌, Option, bytes_eq, drop, filter, map, take, if◌then◌else◌}
 use Rattle.std.specs.List.{list_all, list_any}
 use Rattle.mt_model.specs.rows.Setting.{is_entry_of, with_entries, with_rows}
+use Rattle.mt_model.specs.rows.Stored.{is_stored_place}
 use Rattle.mt_model.specs.declared.tables.access.Actor.{Actor}
 use Rattle.mt_model.specs.declared.node.action.NodeStep.{NodeStep}
-use Rattle.mt_model.specs.declared.node.action.NodeStep.TheVariants.{SetRow, SetEntries, PutNetwork, RemoveNetwork, ConnectNetwork, MoveNetwork}
+use Rattle.mt_model.specs.declared.node.action.NodeStep.TheVariants.{SetRow, SetEntries, PutNetwork, RemoveNetwork, ConnectNetwork, MoveNetwork, Emit}
 use Rattle.mt_model.specs.declared.tables.network.Network.{Network}
 use Rattle.mt_model.specs.declared.node.state.NodeState.{NodeState}
 
@@ -40,14 +41,16 @@ after asker (PutNetwork id secret) s = record s { networks = with_network id sec
 after asker (RemoveNetwork id) s = record s { networks = others_than id s.networks }
 after asker (ConnectNetwork id) s = record s { networks = map (connected_to id) s.networks }
 after asker (MoveNetwork id index) s = record s { networks = moved_to id index s.networks }
+after asker (Emit place priority fabric value) s = s  -- events are not recorded yet
 
 -- one step after the other
 abbrev pub after_all : Option Actor → List NodeStep → NodeState → NodeState
 after_all asker [] s = s
 after_all asker (step ∷ steps) s = after_all asker steps (after asker step s)
 
--- a step that sets rows, or entries of the fabric that it names
+-- a step that sets rows of a stored place, or entries of the fabric that it names, or tells of an event
 abbrev pub is_setting_step : NodeStep → Bool
-is_setting_step (SetRow place fabric values) = true
+is_setting_step (SetRow place fabric values) = is_stored_place place
 is_setting_step (SetEntries fabric entries) = list_all (is_entry_of fabric) entries
+is_setting_step (Emit place priority fabric value) = true
 is_setting_step step = false

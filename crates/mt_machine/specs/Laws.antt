@@ -1,5 +1,5 @@
 -- Laws of the written machine.
-use Rattle.std.specs.Prelude.{◌≡◌, ◌≢◌, ℕ, List, [], None, Option, Some, true}
+use Rattle.std.specs.Prelude.{◌≡◌, ◌≢◌, ℕ, List, [], None, Option, Some, false, true}
 use Rattle.std.specs.List.{list_all}
 use Rattle.mt_model.specs.texts.Config.{are_entries, are_fabrics}
 use Rattle.mt_model.specs.rows.Seen.{seen_as}
@@ -12,12 +12,14 @@ use Rattle.mt_model.specs.declared.tables.network.Network.{Network}
 use Rattle.mt_model.specs.declared.texts.recording.Event.{Event}
 use Rattle.mt_model.specs.declared.node.state.NodeState.{NodeState}
 use Rattle.mt_model.specs.declared.node.action.Action.{Action}
+use Rattle.mt_machine.specs.Changes.{changed_at, settled}
 use Rattle.mt_machine.specs.Effects.{is_setting_step}
 use Rattle.mt_machine.specs.Isolation.{own, own_of_whole, public_view, veil, veil_of_whole}
 use Rattle.mt_machine.specs.Lines.{fabric_of, next, sent}
 use Rattle.mt_machine.specs.Observation.{observation}
 use Rattle.mt_machine.specs.Opened.{opened_with}
-use Rattle.mt_machine.specs.State.{IsValid, State, rows_of}
+use Rattle.mt_machine.specs.Rollback.{rollback}
+use Rattle.mt_machine.specs.State.{IsValid, State, rows_of, was_added, was_updated}
 use Rattle.mt_machine.specs.Step.{after_action, aside_of, session_asking, steps_of}
 
 -- What a fabric observes of a state is what it observes of the veil, which is made of its own part and of what is
@@ -77,11 +79,28 @@ OpensValid = (fabrics : List Fabric) (entries : List AclEntry) (sessions : List 
 abbrev pub StaysValid : Type 0
 StaysValid = (s : NodeState) (action : Action) (now : ℕ) → IsValid s → IsValid (after_action s action now)
 
+-- What an expiry of the fail-safe leaves of a valid state is valid.
+abbrev pub RollsBackValid : Type 0
+RollsBackValid = (s : NodeState) → IsValid s → IsValid (rollback s)
+
+-- A fabric that was neither added nor updated under the fail-safe keeps its own part as it is. (What fabric 0 owns are the sessions of PASE
+-- without a fabric, which end.)
+abbrev pub SparesOthers : Type 0
+SparesOthers = (fabric : ℕ) (s : NodeState) → IsValid s → fabric ≢ 0 → was_added fabric s.armed ≡ false → was_updated fabric s.armed ≡ false → own fabric (rollback s) ≡ own fabric s
+
 -- An action that makes no step sets the time, and nothing else: no version moves, and no change is counted.
 abbrev pub SetsTheTime : Type 0
 SetsTheTime = (s : NodeState) (action : Action) (now : ℕ) → steps_of s action now ≡ [] → after_action s action now ≡ record s { clock = now }
 
--- The steps of requests set rows, and entries of the fabric that they name.
+-- Compared with itself, a state stays as it is: where nothing differs no version and no change number moves.
+abbrev pub StaysSettled : Type 0
+StaysSettled = (s : NodeState) → settled s s ≡ s
+
+-- Where no attribute has changed, neither does any version or change number.
+abbrev pub ChangesNowhere : Type 0
+ChangesNowhere = (s : NodeState) → changed_at [] s s ≡ s
+
+-- The steps of requests set rows of stored places, and entries of the fabric that they name, or tell of events.
 abbrev pub SetsValues : Type 0
 SetsValues = (s : NodeState) (action : Action) (now : ℕ) → IsValid s → list_all is_setting_step (steps_of s action now) ≡ true
 

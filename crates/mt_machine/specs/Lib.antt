@@ -1,11 +1,13 @@
 pub mod Bench
 pub mod Changes
+pub mod Commands
 pub mod Effects
 pub mod Isolation
 pub mod Laws
 pub mod Lines
 pub mod Observation
 pub mod Opened
+pub mod Rollback
 pub mod Samples
 pub mod State
 pub mod Step

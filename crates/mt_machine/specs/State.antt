@@ -6,7 +6,7 @@ use Rattle.mt_meta.specs.Forms.{has_form}
 use Rattle.mt_meta.specs.Places.{all_places}
 use Rattle.mt_meta.specs.Stored.{is_stored}
 use Rattle.mt_meta.specs.declared.meta.Meta.{Meta}
-use Rattle.mt_model.specs.texts.Config.{ascend_from, has_identity, has_up_to, have_one_identity, have_one_label, is_entry, is_fabric, is_of, none_alike}
+use Rattle.mt_model.specs.texts.Config.{are_credentials, ascend_from, has_identity, has_up_to, have_one_identity, have_one_label, is_entry, is_fabric, is_of, none_alike}
 use Rattle.mt_model.specs.rows.Order.{are_ascending, fabrics_ascend}
 use Rattle.mt_model.specs.rows.Sight.{stands_at}
 use Rattle.mt_model.specs.declared.tables.access.AclEntry.{AclEntry}
@@ -154,6 +154,41 @@ abbrev pub keeps_facts : List Fabric → Option Armed → Bool
 keeps_facts fabrics None = true
 keeps_facts fabrics (Some armed) = is_added fabrics armed armed.added && is_updated fabrics armed armed.added armed.updated
 
+-- What is saved under the fail-safe is such as a state has it: at most 4 networks, whose ids differ; credentials of their form.
+
+abbrev pub are_networks : List Network → Bool
+are_networks networks = nat_le (length networks) 4 && (list_all is_network networks && none_alike have_one_id networks)
+
+abbrev pub are_kept : Option Credentials → Bool
+are_kept None = true
+are_kept (Some saved) = are_credentials saved
+
+abbrev pub saves_rightly : Option Armed → Bool
+saves_rightly None = true
+saves_rightly (Some armed) = are_networks armed.saved_networks && are_kept armed.saved_credentials
+
+-- A live session of PASE has no fabric, or the one that was added under the fail-safe.
+
+abbrev pub is_that : ℕ → Option ℕ → Bool
+is_that fabric None = false
+is_that fabric (Some other) = other == fabric
+
+abbrev pub was_added : ℕ → Option Armed → Bool
+was_added fabric None = false
+was_added fabric (Some armed) = is_that fabric armed.added
+
+abbrev pub was_updated : ℕ → Option Armed → Bool
+was_updated fabric None = false
+was_updated fabric (Some armed) = is_that fabric armed.updated
+
+abbrev pub follows : Option Armed → Auth → Standing → Bool
+follows armed Pase (Live fabric) = fabric == 0 || was_added fabric armed
+follows armed auth standing = true
+
+abbrev pub plain_follows : Option Armed → Option ℕ → Bool
+plain_follows armed None = true
+plain_follows armed (Some fabric) = fabric == 0 || was_added fabric armed
+
 -- What holds of every state of the node. The numbers are the limits of the node.
 pub record IsValid (s : NodeState) : Type 0 where
   -- at most 16 fabrics, whose indexes rise from 1 or more on to at most 16
@@ -186,3 +221,7 @@ pub record IsValid (s : NodeState) : Type 0 where
   pub count_fits : nat_le s.changed (2 ^ 64 - 1) ≡ true
   pub changes_counted : list_all (is_change_up_to s.changed) s.changes ≡ true
   pub failsafe_facts : keeps_facts s.fabrics s.armed ≡ true
+  pub saved_stand : saves_rightly s.armed ≡ true
+  -- sessions of PASE have no fabric, or the one that was added
+  pub sessions_follow : list_all (λ (session : NodeSession). follows s.armed session.auth session.standing) s.sessions ≡ true
+  pub plain_follow : plain_follows s.armed s.plain ≡ true

@@ -1,7 +1,8 @@
 -- One step of the node: who is taken as asking, what is replied, what the reply makes of the state.
-use Rattle.std.specs.Prelude.{ℕ, ◌==◌, ◌&&◌, not, nat_lt, Bool, true, false, List, [], ◌∷◌, Option, Some, None, is_some, if◌then◌else◌, replicate}
+use Rattle.std.specs.Prelude.{ℕ, ◌==◌, ◌&&◌, ◌++◌, not, nat_lt, Bool, true, false, List, [], ◌∷◌, Option, Some, None, is_some, if◌then◌else◌, replicate}
 use Rattle.std.specs.List.{find, list_any}
 use Rattle.std.specs.Option.{option_and_then, option_map}
+use Rattle.mt_tlv.specs.declared.value.Value.{Value}
 use Rattle.mt_model.specs.rows.Seen.{Observation}
 use Rattle.mt_model.specs.messages.Status.{code_of}
 use Rattle.mt_model.specs.declared.tables.access.Actor.{Actor}
@@ -15,6 +16,7 @@ use Rattle.mt_model.specs.declared.messages.message.Index.{Index}
 use Rattle.mt_model.specs.declared.messages.message.Index.TheVariants.{Whole, Append, At}
 use Rattle.mt_model.specs.declared.messages.message.Item.{Item}
 use Rattle.mt_model.specs.declared.messages.message.Path.{Path}
+use Rattle.mt_model.specs.declared.rows.place.Place.{Place}
 use Rattle.mt_model.specs.declared.messages.message.Reply.{Reply}
 use Rattle.mt_model.specs.declared.messages.message.Reply.TheVariants as replies
 use Rattle.mt_model.specs.declared.messages.message.Request.{Request}
@@ -28,7 +30,9 @@ use Rattle.mt_model.specs.declared.node.state.Version.{Version}
 use Rattle.mt_model.specs.declared.messages.status.Status.TheVariants.{InvalidAction, Success, TimedRequestMismatch, Timeout}
 use Rattle.mt_read.specs.Reading.{read_answer}
 use Rattle.mt_write.specs.Writing.{write_answer}
+use Rattle.mt_apps.specs.EntryEvents.{entry_events}
 use Rattle.mt_machine.specs.Changes.{settled}
+use Rattle.mt_machine.specs.Commands.{command_effect, is_commissioning}
 use Rattle.mt_machine.specs.Effects.{after_all}
 use Rattle.mt_machine.specs.Observation.{observation}
 use Rattle.mt_machine.specs.State.{is_among, is_member}
@@ -96,35 +100,49 @@ read_reply o actor paths filtered versions =
 abbrev pub is_untimely : Bool → Bool → Bool
 is_untimely stood timed = if stood then not timed else timed
 
-abbrev pub statuses_of : Bool → List Item → Reply
-statuses_of suppress statuses = if suppress then replies.Nothing else replies.Written statuses
+-- what answers a request itself is held back where it asks for no answer
+abbrev pub unless_suppressed : Bool → Reply → Reply
+unless_suppressed suppress reply = if suppress then replies.Nothing else reply
 
 -- A write is answered with the statuses of its items, unless it asks for no answer.
 abbrev pub write_reply : Observation → Actor → Bool → Bool → Bool → List WriteItem → Reply
 write_reply o actor stood suppress timed items =
     if is_untimely stood timed then refusal (code_of TimedRequestMismatch)
-    else statuses_of suppress (write_answer o.seen actor items timed).statuses
+    else unless_suppressed suppress (replies.Written (write_answer o.seen actor items timed).statuses)
+
+-- what is written, and then the events of the access control lists among it
+abbrev pub with_events : Observation → Actor → List NodeStep → List NodeStep
+with_events o actor steps = steps ++ entry_events actor o.seen.entries steps
 
 abbrev pub write_steps : Observation → Actor → Bool → Bool → List WriteItem → List NodeStep
-write_steps o actor stood timed items = if is_untimely stood timed then [] else (write_answer o.seen actor items timed).rows
+write_steps o actor stood timed items = if is_untimely stood timed then [] else with_events o actor (write_answer o.seen actor items timed).rows
+
+-- A command is answered with its response or its status, unless it asks for no answer. It is carried out all the same.
+abbrev pub invoke_reply : Observation → Actor → Bool → Bool → Bool → Place → Value → Reply
+invoke_reply o actor stood suppress timed command fields =
+    if is_untimely stood timed then refusal (code_of TimedRequestMismatch)
+    else unless_suppressed suppress (command_effect o actor timed command fields).reply
+
+abbrev pub invoke_steps : Observation → Actor → Bool → Bool → Place → Value → List NodeStep
+invoke_steps o actor stood timed command fields = if is_untimely stood timed then [] else (command_effect o actor timed command fields).steps
 
 -- The reply to a request, made of what the asker's fabric observes and of whether a deadline stood for the request. A
--- status is no request; what sets a time is answered with success. Subscriptions and commands are not built.
+-- status is no request; what sets a time is answered with success. Subscriptions are not built.
 abbrev pub reply_to : Observation → Actor → Bool → Request → Reply
 reply_to o actor stood (requests.Status code) = refusal (code_of InvalidAction)
 reply_to o actor stood (requests.Read paths wanted minimum filtered versions) = read_reply o actor paths filtered versions
 reply_to o actor stood (requests.Subscribe keep floor ceiling paths wanted minimum filtered versions) = replies.Nothing
 reply_to o actor stood (requests.Write suppress timed items) = write_reply o actor stood suppress timed items
-reply_to o actor stood (requests.Invoke suppress timed command fields) = replies.Nothing
+reply_to o actor stood (requests.Invoke suppress timed command fields) = invoke_reply o actor stood suppress timed command fields
 reply_to o actor stood (requests.Timed ms) = refusal (code_of Success)
 
--- what a reply makes of the state: of the requests that are built a write alone changes anything
+-- what a reply makes of the state: of the requests that are built writes and commands alone change anything
 abbrev pub steps_to : Observation → Actor → Bool → Request → List NodeStep
 steps_to o actor stood (requests.Status code) = []
 steps_to o actor stood (requests.Read paths wanted minimum filtered versions) = []
 steps_to o actor stood (requests.Subscribe keep floor ceiling paths wanted minimum filtered versions) = []
 steps_to o actor stood (requests.Write suppress timed items) = write_steps o actor stood timed items
-steps_to o actor stood (requests.Invoke suppress timed command fields) = []
+steps_to o actor stood (requests.Invoke suppress timed command fields) = invoke_steps o actor stood timed command fields
 steps_to o actor stood (requests.Timed ms) = []
 
 -- whether the deadline has passed
@@ -207,7 +225,8 @@ aside_of s action now = record {
   gone = gone_between s.fabrics (after_action s action now).fabrics;
 }
 
--- Which actions are built: statuses, reads without event paths, writes, and what sets a time.
+-- Which actions are built: statuses, reads without event paths, writes, commands but for those of the clusters by which
+-- fabrics join, and what sets a time.
 
 abbrev pub is_nil : List Path → Bool
 is_nil [] = true
@@ -218,7 +237,7 @@ is_built_request (requests.Status code) = true
 is_built_request (requests.Read paths wanted minimum filtered versions) = is_nil wanted
 is_built_request (requests.Subscribe keep floor ceiling paths wanted minimum filtered versions) = false
 is_built_request (requests.Write suppress timed items) = true
-is_built_request (requests.Invoke suppress timed command fields) = false
+is_built_request (requests.Invoke suppress timed command fields) = not (is_commissioning command.cluster)
 is_built_request (requests.Timed ms) = true
 
 abbrev pub is_built_action : Action → Bool

@@ -7,19 +7,23 @@
 //! - `Observation`: what a fabric observes of a state, of which all its answers are made;
 //! - `Effects`: what each step makes of the state;
 //! - `Changes`: what data versions and change numbers follow from comparing two states;
+//! - `Commands`: what a command comes to;
 //! - `Step`: one step of the node: who asks, what is replied, the state behind it;
 //! - `Lines`: one line of a recording: its action, what is sent, the state behind it;
+//! - `Rollback`: what an expiry of the fail-safe takes back;
 //! - `Opened`: the state in which a new node begins;
 //! - `Laws`: the laws.
 #![tactic(auto)]
 
 ghost use Rattle.std.specs.Prelude.{◌≡◌, ◌∷◌, []};
-ghost use Rattle.mt_machine.specs.Laws.{EndsNothing, HidesWhatIsSaved, KeepsItsOwnPart, KeepsItsPublicView, KeepsTheOwn, LeavesItsOwnByItsView, LeavesTheOwnOnTheVeil, OpensValid, SeesItsViewAlone, SeesTheVeil, SendsOnTheVeil, SetsTheTime, SetsValues, StandsInOrder, StaysValid};
+ghost use Rattle.mt_machine.specs.Laws.{ChangesNowhere, EndsNothing, HidesWhatIsSaved, KeepsItsOwnPart, KeepsItsPublicView, KeepsTheOwn, LeavesItsOwnByItsView, LeavesTheOwnOnTheVeil, OpensValid, RollsBackValid, SeesItsViewAlone, SeesTheVeil, SendsOnTheVeil, SetsTheTime, SetsValues, SparesOthers, StandsInOrder, StaysSettled, StaysValid};
 ghost use Rattle.mt_machine.specs.Samples.{acl_report, data_report, denial_report, empty_report, hidden_report, invalid_action, no_cluster_report, no_endpoint_report, read_acl, read_acl_anywhere, read_cluster_99, read_endpoint_7, read_on_off, sent_to_reader, too_deep};
 
+use mt_meta::stored_places_are_those_of_the_model;
 use mt_model::{
     entries_are_in_order, fabrics_are_in_order, numbered_fabrics_ascend,
     rows_of_a_place_are_in_order, set_entries_stand_in_order, set_rows_stand_in_order,
+    what_is_told_the_same_is, what_stays_stands_in_order,
 };
 use mt_write::{nobody_writes_scoped, writes_keep_forms, writes_touch_their_own};
 
@@ -82,17 +86,32 @@ pub fn states_are_valid()
     nobody_writes_scoped();
 }
 
-/// An action that makes no step sets the time, and nothing else of the state: no version moves. What steps
-/// requests make set rows and access control entries alone, so an action ends no session and takes no fabric
-/// away.
+/// What an expiry of the fail-safe leaves of a valid state is valid, and a fabric that was neither added nor
+/// updated keeps its own part as it is.
+pub fn expiries_spare_others()
+    ensures valid { RollsBackValid }
+    ensures own { SparesOthers }
+{
+    set_rows_stand_in_order();
+    set_entries_stand_in_order();
+    what_stays_stands_in_order();
+}
+
+/// An action that makes no step sets the time, and nothing else of the state: no version moves, since none does
+/// where nothing differs. What steps requests make set rows of stored places and access control entries, or tell of
+/// events, so an action ends no session and takes no fabric away.
 pub fn actions_set_values()
     ensures time { SetsTheTime }
+    ensures settled { StaysSettled }
+    ensures nowhere { ChangesNowhere }
     ensures values { SetsValues }
     ensures nothing_ends { EndsNothing }
 {
+    what_is_told_the_same_is();
     writes_touch_their_own();
     writes_keep_forms();
     nobody_writes_scoped();
+    stored_places_are_those_of_the_model();
 }
 
 /// The rows of each place stand in the order in which every fabric sees them.

@@ -1,0 +1,37 @@
+-- What a command comes to, made of what the asker's fabric observes (Matter Core Specification, section 8.8, Invoke Interaction).
+use Rattle.std.specs.Prelude.{ℕ, ◌==◌, ◌||◌, Bool, List, Result, Ok, Err, filter, if◌then◌else◌}
+use Rattle.mt_tlv.specs.declared.value.Value.{Value}
+use Rattle.mt_meta.specs.clusters.GeneralCommissioning as general_commissioning
+use Rattle.mt_meta.specs.clusters.NetworkCommissioning as network_commissioning
+use Rattle.mt_meta.specs.clusters.OperationalCredentials as operational_credentials
+use Rattle.mt_meta.specs.declared.meta.CommandMeta.{CommandMeta}
+use Rattle.mt_model.specs.messages.Effects.{refused_at}
+use Rattle.mt_model.specs.rows.Seen.{Observation}
+use Rattle.mt_model.specs.declared.messages.status.Status.{Status}
+use Rattle.mt_model.specs.declared.messages.status.Status.TheVariants.{InvalidCommand}
+use Rattle.mt_model.specs.declared.node.action.Effect.{Effect}
+use Rattle.mt_model.specs.declared.rows.place.Place.{Place}
+use Rattle.mt_model.specs.declared.rows.place.Row.{Row}
+use Rattle.mt_model.specs.declared.tables.access.Actor.{Actor}
+use Rattle.mt_apps.specs.Commands.{invoked}
+use Rattle.mt_invoke.specs.Checking.{checked, has_form}
+
+-- the clusters by which fabrics join, whose commands are not built
+abbrev pub is_commissioning : ℕ → Bool
+is_commissioning cluster = cluster == general_commissioning.cluster || (cluster == network_commissioning.cluster || cluster == operational_credentials.cluster)
+
+-- the rows of a place that are nobody's, which are those of attributes that are not scoped by fabric
+abbrev pub nobodys_rows : Observation → Place → List Row
+nobodys_rows o place = filter (λ (row : Row). row.fabric == 0) (o.seen.rows_at place)
+
+abbrev pub carried_out : Observation → Actor → Place → Effect
+carried_out o actor command = invoked (nobodys_rows o) actor command
+
+-- the form of the fields is asked once nothing else stands in the way
+abbrev pub unless_refused : Observation → Actor → Place → Value → Result CommandMeta Status → Effect
+unless_refused o actor command fields (Err status) = refused_at command status
+unless_refused o actor command fields (Ok meta) = if has_form command fields then carried_out o actor command else refused_at command InvalidCommand
+
+-- the reply to a command, and its steps, where the request was timed or was not
+abbrev pub command_effect : Observation → Actor → Bool → Place → Value → Effect
+command_effect o actor timed command fields = unless_refused o actor command fields (checked o.seen actor command timed)
