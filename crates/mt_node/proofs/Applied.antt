@@ -1,15 +1,17 @@
 -- The state behind an outcome, and the room that its steps need.
 use Rattle.std.proofs.Common.{◌≡◌, ℕ, ◌+◌, ◌≤◌, List, [], ◌∷◌, Option, sym, ap, ◌∙◌, subst, map, arith, refl}
+use Rattle.std.specs.Global.{Vec}
 use Rattle.std.specs.List.{sum_by}
 use Rattle.mt_model.specs.declared.tables.access.Actor.{Actor}
 use Rattle.mt_model.specs.declared.node.action.NodeStep.{NodeStep}
 use Rattle.mt_model.specs.declared.node.state.NodeState.{NodeState}
 use Rattle.mt_model.specs.declared.rows.place.Place.{Place}
+use Rattle.mt_model.specs.declared.rows.place.Row.{Row}
 use Rattle.mt_machine.specs.Changes.{change_after, changed_at, count_after, next_change, version_after}
 use Rattle.mt_machine.specs.Effects.{after_all}
+use Rattle.mt_machine.specs.Laws.{ChangesNowhere, StaysSettled}
 use Rattle.mt_machine.specs.Step.{after_steps}
-use Rattle.mt_node.specs.Plan.{needed}
-use Rattle.mt_node.proofs.Same.{settled_same}
+use Rattle.mt_node.specs.Plan.{HaveRoom, needed}
 
 pub applied_is : (asking : Option Actor) (steps : List NodeStep) (places : List Place) (s t u : NodeState) (clock : ℕ) → t ≡ after_all asking steps s
     → t ≡ record s { rows = t.rows; entries = t.entries }
@@ -25,14 +27,17 @@ applied_is asking steps places s t u clock made kept settled =
     ∙ ap (changed_at places s) made)
 
 -- where no step is made, nothing differs
-pub none_made : (asking : Option Actor) (steps : List NodeStep) (places : List Place) (s : NodeState) (clock : ℕ) → steps ≡ [] → places ≡ []
+pub none_made : StaysSettled → ChangesNowhere → (asking : Option Actor) (steps : List NodeStep) (places : List Place) (s : NodeState) (clock : ℕ) → steps ≡ [] → places ≡ []
     → record (changed_at places s (after_all asking steps s)) { clock = clock } ≡ record (after_steps asking steps s) { clock = clock }
-none_made asking steps places s clock none nowhere =
+none_made settled unchanged asking steps places s clock none nowhere =
     (λ i. record (changed_at (nowhere i) s (after_all asking (none i) s)) { clock = clock })
-    ∙ ap (λ (v : NodeState). record v { clock = clock }) (sym (settled_same s))
+    ∙ ap (λ (v : NodeState). record v { clock = clock }) (unchanged s ∙ sym (settled s))
     ∙ (λ i. record (after_steps asking (sym none i) s) { clock = clock })
 
 -- Room.
+
+pub none_have_room : (rows : List Row) (steps : List NodeStep) (rooms : List (Vec Row)) → steps ≡ [] → HaveRoom rows steps rooms
+none_have_room rows steps rooms none = subst (λ (l : List NodeStep). HaveRoom rows l rooms) (sym none) tt
 
 pub none_needed : (count : NodeStep → ℕ) (there room : ℕ) (steps : List NodeStep) → steps ≡ [] → needed count there steps ≤ room
 none_needed count there room steps none = subst (λ (l : List NodeStep). needed count there l ≤ room) (sym none) (omega arith)

@@ -11,7 +11,7 @@ use Rattle.mt_model.specs.tables.Entries.{entry_value}
 use Rattle.mt_model.specs.declared.tables.access.AclEntry.{AclEntry}
 use Rattle.mt_model.specs.declared.tables.access.Actor.{Actor}
 use Rattle.mt_model.specs.declared.node.action.NodeStep.{NodeStep}
-use Rattle.mt_model.specs.declared.node.action.NodeStep.TheVariants.{SetRow, SetEntries, PutNetwork, RemoveNetwork, ConnectNetwork, MoveNetwork}
+use Rattle.mt_model.specs.declared.node.action.NodeStep.TheVariants.{SetRow, SetEntries, PutNetwork, RemoveNetwork, ConnectNetwork, MoveNetwork, Emit}
 use Rattle.mt_model.specs.declared.node.state.NodeState.{NodeState}
 use Rattle.mt_model.specs.declared.rows.place.Place.{Place}
 use Rattle.mt_model.specs.declared.rows.place.Row.{Row}
@@ -19,13 +19,14 @@ use Rattle.mt_apps.specs.Computed.{computed_rows}
 use Rattle.mt_apps.specs.Parts.{Parts}
 use Rattle.mt_meta.specs.Places.{all_places}
 use Rattle.mt_meta.specs.Stored.{is_stored}
-use Rattle.mt_machine.specs.Changes.{are_same_rows, differing, differs}
+use Rattle.mt_model.specs.rows.Same.{are_same_rows}
+use Rattle.mt_machine.specs.Changes.{differing, differs}
 use Rattle.mt_machine.specs.Effects.{after, after_all, is_setting_step}
 use Rattle.mt_machine.specs.State.{parts}
 use Rattle.mt_node.specs.Differences.{differs_by}
 use Rattle.mt_node.proofs.EntriesBehind.{KeepsOtherEntries, ReadsAgain, SetsEntriesInOrder, entries_agree}
 use Rattle.mt_node.proofs.RowsBehind.{KeepsOthers, SetsInOrder, rows_agree}
-use Rattle.mt_node.proofs.Same.{same_rows}
+use Rattle.mt_node.proofs.Same.{ToldSame, same_rows}
 
 -- The rows of a place that are not its list of entries are computed of what no step sets.
 
@@ -47,6 +48,7 @@ parts_step asking (PutNetwork id secret) s setting = absurd (cc)
 parts_step asking (RemoveNetwork id) s setting = absurd (cc)
 parts_step asking (ConnectNetwork id) s setting = absurd (cc)
 parts_step asking (MoveNetwork id index) s setting = absurd (cc)
+parts_step asking (Emit at priority fabric value) s setting = refl
 
 parts_all : (asking : Option Actor) (steps : List NodeStep) (s : NodeState) → list_all is_setting_step steps ≡ true → parts (after_all asking steps s) ≡ record (parts s) { entries = (after_all asking steps s).entries }
 parts_all asking [] s settings = refl
@@ -55,7 +57,7 @@ parts_all asking (step ∷ steps) s settings =
     parts_all asking steps (after asking step s) both.1
     ∙ ap (λ (p : Parts). record p { entries = (after_all asking steps (after asking step s)).entries }) (parts_step asking step s both.0)
 
-module _ (sets : SetsInOrder) (keeps : KeepsOthers) (sets_entries : SetsEntriesInOrder) (keeps_entries : KeepsOtherEntries) (again : ReadsAgain)
+module _ (told : ToldSame) (sets : SetsInOrder) (keeps : KeepsOthers) (sets_entries : SetsEntriesInOrder) (keeps_entries : KeepsOtherEntries) (again : ReadsAgain)
     (order : (rows : List Row) (at : Place) (fabric : ℕ) → IsTrue (are_ascending rows) → in_order fabric (filter (stands_at at) rows) ≡ filter (stands_at at) rows)
     (order_entries : (entries : List AclEntry) (at : Place) (value : AclEntry → Value) (fabric : ℕ) → IsTrue (ascend_from 0 entries) → in_order fabric (entry_rows at value entries) ≡ entry_rows at value entries)
     (asking : Option Actor) (steps : List NodeStep) (s : NodeState) (up : IsTrue (are_ascending s.rows)) (entries_up : IsTrue (ascend_from 0 s.entries)) (settings : list_all is_setting_step steps ≡ true) where
@@ -63,18 +65,18 @@ module _ (sets : SetsInOrder) (keeps : KeepsOthers) (sets_entries : SetsEntriesI
   after_them = after_all asking steps s
 
   stored_agrees : (place : Place) → is_stored place ≡ true → differs_by s steps place ≡ differs s (after_all asking steps s) place
-  stored_agrees place e = rw e (rows_agree sets keeps place asking steps s up order)
+  stored_agrees place e = rw e (rows_agree told sets keeps place asking steps s up order)
 
   entries_agree_at : (place : Place) → is_stored place ≡ false → is_acl place ≡ true → differs_by s steps place ≡ differs s (after_all asking steps s) place
   entries_agree_at place e acl =
-      rw (e, acl) (entries_agree sets_entries keeps_entries again asking steps s entries_up settings order_entries place
+      rw (e, acl) (entries_agree told sets_entries keeps_entries again asking steps s entries_up settings order_entries place
       ∙ (λ i. not (are_same_rows (sym (computed_entries (parts s) place acl) i) (sym (computed_entries (parts (after_all asking steps s)) place acl) i))))
 
   computed_agree : (place : Place) → is_stored place ≡ false → is_acl place ≡ false → differs_by s steps place ≡ differs s (after_all asking steps s) place
   computed_agree place e acl =
       let same : computed_rows (parts s) place ≡ computed_rows (parts (after_all asking steps s)) place =
       computed_else (parts s) (after_all asking steps s).entries place acl ∙ ap (λ (p : Parts). computed_rows p place) (sym (parts_all asking steps s settings)) in
-      rw (e, acl) (sym (ap not (same_rows (computed_rows (parts s) place) (computed_rows (parts (after_all asking steps s)) place) same)))
+      rw (e, acl) (sym (ap not (same_rows told (computed_rows (parts s) place) (computed_rows (parts (after_all asking steps s)) place) same)))
 
   agree_at : (place : Place) → differs_by s steps place ≡ differs s (after_all asking steps s) place
   agree_at place = elim (cases_Bool (is_stored place)) [

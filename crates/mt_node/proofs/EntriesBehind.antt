@@ -12,17 +12,17 @@ use Rattle.mt_model.specs.texts.Config.{ascend_from}
 use Rattle.mt_model.specs.declared.tables.access.AclEntry.{AclEntry}
 use Rattle.mt_model.specs.declared.tables.access.Actor.{Actor}
 use Rattle.mt_model.specs.declared.node.action.NodeStep.{NodeStep}
-use Rattle.mt_model.specs.declared.node.action.NodeStep.TheVariants.{SetRow, SetEntries, PutNetwork, RemoveNetwork, ConnectNetwork, MoveNetwork}
+use Rattle.mt_model.specs.declared.node.action.NodeStep.TheVariants.{SetRow, SetEntries, PutNetwork, RemoveNetwork, ConnectNetwork, MoveNetwork, Emit}
 use Rattle.mt_model.specs.declared.node.state.NodeState.{NodeState}
 use Rattle.mt_model.specs.declared.rows.place.Place.{Place}
 use Rattle.mt_model.specs.declared.rows.place.Row.{Row}
 use Rattle.mt_write.specs.Latest.{entries_set, latest, newer}
-use Rattle.mt_machine.specs.Changes.{are_same_rows}
+use Rattle.mt_model.specs.rows.Same.{are_same_rows}
 use Rattle.mt_machine.specs.Effects.{after, after_all, is_setting_step}
 use Rattle.mt_node.specs.Differences.{are_same_entries, entries_stand, has_other_entries, list_of_entries, sets_other_entries}
 use Rattle.mt_node.proofs.Filters.{filter_all, filter_none, filter_through, filter_without}
 use Rattle.mt_node.proofs.RowsBehind.{rows_are_own}
-use Rattle.mt_node.proofs.Same.{differ_rows, rows_differ, rows_same, same_rows}
+use Rattle.mt_node.proofs.Same.{ToldSame, differ_rows, rows_differ, rows_same, same_rows}
 
 abbrev pub ReadsAgain : Type 0
 ReadsAgain = (entry : AclEntry) → entry_in (entry_value entry) ≡ Some entry
@@ -54,9 +54,9 @@ entries_told again place (x ∷ es) (f ∷ fs) e =
     λ i. same_entry again x f (ap (λ (rows : List Row). first_of rows (entry_value x)) e) i ∷ entries_told again place es fs (ap rest_of e) i
 
 -- a test that decides whether entries are the same
-pub entries_decided : ReadsAgain → (entries new : List AclEntry) (same : Bool) → IsTrue same ↔ (entries ≡ new) → same ≡ are_same_entries entries new
-entries_decided again entries new true decides = sym (same_rows _ _ (ap (entry_rows list_of_entries entry_value) (decides.0 refl)))
-entries_decided again entries new false decides = sym (rows_differ _ _ (λ e. false≢true (decides.1 (entries_told again list_of_entries entries new e))))
+pub entries_decided : ToldSame → ReadsAgain → (entries new : List AclEntry) (same : Bool) → IsTrue same ↔ (entries ≡ new) → same ≡ are_same_entries entries new
+entries_decided told again entries new true decides = sym (same_rows told _ _ (ap (entry_rows list_of_entries entry_value) (decides.0 refl)))
+entries_decided told again entries new false decides = sym (rows_differ told _ _ (λ e. false≢true (decides.1 (entries_told again list_of_entries entries new e))))
 
 -- Entries behind steps.
 
@@ -121,6 +121,7 @@ module _ (fabric : ℕ) where
   behind_step keeps asking (RemoveNetwork id) s up setting = refl
   behind_step keeps asking (ConnectNetwork id) s up setting = refl
   behind_step keeps asking (MoveNetwork id index) s up setting = refl
+  behind_step keeps asking (Emit at-event priority whom value) s up setting = refl
 
   newer_is : (set found : Option (List AclEntry)) (behind before stored : List AclEntry) → behind ≡ unwrap_or set before → before ≡ unwrap_or found stored → behind ≡ unwrap_or (newer set found) stored
   newer_is (Some new) found behind before stored a b = a
@@ -133,6 +134,7 @@ up_step sets asking (PutNetwork id secret) s up setting = up
 up_step sets asking (RemoveNetwork id) s up setting = up
 up_step sets asking (ConnectNetwork id) s up setting = up
 up_step sets asking (MoveNetwork id index) s up setting = up
+up_step sets asking (Emit at-event priority whom value) s up setting = up
 
 pub up_all : SetsEntriesInOrder → (asking : Option Actor) (steps : List NodeStep) (s : NodeState) → ascend_from 0 s.entries ≡ true → list_all is_setting_step steps ≡ true → ascend_from 0 (after_all asking steps s).entries ≡ true
 up_all sets asking [] s up settings = up
@@ -140,7 +142,7 @@ up_all sets asking (step ∷ steps) s up settings =
     let both = and_parts (is_setting_step step) (list_all is_setting_step steps) settings in
     up_all sets asking steps (after asking step s) (up_step sets asking step s up both.0) both.1
 
-module _ (sets : SetsEntriesInOrder) (keeps : KeepsOtherEntries) where
+module _ (told : ToldSame) (sets : SetsEntriesInOrder) (keeps : KeepsOtherEntries) where
   behind_all : (fabric : ℕ) (asking : Option Actor) (steps : List NodeStep) (s : NodeState) (found : Option (List AclEntry)) (stored : List AclEntry) → ascend_from 0 s.entries ≡ true
       → list_all is_setting_step steps ≡ true → own_entries fabric s.entries ≡ unwrap_or found stored
       → own_entries fabric (after_all asking steps s).entries ≡ unwrap_or (latest (entries_set fabric) found steps) stored
@@ -156,11 +158,11 @@ module _ (sets : SetsEntriesInOrder) (keeps : KeepsOtherEntries) where
 
     stays : (set : Option (List AclEntry)) (before after : List AclEntry) → entries_stand before set ≡ true → after ≡ unwrap_or set before → after ≡ before
     stays None before after stand is = is
-    stays (Some new) before after stand is = is ∙ sym (entries_told again list_of_entries before new (rows_same _ _ stand))
+    stays (Some new) before after stand is = is ∙ sym (entries_told again list_of_entries before new (rows_same told _ _ stand))
 
     moves : (set : Option (List AclEntry)) (before after : List AclEntry) → entries_stand before set ≡ false → after ≡ unwrap_or set before → before ≡ after → ⊥
     moves None before after stand is same = absurd (cc)
-    moves (Some new) before after stand is same = differ_rows _ _ stand (ap (entry_rows list_of_entries entry_value) (same ∙ is))
+    moves (Some new) before after stand is same = differ_rows told _ _ stand (ap (entry_rows list_of_entries entry_value) (same ∙ is))
 
     abbrev stands : ℕ → Bool
     stands fabric = entries_stand (own_entries fabric s.entries) (latest (entries_set fabric) None steps)
@@ -176,6 +178,7 @@ module _ (sets : SetsEntriesInOrder) (keeps : KeepsOtherEntries) where
     some_moves (RemoveNetwork id ∷ some) any same = some_moves some any same
     some_moves (ConnectNetwork id ∷ some) any same = some_moves some any same
     some_moves (MoveNetwork id index ∷ some) any same = some_moves some any same
+    some_moves (Emit at-event priority whom value ∷ some) any same = some_moves some any same
 
     -- either what stands is what the steps set, or these steps set nothing of the fabric
     StaysOf : ℕ → List NodeStep → Type 0
@@ -200,6 +203,7 @@ module _ (sets : SetsEntriesInOrder) (keeps : KeepsOtherEntries) where
     none_moves fabric (RemoveNetwork id ∷ some) none = passed fabric (RemoveNetwork id) some refl (none_moves fabric some none)
     none_moves fabric (ConnectNetwork id ∷ some) none = passed fabric (ConnectNetwork id) some refl (none_moves fabric some none)
     none_moves fabric (MoveNetwork id index ∷ some) none = passed fabric (MoveNetwork id index) some refl (none_moves fabric some none)
+    none_moves fabric (Emit at-event priority whom value ∷ some) none = passed fabric (Emit at-event priority whom value) some refl (none_moves fabric some none)
 
     own_stays : (fabric : ℕ) → StaysOf fabric steps → own_entries fabric (after_all asking steps s).entries ≡ own_entries fabric s.entries
     unfolding StaysOf
@@ -227,8 +231,8 @@ module _ (sets : SetsEntriesInOrder) (keeps : KeepsOtherEntries) where
           (λ n. own_rows place n s.entries ∙ ap (entry_rows place entry_value) (sym (own_stays n (none_moves n steps none))) ∙ sym (own_rows place n (after_all asking steps s).entries))
 
       agree : (any : Bool) → has_other_entries s steps ≡ any → any ≡ not (are_same_rows before behind_them)
-      agree true e = sym (ap not (rows_differ before behind_them (λ same. some_moves steps e (entries_told again place s.entries (after_all asking steps s).entries same))))
-      agree false e = sym (ap not (same_rows before behind_them (all_stay e)))
+      agree true e = sym (ap not (rows_differ told before behind_them (λ same. some_moves steps e (entries_told again place s.entries (after_all asking steps s).entries same))))
+      agree false e = sym (ap not (same_rows told before behind_them (all_stay e)))
 
       pub entries_agree : has_other_entries s steps ≡ not (are_same_rows before behind_them)
       entries_agree = agree (has_other_entries s steps) refl

@@ -1,4 +1,6 @@
+pub mod Ample
 pub mod Applied
+pub mod Observed
 pub mod Differ
 pub mod EntriesBehind
 pub mod Filters

@@ -15,10 +15,10 @@ use Rattle.mt_machine.specs.Observation.{observation}
 use Rattle.mt_machine.specs.Step.{after_steps, asked_reply, asked_steps, asker, asker_of, closed_between, gone_between, reply_of, reply_to, steps_of, steps_to}
 use Rattle.mt_node.specs.Answered.{IsAnswer}
 use Rattle.mt_node.specs.Plan.{IsMade, IsPlan}
-use Rattle.mt_node.specs.declared.outcome.Answered.{Answered}
+use Rattle.mt_model.specs.declared.node.action.Effect.{Effect}
 use Rattle.mt_node.specs.declared.outcome.Outcome.{Outcome}
 
-pub plan_of : EndsNothing → (s : NodeState) (action : Action) (now : ℕ) (asking : Option Actor) (answered : Answered) (outcome : Outcome)
+pub plan_of : EndsNothing → (s : NodeState) (action : Action) (now : ℕ) (asking : Option Actor) (answered : Effect) (outcome : Outcome)
     → list_all is_setting_step (steps_of s action now) ≡ true → asking ≡ asker_of s action
     → answered.reply ≡ reply_of s action now → answered.steps ≡ steps_of s action now
     → IsMade s asking answered now outcome → IsPlan s action now outcome
@@ -48,8 +48,8 @@ if_ok P Q (Ok a) f h = f a h
 if_ok P Q (Err e) f h = h
 
 -- what an area answers is the answer to the request
-pub answer_of : {E : Type 0} (result : Result Answered E) (s : NodeState) (asking : Actor) (stood : Bool) (request : Request) (reply : Reply) (steps : List NodeStep)
+pub answer_of : {E : Type 0} (result : Result Effect E) (s : NodeState) (asking : Actor) (stood : Bool) (request : Request) (reply : Reply) (steps : List NodeStep)
     → reply ≡ reply_to (observation asking.fabric s) asking stood request → steps ≡ steps_to (observation asking.fabric s) asking stood request
     → IfOk result (λ answered. answered ≡ record { reply = reply; steps = steps }) → IfOk result (IsAnswer s asking stood request)
-answer_of (Ok answered) s asking stood request reply steps replies makes h = record { reply = ap (λ (a : Answered). a.reply) h ∙ replies; steps = ap (λ (a : Answered). a.steps) h ∙ makes }
+answer_of (Ok answered) s asking stood request reply steps replies makes h = record { reply = ap (λ (a : Effect). a.reply) h ∙ replies; steps = ap (λ (a : Effect). a.steps) h ∙ makes }
 answer_of (Err e) s asking stood request reply steps replies makes h = h

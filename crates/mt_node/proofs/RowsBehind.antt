@@ -10,16 +10,16 @@ use Rattle.mt_model.specs.rows.Setting.{is_above, is_at, is_below, with_rows}
 use Rattle.mt_model.specs.rows.Sight.{same_place, stands_at}
 use Rattle.mt_model.specs.declared.tables.access.Actor.{Actor}
 use Rattle.mt_model.specs.declared.node.action.NodeStep.{NodeStep}
-use Rattle.mt_model.specs.declared.node.action.NodeStep.TheVariants.{SetRow, SetEntries, PutNetwork, RemoveNetwork, ConnectNetwork, MoveNetwork}
+use Rattle.mt_model.specs.declared.node.action.NodeStep.TheVariants.{SetRow, SetEntries, PutNetwork, RemoveNetwork, ConnectNetwork, MoveNetwork, Emit}
 use Rattle.mt_model.specs.declared.node.state.NodeState.{NodeState}
 use Rattle.mt_model.specs.declared.rows.place.Place.{Place}
 use Rattle.mt_model.specs.declared.rows.place.Row.{Row}
 use Rattle.mt_write.specs.Latest.{latest, newer, row_set}
-use Rattle.mt_machine.specs.Changes.{are_same_rows}
+use Rattle.mt_model.specs.rows.Same.{are_same_rows}
 use Rattle.mt_machine.specs.Effects.{after, after_all}
 use Rattle.mt_node.specs.Differences.{rows_stand, sets_other_rows}
 use Rattle.mt_node.proofs.Filters.{filter_all, filter_and, filter_none, filter_through, filter_within, filter_without}
-use Rattle.mt_node.proofs.Same.{differ_rows, rows_differ, rows_same, same_rows}
+use Rattle.mt_node.proofs.Same.{ToldSame, differ_rows, rows_differ, rows_same, same_rows}
 
 -- Rows in the order of their fabrics are told by the rows of each fabric.
 
@@ -111,13 +111,13 @@ module _ (place : Place) (fabric : ℕ) where
   values_told (v ∷ values) = ap (λ (l : List Value). v ∷ l) (values_told values)
 
   -- a test that decides whether these are their values
-  pub rows_decided : (rows : List Row) (values : List Value) (same : Bool) → filter (is_at place fabric) rows ≡ rows → IsTrue same ↔ (map (λ (row : Row). row.value) rows ≡ values)
+  pub rows_decided : ToldSame → (rows : List Row) (values : List Value) (same : Bool) → filter (is_at place fabric) rows ≡ rows → IsTrue same ↔ (map (λ (row : Row). row.value) rows ≡ values)
       → same ≡ are_same_rows rows (map (row_at place fabric) values)
-  rows_decided rows values true own decides =
+  rows_decided told rows values true own decides =
       let all : list_all (is_at place fabric) rows ≡ true = subst (λ (l : List Row). list_all (is_at place fabric) l ≡ true) own (filtered_all rows) in
-      sym (same_rows rows (map (row_at place fabric) values) (rows_told rows all ∙ ap (map (row_at place fabric)) (decides.0 refl)))
-  rows_decided rows values false own decides =
-      sym (rows_differ rows (map (row_at place fabric) values) (λ e. false≢true (decides.1 (ap (map (λ (row : Row). row.value)) e ∙ values_told values))))
+      sym (same_rows told rows (map (row_at place fabric) values) (rows_told rows all ∙ ap (map (row_at place fabric)) (decides.0 refl)))
+  rows_decided told rows values false own decides =
+      sym (rows_differ told rows (map (row_at place fabric) values) (λ e. false≢true (decides.1 (ap (map (λ (row : Row). row.value)) e ∙ values_told values))))
 
   here : (v : Value) → is_at place fabric (row_at place fabric v) ≡ true
   here v = grind (arith, self_place place)
@@ -176,6 +176,7 @@ module _ (place : Place) (fabric : ℕ) where
   behind_step keeps asking (RemoveNetwork id) s up = refl
   behind_step keeps asking (ConnectNetwork id) s up = refl
   behind_step keeps asking (MoveNetwork id index) s up = refl
+  behind_step keeps asking (Emit at-event priority whom value) s up = refl
 
   newer_is : (set found : Option (List Value)) (behind before stored : List Row) → behind ≡ or_stored set before → before ≡ or_stored found stored → behind ≡ or_stored (newer set found) stored
   newer_is (Some values) found behind before stored a b = a
@@ -188,12 +189,13 @@ up_step sets asking (PutNetwork id secret) s up = up
 up_step sets asking (RemoveNetwork id) s up = up
 up_step sets asking (ConnectNetwork id) s up = up
 up_step sets asking (MoveNetwork id index) s up = up
+up_step sets asking (Emit at-event priority whom value) s up = up
 
 pub up_all : SetsInOrder → (asking : Option Actor) (steps : List NodeStep) (s : NodeState) → IsTrue (are_ascending s.rows) → IsTrue (are_ascending (after_all asking steps s).rows)
 up_all sets asking [] s up = up
 up_all sets asking (step ∷ steps) s up = up_all sets asking steps (after asking step s) (up_step sets asking step s up)
 
-module _ (sets : SetsInOrder) (keeps : KeepsOthers) (place : Place) where
+module _ (told : ToldSame) (sets : SetsInOrder) (keeps : KeepsOthers) (place : Place) where
   behind_all : (fabric : ℕ) (asking : Option Actor) (steps : List NodeStep) (s : NodeState) (found : Option (List Value)) (stored : List Row) → IsTrue (are_ascending s.rows)
       → filter (is_at place fabric) s.rows ≡ or_stored place fabric found stored
       → filter (is_at place fabric) (after_all asking steps s).rows ≡ or_stored place fabric (latest (row_set place fabric) found steps) stored
@@ -215,11 +217,11 @@ module _ (sets : SetsInOrder) (keeps : KeepsOthers) (place : Place) where
     -- where what the steps set stands already, nothing differs, and otherwise something does
     stays : (fabric : ℕ) (set : Option (List Value)) (before after : List Row) → rows_stand place fabric before set ≡ true → after ≡ or_stored place fabric set before → after ≡ before
     stays fabric None before after stand is = is
-    stays fabric (Some values) before after stand is = is ∙ sym (rows_same before (map (row_at place fabric) values) stand)
+    stays fabric (Some values) before after stand is = is ∙ sym (rows_same told before (map (row_at place fabric) values) stand)
 
     moves : (fabric : ℕ) (set : Option (List Value)) (before after : List Row) → rows_stand place fabric before set ≡ false → after ≡ or_stored place fabric set before → before ≡ after → ⊥
     moves fabric None before after stand is same = absurd (cc)
-    moves fabric (Some values) before after stand is same = differ_rows before (map (row_at place fabric) values) stand (same ∙ is)
+    moves fabric (Some values) before after stand is same = differ_rows told before (map (row_at place fabric) values) stand (same ∙ is)
 
     abbrev stands : ℕ → Bool
     stands fabric = rows_stand place fabric (filter (is_at place fabric) s.rows) (latest (row_set place fabric) None steps)
@@ -236,6 +238,7 @@ module _ (sets : SetsInOrder) (keeps : KeepsOthers) (place : Place) where
     some_moves (RemoveNetwork id ∷ some) any same = some_moves some any same
     some_moves (ConnectNetwork id ∷ some) any same = some_moves some any same
     some_moves (MoveNetwork id index ∷ some) any same = some_moves some any same
+    some_moves (Emit at-event priority whom value ∷ some) any same = some_moves some any same
 
     -- either what stands is what the steps set, or these steps set nothing of the fabric there
     StaysOf : ℕ → List NodeStep → Type 0
@@ -263,6 +266,7 @@ module _ (sets : SetsInOrder) (keeps : KeepsOthers) (place : Place) where
     none_moves fabric (RemoveNetwork id ∷ some) none = passed fabric (RemoveNetwork id) some refl (none_moves fabric some none)
     none_moves fabric (ConnectNetwork id ∷ some) none = passed fabric (ConnectNetwork id) some refl (none_moves fabric some none)
     none_moves fabric (MoveNetwork id index ∷ some) none = passed fabric (MoveNetwork id index) some refl (none_moves fabric some none)
+    none_moves fabric (Emit at-event priority whom value ∷ some) none = passed fabric (Emit at-event priority whom value) some refl (none_moves fabric some none)
 
     own_stays : (fabric : ℕ) → StaysOf fabric steps → filter (is_at place fabric) (after_all asking steps s).rows ≡ filter (is_at place fabric) s.rows
     unfolding StaysOf
@@ -277,8 +281,8 @@ module _ (sets : SetsInOrder) (keeps : KeepsOthers) (place : Place) where
           (λ n. own_at n s.rows ∙ sym (own_stays n (none_moves n steps none)) ∙ sym (own_at n (after_all asking steps s).rows))
 
       agree : (any : Bool) → list_any (sets_other_rows s.rows steps place) steps ≡ any → any ≡ not (are_same_rows (filter (stands_at place) s.rows) (filter (stands_at place) (after_all asking steps s).rows))
-      agree true e = sym (ap not (rows_differ (filter (stands_at place) s.rows) (filter (stands_at place) (after_all asking steps s).rows) (some_moves steps e)))
-      agree false e = sym (ap not (same_rows (filter (stands_at place) s.rows) (filter (stands_at place) (after_all asking steps s).rows) (all_stay e)))
+      agree true e = sym (ap not (rows_differ told (filter (stands_at place) s.rows) (filter (stands_at place) (after_all asking steps s).rows) (some_moves steps e)))
+      agree false e = sym (ap not (same_rows told (filter (stands_at place) s.rows) (filter (stands_at place) (after_all asking steps s).rows) (all_stay e)))
 
       pub rows_agree : list_any (sets_other_rows s.rows steps place) steps ≡ not (are_same_rows (filter (stands_at place) s.rows) (filter (stands_at place) (after_all asking steps s).rows))
       rows_agree = agree (list_any (sets_other_rows s.rows steps place) steps) refl

@@ -5,6 +5,7 @@ use Rattle.std.specs.List.{list_any}
 use Rattle.mt_tlv.specs.declared.value.Value.{Value}
 use Rattle.mt_model.specs.rows.Order.{entry_rows, row_at}
 use Rattle.mt_model.specs.rows.Seen.{own_entries}
+use Rattle.mt_model.specs.rows.Same.{are_same_rows}
 use Rattle.mt_model.specs.rows.Setting.{is_at}
 use Rattle.mt_model.specs.rows.Sight.{is_acl, same_place}
 use Rattle.mt_model.specs.tables.Entries.{entry_value}
@@ -16,7 +17,6 @@ use Rattle.mt_model.specs.declared.rows.place.Row.{Row}
 use Rattle.mt_model.specs.declared.node.state.NodeState.{NodeState}
 use Rattle.mt_meta.specs.Stored.{is_stored}
 use Rattle.mt_write.specs.Latest.{entries_set, latest, row_set}
-use Rattle.mt_machine.specs.Changes.{are_same_rows}
 
 -- whether rows stand already where these values are set, if any are
 abbrev pub rows_stand : Place → ℕ → List Row → Option (List Value) → Bool

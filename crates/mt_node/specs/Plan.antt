@@ -1,18 +1,23 @@
 -- What an outcome stands for.
-use Rattle.std.specs.Prelude.{◌≡◌, ℕ, ◌+◌, ◌≤◌, true, List, [], ◌∷◌, Option, None, Some, length, vec_capacity}
+use Rattle.std.specs.Prelude.{◌≡◌, ℕ, ◌+◌, ◌≤◌, ◌==◌, ◌&&◌, ⊤, not, true, List, [], ◌∷◌, Option, None, Some, filter, if◌then◌else◌, length, vec_capacity}
+use Rattle.std.specs.Global.{Vec}
 use Rattle.std.specs.List.{list_all, sum_by}
 use Rattle.std.specs.Option.{option_and_then}
+use Rattle.mt_model.specs.rows.Setting.{is_other_at, with_rows}
+use Rattle.mt_model.specs.rows.Sight.{same_place}
 use Rattle.mt_model.specs.declared.tables.access.Actor.{Actor}
 use Rattle.mt_model.specs.declared.node.action.Action.{Action}
 use Rattle.mt_model.specs.declared.node.action.Action.TheVariants.{Ask}
 use Rattle.mt_model.specs.declared.node.action.NodeStep.{NodeStep}
 use Rattle.mt_model.specs.declared.node.action.NodeStep.TheVariants.{SetRow, SetEntries}
+use Rattle.mt_model.specs.declared.rows.place.Place.{Place}
+use Rattle.mt_model.specs.declared.rows.place.Row.{Row}
 use Rattle.mt_model.specs.declared.messages.message.Request.{Request}
 use Rattle.mt_model.specs.declared.node.state.NodeState.{NodeState}
 use Rattle.mt_machine.specs.Changes.{changed_at}
 use Rattle.mt_machine.specs.Effects.{after_all, is_setting_step}
 use Rattle.mt_machine.specs.Step.{Aside, after_action, after_steps, aside_of, asker, reply_of, steps_of}
-use Rattle.mt_node.specs.declared.outcome.Answered.{Answered}
+use Rattle.mt_model.specs.declared.node.action.Effect.{Effect}
 use Rattle.mt_node.specs.declared.outcome.Outcome.{Outcome}
 
 -- the state behind an outcome: its steps are made, versions and change numbers follow from where attributes differ, and it is its time
@@ -23,12 +28,37 @@ applied outcome s = record (changed_at outcome.places s (after_all outcome.askin
 abbrev pub aside_in : Outcome → Aside
 aside_in outcome = record { session = outcome.session; closed = outcome.closed; gone = outcome.gone }
 
--- How many rows, and how many entries, a step sets.
+-- Room for rows.
 
-abbrev pub rows_in : NodeStep → ℕ
-rows_in (SetRow place fabric values) = length values
-rows_in step = 0
+-- the rows behind a step
+abbrev pub rows_behind : NodeStep → List Row → List Row
+rows_behind (SetRow place fabric values) rows = with_rows place fabric values rows
+rows_behind step rows = rows
 
+-- room for the rows of others at a step's place, and for those that it sets
+abbrev pub IsRoomFor : List Row → NodeStep → Vec Row → Type 0
+IsRoomFor rows (SetRow place fabric values) room = (room.items ≡ []) × (length (filter (is_other_at place fabric) rows) + length values ≤ vec_capacity room)
+IsRoomFor rows step room = ⊤
+
+-- one room for each step, as it finds the rows
+abbrev pub HaveRoom : List Row → List NodeStep → List (Vec Row) → Type 0
+HaveRoom rows [] rooms = ⊤
+HaveRoom rows (step ∷ steps) [] = ⊥
+HaveRoom rows (step ∷ steps) (room ∷ rooms) = IsRoomFor rows step room × HaveRoom (rows_behind step rows) steps rooms
+
+-- how many rows of fabrics other than this a step sets at this place
+abbrev pub others_in : Place → ℕ → NodeStep → ℕ
+others_in place fabric (SetRow at whose values) = if same_place at place && not (whose == fabric) then length values else 0
+others_in place fabric step = 0
+
+-- room enough whatever the other ones of these steps do before
+abbrev pub IsAmple : List Row → List NodeStep → NodeStep → Vec Row → Type 0
+IsAmple rows steps (SetRow place fabric values) room = (room.items ≡ []) × ((length (filter (is_other_at place fabric) rows) + length values) + sum_by (others_in place fabric) steps ≤ vec_capacity room)
+IsAmple rows steps step room = ⊤
+
+-- Room for entries.
+
+-- how many entries a step sets
 abbrev pub entries_in : NodeStep → ℕ
 entries_in (SetEntries fabric entries) = length entries
 entries_in step = 0
@@ -40,13 +70,12 @@ needed count there (step ∷ steps) = there + sum_by count (step ∷ steps)
 
 -- The outcome brings the room that its steps need, so that nothing is taken when they are made.
 pub record HasRoom (s : NodeState) (outcome : Outcome) : Type 0 where
-  pub no_rows : outcome.rows_room.items ≡ []
+  pub rows : HaveRoom s.rows outcome.steps outcome.rows_rooms.items
   pub no_entries : outcome.entries_room.items ≡ []
-  pub rows : needed rows_in (length s.rows) outcome.steps ≤ vec_capacity outcome.rows_room
   pub entries : needed entries_in (length s.entries) outcome.steps ≤ vec_capacity outcome.entries_room
 
 -- The outcome is that of an answer to whoever is taken as asking, at this time.
-pub record IsMade (s : NodeState) (asking : Option Actor) (answered : Answered) (now : ℕ) (outcome : Outcome) : Type 0 where
+pub record IsMade (s : NodeState) (asking : Option Actor) (answered : Effect) (now : ℕ) (outcome : Outcome) : Type 0 where
   pub reply : outcome.reply ≡ answered.reply
   pub aside : aside_in outcome ≡ record { session = option_and_then (λ (actor : Actor). actor.session) asking; closed = []; gone = None }
   pub steps : outcome.steps ≡ answered.steps

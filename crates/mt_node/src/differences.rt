@@ -18,9 +18,9 @@ use crate::node::Node;
 use mt_meta::clusters::ACCESS_CONTROL;
 use mt_meta::{all_places, is_stored};
 use mt_model::{
-    AclEntries, AclEntry, NodeState, NodeStep, Place, Places, Row, Rows, Values,
+    AclEntries, AclEntry, NodeState, NodeStep, Place, Places, Row, StoredRows, Values,
     entries_are_in_order, entries_are_read_again, entries_of, rows_of_a_place_are_in_order,
-    set_entries_stand_in_order, set_rows_stand_in_order,
+    set_entries_stand_in_order, set_rows_stand_in_order, what_is_told_the_same_is,
 };
 use mt_tlv::Value;
 use mt_write::{latest_entries, latest_row};
@@ -39,6 +39,7 @@ pub(crate) fn differing(
     rows_of_a_place_are_in_order();
     entries_are_in_order();
     entries_are_read_again();
+    what_is_told_the_same_is();
     places_by(alloc, node, steps)
 }
 
@@ -69,7 +70,7 @@ fn is_acl(place: &Place) -> bool
     place.cluster == ACCESS_CONTROL && place.leaf == 0
 }
 
-fn has_other_rows(rows: &Rows, steps: &[NodeStep], place: &Place) -> bool
+fn has_other_rows(rows: &StoredRows, steps: &[NodeStep], place: &Place) -> bool
     ensures { result ≡ list_any (sets_other_rows rows.now steps.now place.now) steps.now }
 {
     steps
@@ -77,7 +78,7 @@ fn has_other_rows(rows: &Rows, steps: &[NodeStep], place: &Place) -> bool
         .any(|step| sets_other_rows(rows, steps, place, step))
 }
 
-fn sets_other_rows(rows: &Rows, steps: &[NodeStep], place: &Place, step: &NodeStep) -> bool
+fn sets_other_rows(rows: &StoredRows, steps: &[NodeStep], place: &Place, step: &NodeStep) -> bool
     ensures { result ≡ sets_other_rows rows.now steps.now place.now step.now }
 {
     match step {
@@ -103,6 +104,7 @@ fn rows_stand(place: &Place, fabric: u8, rows: &[Row], values: Option<&Values>) 
     ensures { filter (is_at place.now fabric) rows.now ≡ rows.now
         → result ≡ rows_stand place.now fabric rows.now (option_map (λ values. values.now) values.entry) }
 {
+    what_is_told_the_same_is();
     match values {
         Some(values) => are_values(rows, values.as_slice()),
         None => true,
@@ -151,6 +153,7 @@ fn entries_stand(entries: &[AclEntry], new: Option<&AclEntries>) -> bool
     ensures { result ≡ entries_stand entries.now (option_map (λ new. new.now) new.entry) }
 {
     entries_are_read_again();
+    what_is_told_the_same_is();
     match new {
         Some(new) => are_same_entries(entries, new.as_slice()),
         None => true,

@@ -4,22 +4,23 @@
 ghost use Rattle.std.specs.Prelude.{◌≡◌, ◌+◌, ◌≤◌, ◌≢◌, [], true, IfOk, IfSome, IsTrue, Option, length, map, vec_capacity, vec_len};
 ghost use Rattle.std.specs.List.{list_all, list_any, sum_by};
 ghost use Rattle.std.specs.Option.{option_and_then};
-ghost use Rattle.mt_model.specs.rows.Order.{are_ascending};
 ghost use Rattle.mt_model.specs.rows.Sight.{same_place};
 ghost use Rattle.mt_model.specs.texts.Config.{ascend_from};
 ghost use Rattle.mt_model.specs.declared.tables.access.Actor.{Actor};
 ghost use Rattle.mt_model.specs.declared.node.state.NodeState.{NodeState};
 ghost use Rattle.mt_machine.specs.Changes.{change_after, count_after, is_within, next_change, version_after};
 ghost use Rattle.mt_machine.specs.Effects.{after, after_all, is_setting_step};
-ghost use Rattle.mt_node.specs.Plan.{HasRoom, IsMade, applied, entries_in, needed, rows_in};
+ghost use Rattle.mt_node.specs.Plan.{HasRoom, HaveRoom, IsMade, IsRoomFor, applied, entries_in, needed, rows_behind};
 
 use crate::differences::differing;
 use crate::node::Node;
-use crate::outcome::{Answered, Outcome};
+use crate::outcome::Outcome;
+use crate::rooms::rooms;
+use mt_machine::actions_set_values;
 use mt_model::{
-    AclEntries, AclEntry, Actor, ChangeNumber, ChangeNumbers, NodeState, NodeStep, Place, Places,
-    Row, Rows, SessionIds, Steps, Version, Versions, set_entries, set_entries_stand_in_order,
-    set_rows, set_rows_stand_in_order,
+    AclEntries, AclEntry, Actor, ChangeNumber, ChangeNumbers, Effect, NodeState, NodeStep, Place,
+    Places, Row, SessionIds, Steps, StoredRows, Version, Versions, set_entries,
+    set_entries_stand_in_order,
 };
 use std::alloc::{AllocError, Global};
 use std::mem::replace;
@@ -29,7 +30,7 @@ pub(crate) fn outcome(
     alloc: Global,
     node: &Node,
     asking: Option<Actor>,
-    answered: Answered,
+    answered: Effect,
     now: u64,
 ) -> Result<Outcome, AllocError>
     ensures { IfOk result (IsMade node.now.state asking answered now) }
@@ -39,7 +40,8 @@ pub(crate) fn outcome(
     }
     let steps = answered.steps.as_slice();
     let places = differing(alloc, node, steps)?;
-    let Some(needed) = needed(&node.state, steps) else {
+    let rows_rooms = rooms(alloc, &node.state.rows, steps)?;
+    let Some(entries) = entries_needed(&node.state.entries, steps) else {
         return Err(AllocError);
     };
     Ok(Outcome {
@@ -50,22 +52,18 @@ pub(crate) fn outcome(
         asking,
         steps: answered.steps,
         places,
-        rows_room: Vec::with_capacity(alloc, needed.0)?,
-        entries_room: Vec::with_capacity(alloc, needed.1)?,
+        rows_rooms,
+        entries_room: Vec::with_capacity(alloc, entries)?,
         clock: now,
     })
 }
 
 /// The outcome of an answer that makes no step: the time alone is new.
-pub(crate) fn unchanged(
-    alloc: Global,
-    asking: Option<Actor>,
-    answered: Answered,
-    now: u64,
-) -> Outcome
+pub(crate) fn unchanged(alloc: Global, asking: Option<Actor>, answered: Effect, now: u64) -> Outcome
     requires { answered.steps ≡ [] }
     ensures { (s : NodeState) → IsMade s asking answered now result }
 {
+    actions_set_values();
     Outcome {
         reply: answered.reply,
         session: session_of(asking),
@@ -74,7 +72,7 @@ pub(crate) fn unchanged(
         asking,
         steps: answered.steps,
         places: Places::new(alloc),
-        rows_room: Vec::new(alloc),
+        rows_rooms: Vec::new(alloc),
         entries_room: Vec::new(alloc),
         clock: now,
     }
@@ -89,26 +87,15 @@ fn session_of(asking: Option<Actor>) -> Option<u16>
     }
 }
 
-// For how many rows and for how many entries there is to be room, None where they are past counting.
-fn needed(state: &NodeState, steps: &[NodeStep]) -> Option<(usize, usize)>
-    ensures { IfSome result (λ room. (room.0 ≡ length state.now.rows + sum_by rows_in steps.now) × (room.1 ≡ length state.now.entries + sum_by entries_in steps.now)) }
+// For how many entries there is to be room, None where they are past counting.
+fn entries_needed(entries: &AclEntries, steps: &[NodeStep]) -> Option<usize>
+    ensures { IfSome result (λ room. room ≡ length entries.now + sum_by entries_in steps.now) }
 {
-    let mut rows = state.rows.len();
-    let mut entries = state.entries.len();
+    let mut needed = entries.len();
     for step in steps {
-        rows = rows.checked_add(rows_in(step))?;
-        entries = entries.checked_add(entries_in(step))?;
+        needed = needed.checked_add(entries_in(step))?;
     }
-    Some((rows, entries))
-}
-
-fn rows_in(step: &NodeStep) -> usize
-    ensures { result ≡ rows_in step.now }
-{
-    match step {
-        NodeStep::SetRow { values, .. } => values.len(),
-        _ => 0,
-    }
+    Some(needed)
 }
 
 fn entries_in(step: &NodeStep) -> usize
@@ -130,12 +117,12 @@ pub(crate) fn apply(alloc: Global, state: &mut NodeState, outcome: Outcome)
     let Outcome {
         steps,
         places,
-        rows_room,
+        rows_rooms,
         entries_room,
         clock,
         ..
     } = outcome;
-    make(alloc, state, steps, rows_room, entries_room);
+    make(alloc, state, steps, rows_rooms, entries_room);
     settle(alloc, state, places.as_slice());
     state.clock = clock;
 }
@@ -145,14 +132,13 @@ fn make(
     alloc: Global,
     state: &mut NodeState,
     steps: Steps,
-    rows_room: Vec<Row>,
+    rows_rooms: Vec<Vec<Row>>,
     entries_room: Vec<AclEntry>,
 )
     requires steps { list_all is_setting_step steps ≡ true }
     requires ascending { IsTrue (ascend_from 0 state.old.entries) }
-    requires no_rows { rows_room.items ≡ [] }
+    requires rows { HaveRoom state.old.rows steps rows_rooms.items }
     requires no_entries { entries_room.items ≡ [] }
-    requires rows { needed rows_in (length state.old.rows) steps ≤ vec_capacity rows_room }
     requires entries { needed entries_in (length state.old.entries) steps ≤ vec_capacity entries_room }
     ensures made { (asking : Option Actor) → state.new ≡ after_all asking steps state.old }
     ensures kept { state.new ≡ record state.old { rows = state.new.rows; entries = state.new.entries } }
@@ -160,84 +146,85 @@ fn make(
     if steps.is_empty() {
         return;
     }
-    make_in_room(alloc, state, steps, rows_room, entries_room);
+    make_in_room(alloc, state, steps, rows_rooms, entries_room);
 }
 
-// Moves rows and entries into the room that is there for them, and makes the steps.
+// Moves the entries into the room that is there for them, and makes the steps.
 fn make_in_room(
     alloc: Global,
     state: &mut NodeState,
     steps: Steps,
-    rows_room: Vec<Row>,
+    rows_rooms: Vec<Vec<Row>>,
     entries_room: Vec<AclEntry>,
 )
     requires steps { list_all is_setting_step steps ≡ true }
     requires ascending { IsTrue (ascend_from 0 state.old.entries) }
-    requires no_rows { rows_room.items ≡ [] }
+    requires rows { HaveRoom state.old.rows steps rows_rooms.items }
     requires no_entries { entries_room.items ≡ [] }
-    requires rows { length state.old.rows + sum_by rows_in steps ≤ vec_capacity rows_room }
     requires entries { length state.old.entries + sum_by entries_in steps ≤ vec_capacity entries_room }
     ensures made { (asking : Option Actor) → state.new ≡ after_all asking steps state.old }
     ensures kept { state.new ≡ record state.old { rows = state.new.rows; entries = state.new.entries } }
 {
-    let rows = replace(&mut state.rows, Rows::new(alloc));
     let entries = replace(&mut state.entries, AclEntries::new(alloc));
-    let mut rows = moved(rows.into_vec(), rows_room);
     let mut entries = moved(entries.into_vec(), entries_room);
-    make_steps(steps, &mut rows, &mut entries);
-    state.rows = Rows::from_vec(rows);
+    make_steps(steps, rows_rooms, &mut state.rows, &mut entries);
     state.entries = AclEntries::from_vec(entries);
 }
 
-// The items, in the room that is there for them.
-fn moved<T: Drop>(items: Vec<T>, room: Vec<T>) -> Vec<T>
+// The entries, in the room that is there for them.
+fn moved(entries: Vec<AclEntry>, room: Vec<AclEntry>) -> Vec<AclEntry>
     requires empty { room.items ≡ [] }
-    requires room { vec_len items ≤ vec_capacity room }
-    ensures items { result.items ≡ items.items }
+    requires room { vec_len entries ≤ vec_capacity room }
+    ensures items { result.items ≡ entries.items }
     ensures capacity { vec_capacity room ≤ vec_capacity result }
 {
-    let mut items = items;
+    let mut entries = entries;
     let mut room = room;
-    room.append(&mut items).unwrap();
+    room.append(&mut entries).unwrap();
     room
 }
 
-fn make_steps(steps: Steps, rows: &mut Vec<Row>, entries: &mut Vec<AclEntry>)
+// Makes each step in its room.
+fn make_steps(
+    steps: Steps,
+    rows_rooms: Vec<Vec<Row>>,
+    rows: &mut StoredRows,
+    entries: &mut Vec<AclEntry>,
+)
     requires steps { list_all is_setting_step steps ≡ true }
-    requires rows_ascend { IsTrue (are_ascending rows.old.items) }
     requires entries_ascend { IsTrue (ascend_from 0 entries.old.items) }
-    requires rows { vec_len rows.old + sum_by rows_in steps ≤ vec_capacity rows.old }
+    requires rows { HaveRoom rows.old steps rows_rooms.items }
     requires entries { vec_len entries.old + sum_by entries_in steps ≤ vec_capacity entries.old }
-    ensures ascending { IsTrue (are_ascending rows.new.items) }
-    ensures made { (asking : Option Actor) (s : NodeState) → after_all asking steps (record s { rows = rows.old.items; entries = entries.old.items }) ≡ record s { rows = rows.new.items; entries = entries.new.items } }
+    ensures made { (asking : Option Actor) (s : NodeState) → after_all asking steps (record s { rows = rows.old; entries = entries.old.items }) ≡ record s { rows = rows.new; entries = entries.new.items } }
 {
+    let mut rooms = rows_rooms.into_iter();
     for step in steps.into_vec() {
-        make_step(step, rows, entries);
+        // There is a room for each step.
+        let Some(room) = rooms.next() else {
+            return;
+        };
+        make_step(step, room, rows, entries);
     }
 }
 
-fn make_step(step: NodeStep, rows: &mut Vec<Row>, entries: &mut Vec<AclEntry>)
+fn make_step(step: NodeStep, room: Vec<Row>, rows: &mut StoredRows, entries: &mut Vec<AclEntry>)
     requires setting { is_setting_step step ≡ true }
-    requires rows_ascend { IsTrue (are_ascending rows.old.items) }
     requires entries_ascend { IsTrue (ascend_from 0 entries.old.items) }
-    requires rows { vec_len rows.old + rows_in step ≤ vec_capacity rows.old }
+    requires rows { IsRoomFor rows.old step room }
     requires entries { vec_len entries.old + entries_in step ≤ vec_capacity entries.old }
-    ensures rows_ascend { IsTrue (are_ascending rows.new.items) }
+    ensures rows { rows.new ≡ rows_behind step rows.old }
     ensures entries_ascend { IsTrue (ascend_from 0 entries.new.items) }
-    ensures rows { vec_len rows.new ≤ vec_len rows.old + rows_in step }
     ensures entries { vec_len entries.new ≤ vec_len entries.old + entries_in step }
-    ensures rows_capacity { vec_capacity rows.new ≡ vec_capacity rows.old }
     ensures entries_capacity { vec_capacity entries.new ≡ vec_capacity entries.old }
-    ensures made { (asking : Option Actor) (s : NodeState) → after asking step (record s { rows = rows.old.items; entries = entries.old.items }) ≡ record s { rows = rows.new.items; entries = entries.new.items } }
+    ensures made { (asking : Option Actor) (s : NodeState) → after asking step (record s { rows = rows.old; entries = entries.old.items }) ≡ record s { rows = rows.new; entries = entries.new.items } }
 {
-    set_rows_stand_in_order();
     set_entries_stand_in_order();
     match step {
         NodeStep::SetRow {
             place,
             fabric,
             values,
-        } => set_rows(rows, &place, fabric, values),
+        } => rows.set(&place, fabric, values, room),
         NodeStep::SetEntries {
             fabric,
             entries: new,
@@ -246,6 +233,7 @@ fn make_step(step: NodeStep, rows: &mut Vec<Row>, entries: &mut Vec<AclEntry>)
         NodeStep::RemoveNetwork { .. } => {},
         NodeStep::ConnectNetwork { .. } => {},
         NodeStep::MoveNetwork { .. } => {},
+        NodeStep::Emit { .. } => {},
     }
 }
 
@@ -254,6 +242,7 @@ fn make_step(step: NodeStep, rows: &mut Vec<Row>, entries: &mut Vec<AclEntry>)
 fn settle(alloc: Global, state: &mut NodeState, places: &[Place])
     ensures { state.new ≡ record state.old { versions = map (version_after places.now) state.old.versions; changes = map (change_after places.now (next_change state.old.changed)) state.old.changes; changed = count_after places.now state.old.changed } }
 {
+    actions_set_values();
     if places.is_empty() {
         return;
     }

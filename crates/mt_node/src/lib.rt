@@ -5,14 +5,16 @@
 //! - `outcome`: what comes of an action;
 //! - `actors`: who is taken as asking;
 //! - `requests`: the table of requests, and which area answers each;
-//! - `reads`, `writes`: the areas;
+//! - `reads`, `writes`, `commands`: the areas;
 //! - `differences`: which attributes differ behind the steps of an answer;
 //! - `effects`: what the steps of an answer make of the state;
+//! - `rooms`: the room for the rows that the steps set;
 //! - `sight`: what of the node answers are made of;
 //! - `opening`: the state in which a new node begins.
 #![tactic(auto)]
 
 mod actors;
+mod commands;
 mod differences;
 mod effects;
 mod node;
@@ -20,6 +22,7 @@ mod opening;
 mod outcome;
 mod reads;
 mod requests;
+mod rooms;
 mod sight;
 mod writes;
 

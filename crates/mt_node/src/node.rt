@@ -9,11 +9,11 @@ ghost use Rattle.mt_node.specs.Sessions.{is_live_session};
 
 use crate::effects::{outcome, unchanged};
 use crate::opening::opened;
-use crate::outcome::{Answered, Outcome};
+use crate::outcome::Outcome;
 use crate::requests::{answered, nothing, refused};
 use crate::{actors, effects};
 use mt_machine::{actions_set_values, states_are_valid};
-use mt_model::{Action, Actor, Config, ExactCopy, NodeState, Request, Status};
+use mt_model::{Action, Actor, Config, Effect, ExactCopy, NodeState, Request, Status};
 use std::alloc::{AllocError, Global};
 use std::marker::Model;
 
@@ -98,7 +98,7 @@ impl Node {
         request: &Request,
         timed: Option<u64>,
         now: u64,
-    ) -> Result<Answered, AllocError>
+    ) -> Result<Effect, AllocError>
         requires { is_built_request request.now ≡ true }
         ensures { IfOk result (IsAnswerInTime self.now.state asking.now request.now timed now) }
     {

@@ -2,13 +2,6 @@
 
 use mt_model::{AclEntry, Actor, Places, Reply, Row, SessionIds, Steps};
 
-/// What a request is answered: the reply, and what it makes of the state.
-#[derive(Drop)]
-pub(crate) struct Answered {
-    pub(crate) reply: Reply,
-    pub(crate) steps: Steps,
-}
-
 /// What a planned action answers, and what it makes of the node.
 #[derive(Drop)]
 pub struct Outcome {
@@ -26,8 +19,8 @@ pub struct Outcome {
     pub(crate) steps: Steps,
     /// The attributes that differ behind the steps.
     pub(crate) places: Places,
-    /// Room for the rows and for the entries that there will be.
-    pub(crate) rows_room: Vec<Row>,
+    /// For each step room for the rows of its place, and room for the entries that there will be.
+    pub(crate) rows_rooms: Vec<Vec<Row>>,
     pub(crate) entries_room: Vec<AclEntry>,
     /// The time of the action, in ms.
     pub(crate) clock: u64,

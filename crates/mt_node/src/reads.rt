@@ -7,10 +7,9 @@ ghost use Rattle.mt_machine.specs.Observation.{observation};
 ghost use Rattle.mt_machine.specs.Step.{is_item, names_item, read_reply};
 
 use crate::node::Node;
-use crate::outcome::Answered;
 use crate::requests::refused;
 use mt_machine::rows_stand_in_order;
-use mt_model::{Actor, Index, Items, Path, Paths, Reply, Status, Steps, Versions};
+use mt_model::{Actor, Effect, Index, Items, Path, Paths, Reply, Status, Steps, Versions};
 use mt_read::{ReadFault, read};
 use std::alloc::AllocError;
 
@@ -21,14 +20,14 @@ pub(crate) fn answered(
     paths: &Paths,
     filtered: bool,
     versions: &Versions,
-) -> Result<Answered, AllocError>
+) -> Result<Effect, AllocError>
     ensures { IfOk result (λ answered. answered ≡ record { reply = read_reply (observation asking.now.fabric node.now.state) asking.now paths.now filtered versions.now; steps = [] }) }
 {
     if any_item(paths.as_slice()) {
         return Ok(refused(node.alloc, Status::InvalidAction));
     }
     match seen(node, asking, paths, filtered, versions) {
-        Ok(items) => Ok(Answered {
+        Ok(items) => Ok(Effect {
             reply: Reply::Report {
                 subscription: None,
                 items,

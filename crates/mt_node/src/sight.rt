@@ -75,8 +75,9 @@ fn copied(alloc: Global, rows: &[Row]) -> Result<Rows, AllocError>
 }
 
 // The parts of the state from which rows are computed.
-fn view(node: &Node) -> View<'_>
-    ensures { parts_in result ≡ parts node.now.state }
+pub(crate) fn view(node: &Node) -> View<'_>
+    ensures parts { parts_in result ≡ parts node.now.state }
+    ensures rows { result.rows.now ≡ node.now.state.rows }
 {
     let state = &node.state;
     View {

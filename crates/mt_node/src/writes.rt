@@ -1,15 +1,17 @@
 //! Writes.
 
-ghost use Rattle.std.specs.Prelude.{◌≡◌, IfOk};
+ghost use Rattle.std.specs.Prelude.{◌≡◌, ◌++◌, IfOk, OnOk};
+ghost use Rattle.mt_apps.specs.EntryEvents.{entry_events};
+ghost use Rattle.mt_model.specs.rows.Seen.{own_entries};
 ghost use Rattle.mt_machine.specs.Observation.{observation};
-ghost use Rattle.mt_machine.specs.Step.{is_untimely, statuses_of, write_reply, write_steps};
+ghost use Rattle.mt_machine.specs.Step.{with_events, write_reply, write_steps};
 ghost use Rattle.mt_write.specs.Writing.{write_answer};
 
 use crate::node::Node;
-use crate::outcome::Answered;
-use crate::requests::refused;
+use crate::requests::{is_untimely, refused, unless_suppressed};
+use mt_apps::entry_events;
 use mt_machine::rows_stand_in_order;
-use mt_model::{Actor, Items, Reply, Status, Writes};
+use mt_model::{Actor, Effect, Reply, Sight, Status, Steps, Writes};
 use mt_write::{Written, write};
 use std::alloc::AllocError;
 
@@ -21,35 +23,18 @@ pub(crate) fn answered(
     suppress: bool,
     timed: bool,
     items: &Writes,
-) -> Result<Answered, AllocError>
+) -> Result<Effect, AllocError>
     ensures { let seen_by = observation asking.now.fabric node.now.state in
         IfOk result (λ answered. answered ≡ record { reply = write_reply seen_by asking.now stood suppress timed items.now; steps = write_steps seen_by asking.now stood timed items.now }) }
 {
     if is_untimely(stood, timed) {
         return Ok(refused(node.alloc, Status::TimedRequestMismatch));
     }
-    let written = written(node, asking, timed, items)?;
-    Ok(Answered {
-        reply: statuses_of(suppress, written.statuses),
-        steps: written.rows,
+    let Written { rows, statuses } = written(node, asking, timed, items)?;
+    Ok(Effect {
+        reply: unless_suppressed(suppress, Reply::Written { items: statuses }),
+        steps: with_events(node, asking, rows)?,
     })
-}
-
-// Whether a deadline stood for the write and it says that none did, or the other way round.
-fn is_untimely(stood: bool, timed: bool) -> bool
-    ensures { result ≡ is_untimely stood timed }
-{
-    stood != timed
-}
-
-// The statuses, unless no answer is asked for.
-fn statuses_of(suppress: bool, statuses: Items) -> Reply
-    ensures { result ≡ statuses_of suppress statuses }
-{
-    if suppress {
-        return Reply::Nothing;
-    }
-    Reply::Written { items: statuses }
 }
 
 // What whoever asks writes, of what its fabric observes.
@@ -58,4 +43,23 @@ fn written(node: &Node, asking: &Actor, timed: bool, items: &Writes) -> Result<W
 {
     rows_stand_in_order();
     write(node.alloc, node, asking, items, timed)
+}
+
+// The steps, and the events of those that set entries.
+fn with_events(node: &Node, asking: &Actor, steps: Steps) -> Result<Steps, AllocError>
+    ensures { IfOk result (λ all. all ≡ with_events (observation asking.now.fabric node.now.state) asking.now steps) }
+{
+    let entries = node.entries(asking.fabric);
+    let events = entry_events(node.alloc, asking, entries, steps.as_slice())?;
+    behind(steps, events)
+}
+
+// These steps and the others behind them.
+fn behind(steps: Steps, others: Steps) -> Result<Steps, AllocError>
+    ensures { IfOk result (λ all. all ≡ steps ++ others) }
+{
+    let mut all = steps.into_vec();
+    let mut others = others.into_vec();
+    all.append(&mut others)?;
+    Ok(Steps::from_vec(all))
 }

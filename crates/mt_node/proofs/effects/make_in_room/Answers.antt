@@ -5,8 +5,7 @@ use Rattle.mt_node.proofs.effects.make_in_room.Goals as goal
 pub returns-clause-made : goal.returns-clause-made
 returns-clause-made c = λ asking.
     let s = c.args.state.now in
-    let rows : c.moved-rows.result.items ≡ s.rows = c.moved-rows.ensures.items ∙ c.into_vec.ensures.value ∙ c.replace-rows.ensures.value in
-    let entries : c.moved-entries.result.items ≡ s.entries = c.moved-entries.ensures.items ∙ c.into_vec-2.ensures ∙ c.replace-entries.ensures.value in
-    (λ i. record s { rows = c.from_vec.ensures i; entries = c.from_vec-2.ensures i })
+    let entries : c.moved-entries.result.items ≡ s.entries = c.moved-entries.ensures.items ∙ c.into_vec.ensures ∙ c.replace-entries.ensures.value in
+    (λ i. record s { rows = c.make_steps.new.rows; entries = c.from_vec.ensures i })
     ∙ sym (c.make_steps.ensures.made asking s)
-    ∙ (λ i. after_all asking c.args.steps (record s { rows = rows i; entries = entries i }))
+    ∙ (λ i. after_all asking c.args.steps (record s { rows = s.rows; entries = entries i }))

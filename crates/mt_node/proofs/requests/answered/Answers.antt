@@ -1,7 +1,7 @@
 use Rattle.std.proofs.Common.{refl, []}
 use Rattle.mt_model.specs.declared.messages.message.Request.TheVariants as requests
 use Rattle.mt_machine.specs.Observation.{observation}
-use Rattle.mt_machine.specs.Step.{read_reply, write_reply, write_steps}
+use Rattle.mt_machine.specs.Step.{invoke_reply, invoke_steps, read_reply, write_reply, write_steps}
 use Rattle.mt_node.proofs.Plans.{answer_of}
 use Rattle.mt_node.proofs.requests.answered.Goals as goal
 
@@ -20,3 +20,12 @@ returns-in-Write c =
     let o = observation asking.fabric s in
     let stood = c.args.stood in
     rw c.in-Write.is (answer_of c.answered-in-Write.result s asking stood (requests.Write r.suppress r.timed r.items) (write_reply o asking stood r.suppress r.timed r.items) (write_steps o asking stood r.timed r.items) refl refl c.answered-in-Write.ensures)
+
+pub returns-in-Invoke : goal.returns-in-Invoke
+returns-in-Invoke c =
+    let r = c.in-Invoke in
+    let s = c.args.node.now.state in
+    let asking = c.args.asking.now in
+    let o = observation asking.fabric s in
+    let stood = c.args.stood in
+    rw c.in-Invoke.is (answer_of c.answered-in-Invoke.result s asking stood (requests.Invoke r.suppress r.timed r.command r.fields) (invoke_reply o asking stood r.suppress r.timed r.command r.fields) (invoke_steps o asking stood r.timed r.command r.fields) refl refl c.answered-in-Invoke.ensures)
