@@ -81,8 +81,8 @@ fn targets(alloc: Global, word: &str) -> io::Result<Targets> {
     Ok(targets)
 }
 
-// Whoever asks: fabric, mode, node, and its CATs, with 0 for a place that has none.
-fn actor(fabric: &str, proved: &str, node: &str, cats: &str) -> io::Result<Actor> {
+/// Whoever asks: fabric, mode, node, and its CATs, with 0 for a place that has none.
+pub(crate) fn actor(fabric: &str, proved: &str, node: &str, cats: &str) -> io::Result<Actor> {
     let cats = tags(cats)?;
     let fabric = code(fabric)?;
     let auth = mode(proved)?;

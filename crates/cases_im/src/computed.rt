@@ -9,7 +9,7 @@ use crate::telling::tell_value;
 use mt_apps::rows_at;
 use mt_model::{
     AclEntries, AclEntry, Auth, Credentials, Fabric, Fabrics, Network, Networks, Place, Privilege,
-    Roots, Rows, Subjects, Target, Targets, View,
+    Roots, StoredRows, Subjects, Target, Targets, View,
 };
 use mt_tlv::Bytes;
 use std::alloc::{AllocError, Global};
@@ -103,7 +103,7 @@ fn roots(alloc: Global) -> Result<Roots, AllocError> {
 // The parts of the node.
 #[derive(Drop)]
 struct Parts {
-    rows: Rows,
+    rows: StoredRows,
     entries: AclEntries,
     fabrics: Fabrics,
     roots: Roots,
@@ -114,12 +114,13 @@ fn some_parts(alloc: Global) -> Result<Parts, AllocError>
     ensures entries { IfOk result (λ parts. IsTrue (ascend_from 0 parts.entries)) }
     ensures fabrics { IfOk result (λ parts. IsTrue (fabrics_ascend parts.fabrics)) }
 {
+    let rows = StoredRows::new(alloc)?;
     let entries = entries(alloc)?;
     let fabrics = fabrics(alloc)?;
     let roots = roots(alloc)?;
     let networks = networks(alloc)?;
     Ok(Parts {
-        rows: Rows::new(alloc),
+        rows,
         entries,
         fabrics,
         roots,

@@ -1,10 +1,12 @@
 //! Reads cases of the interaction model from its input, a case a line, and writes what comes of each: what a
 //! request is decoded as, or its first fault, the bytes of requests and replies, what the table of clusters
-//! says, what grants, what is computed, and what reads and writes are answered. A line that begins with `#` is
-//! a heading, and is written again. A line of another form ends the program.
+//! says, what grants, what is computed, what reads and writes are answered, and what stands in the way of
+//! commands. A line that begins with `#` is a heading, and is written again. A line of another form ends the
+//! program.
 #![tactic(auto)]
 
 mod access;
+mod commands;
 mod computed;
 mod node;
 mod reading;
@@ -135,6 +137,7 @@ impl Stand {
                 rt, named, index, version, data,
             ),
             ["write", node, timed] => self.write(rt, node, timed),
+            ["check", ..] | ["fields", ..] => commands::tell(rt, &self.node, words),
             _ => answer(rt, &mut self.items, words),
         }
     }

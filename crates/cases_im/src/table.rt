@@ -3,10 +3,10 @@
 use crate::reading::{narrow_number, no_case, path, place};
 use crate::telling::tell_value;
 use mt_meta::{
-    Asked, expand, find, find_command, find_event, first_rows, is_global, is_stored,
+    Asked, all_places, expand, find, find_command, find_event, first_rows, is_global, is_stored,
     privilege_asked, responses_of,
 };
-use mt_model::Path;
+use mt_model::{Path, Row};
 use std::io;
 
 /// What is asked of the table.
@@ -90,7 +90,17 @@ fn tell_first_rows(rt: &HostRuntime) -> io::Result<()> {
     let Ok(rows) = first_rows(rt.alloc()) else {
         return Err(no_case());
     };
-    for row in rows.as_slice() {
+    let Ok(places) = all_places(rt.alloc()) else {
+        return Err(no_case());
+    };
+    for place in places.as_slice() {
+        tell_rows(rt, rows.at(place))?;
+    }
+    Ok(())
+}
+
+fn tell_rows(rt: &HostRuntime, rows: &[Row]) -> io::Result<()> {
+    for row in rows {
         let place = row.place;
         let stored = is_stored(&place);
         print!(rt; "{:x}/{:x}/{:x}", place.endpoint, place.cluster, place.leaf)?;
