@@ -1,20 +1,22 @@
-//! The recordings that are measured: each is one configuration, and one request over and over. Writes change what
-//! stands each time.
+//! The recordings that are measured: each is one configuration, and one request over and over. Writes and commands
+//! change what stands each time.
 
 use crate::written::{Written, items};
 use mt_files::write_event;
 use mt_im_out::encode_request;
-use mt_model::opcode::{READ_REQUEST, WRITE_REQUEST};
-use mt_model::{Event, Index, Path, Paths, Request, Version, Versions};
+use mt_model::opcode::{INVOKE_REQUEST, READ_REQUEST, WRITE_REQUEST};
+use mt_model::{Event, Index, Path, Paths, Place, Request, Version, Versions};
+use mt_tlv::{Members, Value};
 use std::alloc::{AllocError, Global};
 
 /// A recording of the table, which is made and not stored.
 #[derive(Clone, Copy)]
 pub(crate) struct Recording {
     pub(crate) name: &'static str,
-    /// How many fabrics the node has, and how many entries each of them.
+    /// How many fabrics the node has, how many entries each of them, and how many the last one.
     fabrics: u8,
     entries: u8,
+    last_entries: u8,
     /// How many bytes a fabric's root certificate has.
     root: u32,
     asked: Asked,
@@ -30,6 +32,8 @@ enum Asked {
     /// Eight attributes once and one of another cluster eight times, with sixteen filters that fit none.
     Sixteen,
     Write(Written),
+    /// That On/Off of endpoint 1 be what it is not.
+    Toggle,
 }
 
 fn of_two_fabrics(name: &'static str, asked: Path, filtered: bool) -> Recording {
@@ -37,6 +41,7 @@ fn of_two_fabrics(name: &'static str, asked: Path, filtered: bool) -> Recording 
         name,
         fabrics: 2,
         entries: 2,
+        last_entries: 2,
         root: 1,
         asked: Asked::One(asked),
         filtered,
@@ -67,12 +72,15 @@ pub(crate) fn acl() -> Path {
 }
 
 /// The recordings of the table.
-pub(crate) fn recordings() -> [Recording; 10] {
+pub(crate) fn recordings() -> [Recording; 11] {
     [
         of_two_fabrics("attribute", attributes(1, Some(6), Some(0)), true),
         of_two_fabrics("endpoint-0", attributes(0, None, None), true),
         of_two_fabrics("endpoint-1", attributes(1, None, None), true),
-        of_two_fabrics("entries", acl(), false),
+        Recording {
+            last_entries: 1,
+            ..of_two_fabrics("entries", acl(), false)
+        },
         Recording {
             asked: Asked::Sixteen,
             ..of_two_fabrics("paths", acl(), true)
@@ -80,6 +88,7 @@ pub(crate) fn recordings() -> [Recording; 10] {
         Recording {
             fabrics: 16,
             entries: 4,
+            last_entries: 4,
             ..of_two_fabrics("all-entries", acl(), false)
         },
         Recording {
@@ -94,6 +103,10 @@ pub(crate) fn recordings() -> [Recording; 10] {
             ..writes("items-by-turns", Written::Items)
         },
         writes("own-entries", Written::Entries),
+        Recording {
+            asked: Asked::Toggle,
+            ..of_two_fabrics("toggle", acl(), false)
+        },
     ]
 }
 
@@ -127,7 +140,12 @@ impl Recording {
         text.push_str("\", \"vendor\": 65521, \"label\": \"")?;
         text.push_str(pair.as_str())?;
         text.push_str("\", \"acl\": [")?;
-        push_entries(self.entries, text)?;
+        let entries = if number < self.fabrics {
+            self.entries
+        } else {
+            self.last_entries
+        };
+        push_entries(entries, text)?;
         text.push_str("]}")
     }
 
@@ -159,6 +177,7 @@ impl Recording {
     fn opcode(&self) -> u8 {
         match self.asked {
             Asked::Write(_) => WRITE_REQUEST,
+            Asked::Toggle => INVOKE_REQUEST,
             _ => READ_REQUEST,
         }
     }
@@ -170,6 +189,7 @@ impl Recording {
         match self.asked {
             Asked::One(path) => paths.push(path)?,
             Asked::Sixteen => push_sixteen(&mut paths, &mut versions)?,
+            Asked::Toggle => return Ok(toggle(alloc)),
             Asked::Write(what) => {
                 return Ok(Request::Write {
                     suppress: false,
@@ -185,6 +205,19 @@ impl Recording {
             filtered: self.filtered,
             versions,
         })
+    }
+}
+
+fn toggle(alloc: Global) -> Request {
+    Request::Invoke {
+        suppress: false,
+        timed: false,
+        command: Place {
+            endpoint: 1,
+            cluster: 6,
+            leaf: 2,
+        },
+        fields: Value::Struct(Members::from_vec(Vec::new(alloc))),
     }
 }
 
