@@ -1,4 +1,5 @@
 pub mod Bare
+pub mod Copied
 pub mod Entries
 pub mod Fabrics
 pub mod FirstField

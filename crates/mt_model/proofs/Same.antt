@@ -1,6 +1,6 @@
 -- Rows and entries are told apart by their codes.
 use base.Stored.{Gv, gnil, gnum, gcons}
-use Rattle.std.proofs.Common.{◌≡◌, ◌==◌, true, List, refl, sym, ap, ◌∙◌, subst, arith, ℕ, Some, Option}
+use Rattle.std.proofs.Common.{◌≡◌, ◌==◌, true, List, refl, sym, ap, ◌∙◌, subst, arith, ℕ, Some}
 use Rattle.std.proofs.lemmas.Bool.{and_parts, eqb-true}
 use Rattle.mt_tlv.specs.contracts.value.Value as values
 use Rattle.mt_model.specs.rows.Same.{are_same_codes, are_same_rows, is_same_entry, rows_code}

@@ -35,7 +35,7 @@ filter_every : {X : Type 0} (p q : X → Bool) → ((x : X) → q x ≡ true →
 filter_every p q h [] all = refl
 filter_every {X} p q h (x ∷ xs) all = rw (h x (and_parts _ _ all).0) (ap (λ (l : List X). x ∷ l) (filter_every p q h xs (and_parts _ _ all).1))
 
-all_weaker : {X : Type 0} (p q : X → Bool) → ((x : X) → p x ≡ true → q x ≡ true) → (xs : List X) → list_all p xs ≡ true → list_all q xs ≡ true
+pub all_weaker : {X : Type 0} (p q : X → Bool) → ((x : X) → p x ≡ true → q x ≡ true) → (xs : List X) → list_all p xs ≡ true → list_all q xs ≡ true
 all_weaker p q h [] all = refl
 all_weaker p q h (x ∷ xs) all = and_from _ _ (h x (and_parts _ _ all).0) (all_weaker p q h xs (and_parts _ _ all).1)
 
@@ -336,7 +336,7 @@ module _ (place : Place) where
 
 -- Rows of the place that are set stand there.
 module _ (place : Place) (fabric : ℕ) where
-  filter_keeps : (p : Row → Bool) (rows : List Row) → list_all (stands_at place) rows ≡ true → list_all (stands_at place) (filter p rows) ≡ true
+  pub filter_keeps : (p : Row → Bool) (rows : List Row) → list_all (stands_at place) rows ≡ true → list_all (stands_at place) (filter p rows) ≡ true
   filter_keeps p [] all = refl
   filter_keeps p (row ∷ rows) all = elim (cases_Bool (p row)) [
     | inl e ↦ rw e (and_from _ _ (and_parts _ _ all).0 (filter_keeps p rows (and_parts _ _ all).1))

@@ -31,6 +31,16 @@ impl ExactCopy for Value {
     }
 }
 
+// A copy of what may be there.
+pub(crate) fn copy_of<T: ExactCopy>(value: &Option<T>) -> Result<Option<T>, AllocError>
+    ensures { IfOk result (λ copied. copied ≡ value.now) }
+{
+    match value {
+        Some(value) => Ok(Some(value.copy()?)),
+        None => Ok(None),
+    }
+}
+
 /// A list of values. Contracts see the list alone, not how it lies in memory.
 #[derive(Drop)]
 pub struct Listed<T> {

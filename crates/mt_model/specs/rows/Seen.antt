@@ -6,6 +6,7 @@ use Rattle.mt_model.specs.declared.tables.access.AclEntry.{AclEntry}
 use Rattle.mt_model.specs.declared.rows.place.Place.{Place}
 use Rattle.mt_model.specs.declared.rows.place.Row.{Row}
 use Rattle.mt_model.specs.declared.node.state.Version.{Version}
+use Rattle.mt_model.specs.tables.Known.{Known}
 
 -- The rows of each place as the fabric sees them, by ascending fabric and in the order of each list; the data
 -- versions; the fabric's own access control entries.
@@ -35,5 +36,7 @@ pub record Observation : Type 0 where
   pub is_plain : Bool
   -- what a read is answered from
   pub seen : Seen
+  -- what is known of the fabrics, the networks and the fail-safe
+  pub known : Known
   -- the time of the latest event, in ms
   pub clock : ℕ

@@ -8,6 +8,7 @@ use crate::messages::message::{Reply, Request};
 use crate::messages::status::Status;
 use crate::rows::place::Place;
 use crate::tables::access::{AclEntries, Actor};
+use crate::tables::fabric::{Credentials, Fabric};
 use mt_tlv::{Bytes, Value};
 use std::alloc::Global;
 
@@ -25,6 +26,8 @@ pub enum Action {
         /// Until when the request must have come, in ms, where a timed request went before it.
         timed: Option<u64>,
     },
+    /// To let the fail-safe expire, where it is time.
+    Expire,
     /// To see what time it is.
     Nothing,
 }
@@ -65,6 +68,48 @@ pub enum NodeStep {
     MoveNetwork {
         id: Bytes,
         index: u8,
+    },
+    /// The fail-safe is armed for this fabric, 0 for whoever commissions over PASE, for so many seconds. The
+    /// networks are saved.
+    Arm {
+        owner: u8,
+        seconds: u16,
+    },
+    /// The fail-safe lasts for so many seconds from now on.
+    Renew {
+        seconds: u16,
+    },
+    /// The fail-safe expires: what was done under it is taken back.
+    Expire,
+    /// Commissioning is complete: the fail-safe is not armed any more, and what was done under it stays.
+    Complete,
+    /// This root certificate is trusted, and is that of the commissioning that goes on.
+    AddRoot {
+        cert: Bytes,
+    },
+    /// A signing request of this nonce was answered, for new credentials of a fabric or for a new fabric.
+    Csr {
+        nonce: Bytes,
+        update: bool,
+    },
+    /// This fabric joins the table, under the least index that no fabric has. Commissioning goes on for it,
+    /// whoever asks over PASE follows it, and sessions that waited for its identity may be used.
+    AddFabric {
+        fabric: Fabric,
+    },
+    /// The fabric of this index has these credentials; those that it had are saved.
+    UpdateFabric {
+        index: u8,
+        credentials: Credentials,
+    },
+    /// The fabric of this index leaves the table, with all that is its own.
+    RemoveFabric {
+        index: u8,
+    },
+    /// The fabric of this index has this label.
+    Label {
+        index: u8,
+        label: Bytes,
     },
     /// An event of this place happened. It changes nothing that is kept yet: events are not recorded.
     Emit {

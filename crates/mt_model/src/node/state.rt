@@ -1,8 +1,8 @@
 //! What the node keeps.
 
-ghost use Rattle.std.specs.Prelude.{◌≡◌};
+ghost use Rattle.std.specs.Prelude.{◌≡◌, IfOk};
 
-use crate::listed::{ExactCopy, Listed};
+use crate::listed::{ExactCopy, Listed, copy_of};
 use crate::rows::place::Place;
 use crate::rows::stored::StoredRows;
 use crate::tables::access::{AclEntries, Auth};
@@ -112,4 +112,53 @@ pub struct NodeState {
     pub boot: u32,
     /// The time of the latest event, in ms.
     pub clock: u64,
+}
+
+impl NodeState {
+    // Copies of the access control list, the fabrics, the roots and the networks.
+    fn copy_tables(&self) -> Result<(AclEntries, Fabrics, Roots, Networks), AllocError>
+        ensures { IfOk result (λ copied. copied ≡ (self.now.entries, self.now.fabrics, self.now.roots, self.now.networks)) }
+    {
+        Ok((
+            self.entries.copy()?,
+            self.fabrics.copy()?,
+            self.roots.copy()?,
+            self.networks.copy()?,
+        ))
+    }
+
+    // Copies of the versions, the change numbers and the sessions.
+    fn copy_versions_and_sessions(
+        &self,
+    ) -> Result<(Versions, ChangeNumbers, NodeSessions), AllocError>
+        ensures { IfOk result (λ copied. copied ≡ (self.now.versions, self.now.changes, self.now.sessions)) }
+    {
+        Ok((
+            self.versions.copy()?,
+            self.changes.copy()?,
+            self.sessions.copy()?,
+        ))
+    }
+}
+
+impl ExactCopy for NodeState {
+    fn copy(&self) -> Result<NodeState, AllocError> {
+        let (entries, fabrics, roots, networks) = self.copy_tables()?;
+        let (versions, changes, sessions) = self.copy_versions_and_sessions()?;
+        Ok(NodeState {
+            rows: self.rows.copy()?,
+            entries,
+            fabrics,
+            roots,
+            networks,
+            armed: copy_of(&self.armed)?,
+            versions,
+            changes,
+            changed: self.changed,
+            sessions,
+            plain: self.plain,
+            boot: self.boot,
+            clock: self.clock,
+        })
+    }
 }

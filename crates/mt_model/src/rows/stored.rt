@@ -1,13 +1,14 @@
 //! The stored rows, kept by place.
 
-ghost use Rattle.std.specs.Prelude.{◌≡◌, ◌+◌, ◌≤◌, ◌++◌, ◌∷◌, [], true, IfOk, IsTrue, OnOk, filter, length, not, vec_capacity, vec_len};
+ghost use Rattle.std.specs.Prelude.{◌≡◌, ◌==◌, ◌+◌, ◌≤◌, ◌++◌, ◌∷◌, [], true, IfOk, IsTrue, OnOk, filter, length, not, vec_capacity, vec_len};
 ghost use Rattle.std.specs.List.{list_all};
 ghost use Rattle.mt_model.specs.rows.Order.{are_ascending};
 ghost use Rattle.mt_model.specs.rows.Setting.{is_at, is_other_at, with_rows};
 ghost use Rattle.mt_model.specs.rows.Sight.{stands_at};
-ghost use Rattle.mt_model.specs.rows.Stored.{is_stored_place, stored_places};
+ghost use Rattle.mt_model.specs.rows.Stored.{is_stored_place, stays, stored_places};
 ghost use Rattle.mt_model.specs.declared.rows.place.Row.{Row};
 
+use crate::listed::ExactCopy;
 use crate::node::action::Values;
 use crate::rows::place::{Place, Row};
 use crate::rows::setting::{rows_within, set_rows};
@@ -60,6 +61,7 @@ pub fn stored_places() -> &'static [Place]
 /// the others. Contracts see all of them as one list, ascending by place, by fabric and by the order of the list.
 #[derive(Drop)]
 pub struct StoredRows {
+    alloc: Global,
     places: BTreeMap<Place, Vec<Row>>,
 }
 
@@ -88,7 +90,7 @@ impl StoredRows {
         for place in stored_places() {
             places.insert(*place, Vec::new(alloc))?;
         }
-        Ok(StoredRows { places })
+        Ok(StoredRows { alloc, places })
     }
 
     /// These rows, which ascend, each at a stored place. The values are moved.
@@ -102,6 +104,27 @@ impl StoredRows {
             stored.push(row)?;
         }
         Ok(stored)
+    }
+
+    /// A copy of the rows of all fabrics but this one, those of nobody (fabric 0) among them where the fabric is not 0.
+    pub fn copy_without(&self, fabric: u8) -> Result<StoredRows, AllocError>
+        ensures { IfOk result (λ rows. rows ≡ filter (λ (row : Row). not (row.fabric == fabric)) self.now) }
+    {
+        self.copy_of_others(Some(fabric))
+    }
+
+    // A copy of the rows, those of the fabric to be left out not among them.
+    fn copy_of_others(&self, left_out: Option<u8>) -> Result<StoredRows, AllocError>
+        ensures { IfOk result (λ rows. rows ≡ filter (stays left_out) self.now) }
+    {
+        let mut places = BTreeMap::new(self.alloc);
+        for (place, rows) in &self.places {
+            places.insert(*place, copies(self.alloc, rows, left_out)?)?;
+        }
+        Ok(StoredRows {
+            alloc: self.alloc,
+            places,
+        })
     }
 
     // Adds a row at a stored place, which may follow all others.
@@ -160,6 +183,25 @@ impl StoredRows {
         };
         set_in_room(rows, place, fabric, values, room);
     }
+}
+
+impl ExactCopy for StoredRows {
+    fn copy(&self) -> Result<StoredRows, AllocError> {
+        self.copy_of_others(None)
+    }
+}
+
+// Copies of rows, those of the fabric to be left out not among them.
+fn copies(alloc: Global, rows: &[Row], left_out: Option<u8>) -> Result<Vec<Row>, AllocError>
+    ensures { IfOk result (λ copies. copies.items ≡ filter (stays left_out) rows.now) }
+{
+    let mut copies = Vec::with_capacity(alloc, rows.len())?;
+    for row in rows {
+        if left_out != Some(row.fabric) {
+            copies.push(row.copy()?)?;
+        }
+    }
+    Ok(copies)
 }
 
 // Moves the rows of others into the room, and sets those of this fabric at this place there.

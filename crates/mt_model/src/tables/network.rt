@@ -1,8 +1,8 @@
 //! The networks that the node knows, and the fail-safe under which commissioning changes things.
 
-ghost use Rattle.std.specs.Prelude.{◌≡◌, IfOk};
+ghost use Rattle.std.specs.Prelude.{◌≡◌};
 
-use crate::listed::{ExactCopy, Listed};
+use crate::listed::{ExactCopy, Listed, copy_of};
 use crate::tables::fabric::Credentials;
 use mt_tlv::Bytes;
 use std::alloc::AllocError;
@@ -57,16 +57,6 @@ pub struct Armed {
     pub saved_credentials: Option<Credentials>,
     /// The networks as they stood at arming.
     pub saved_networks: Networks,
-}
-
-// A copy of what may be there.
-fn copy_of<T: ExactCopy>(value: &Option<T>) -> Result<Option<T>, AllocError>
-    ensures { IfOk result (λ copied. copied ≡ value.now) }
-{
-    match value {
-        Some(value) => Ok(Some(value.copy()?)),
-        None => Ok(None),
-    }
 }
 
 impl ExactCopy for (Bytes, bool) {
