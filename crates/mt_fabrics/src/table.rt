@@ -47,6 +47,22 @@ impl FabricTable {
         }
     }
 
+    /// The table of these fabrics.
+    pub fn from_fabrics(alloc: Global, fabrics: Fabrics) -> FabricTable
+        requires { IsTable fabrics }
+        ensures { result ≡ fabrics }
+    {
+        FabricTable { alloc, fabrics }
+    }
+
+    /// The fabrics, for a node to keep.
+    pub fn into_fabrics(self) -> Fabrics
+        ensures value { result ≡ self }
+        ensures valid { IsTable result }
+    {
+        self.fabrics
+    }
+
     /// Adds a fabric under the least unused index from 1, whatever index it has, and answers that
     /// index. It takes memory. After a refusal the table is as before, and the fabric is let go.
     pub fn add(&mut self, fabric: Fabric) -> Result<u8, FabricFault>

@@ -1,6 +1,6 @@
 -- What arming, renewing, completing and expiring answer, and what they make of the fail-safe (Matter Core Specification,
 -- chapter 11, General Commissioning Cluster). None stands for one that is not armed.
-use Rattle.std.specs.Prelude.{ℕ, ◌+◌, ◌*◌, ◌==◌, ◌&&◌, min, Bool, true, false, List, Option, Some, None, Result, Ok, Err, if◌then◌else◌}
+use Rattle.std.specs.Prelude.{ℕ, ◌+◌, ◌-◌, ◌*◌, ◌^◌, ◌==◌, ◌&&◌, min, Bool, true, false, List, Option, Some, None, Result, Ok, Err, if◌then◌else◌}
 use Rattle.mt_model.specs.declared.tables.access.Actor.{Actor}
 use Rattle.mt_model.specs.declared.tables.access.Auth.{Auth}
 use Rattle.mt_model.specs.declared.tables.access.Auth.TheVariants as auths
@@ -18,6 +18,10 @@ use Rattle.mt_failsafe.specs.declared.undo.Undo.{Undo}
 abbrev pub longest : ℕ
 longest = 900000
 
+-- past which time one that is armed now can't be renewed, at most the last of 64 bits
+abbrev pub limit_of : ℕ → ℕ
+limit_of now = min (now + longest) (2 ^ 64 - 1)
+
 -- when a fail-safe with this limit ends that now is to last for so many seconds
 abbrev pub until_of : ℕ → ℕ → ℕ → ℕ
 until_of now seconds limit = min (now + 1000 * seconds) limit
@@ -30,7 +34,7 @@ is_armed_by owner (Some armed) = armed.owner == owner
 
 -- the fail-safe of an owner who arms it now, for so many seconds, while the networks are these
 abbrev pub armed_by : ℕ → ℕ → ℕ → List Network → Armed
-armed_by owner now seconds networks = record { owner = owner; context = owner; until = until_of now seconds (now + longest); limit = now + longest; added = None; updated = None; root = None; csr = None; saved_credentials = None; saved_networks = networks }
+armed_by owner now seconds networks = record { owner = owner; context = owner; until = until_of now seconds (limit_of now); limit = limit_of now; added = None; updated = None; root = None; csr = None; saved_credentials = None; saved_networks = networks }
 
 abbrev pub arm_answer : Option Armed → Result (Unit {0}) Busy
 arm_answer None = Ok tt

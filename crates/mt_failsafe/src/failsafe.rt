@@ -1,7 +1,6 @@
 //! The fail-safe and its calls.
 
-ghost use Rattle.std.specs.Prelude.{◌≡◌, ◌≢◌, ◌↔◌, ◌≤◌, None, Some, false, IsTrue, IfErr, IfSome, OnErr, OnOk, option_copied, option_map};
-ghost use Rattle.mt_model.specs.declared.limits.TheConstants.{LAST_TIME};
+ghost use Rattle.std.specs.Prelude.{◌≡◌, ◌≢◌, ◌↔◌, None, Some, false, IsTrue, IfErr, IfSome, OnErr, OnOk, option_copied, option_map};
 ghost use Rattle.mt_failsafe.specs.Calls.{arm_answer, armed_by, complete_answer, is_armed_by, is_of_context, put_back, renew_answer, renewed, undo_of, until_of, updated_of};
 ghost use Rattle.mt_failsafe.specs.Facts.{keeps_facts};
 ghost use Rattle.mt_failsafe.specs.Notes.{may_note_added, may_note_csr, may_note_root, may_note_updated, owner_behind, with_added, with_csr, with_root, with_updated};
@@ -69,8 +68,7 @@ impl Failsafe {
     /// Arms it for a fabric that has not armed it, 0 for whoever commissions over PASE: from now, in ms,
     /// for so many seconds, and never past 900 s. Busy where another has armed it.
     pub fn arm(&mut self, owner: u8, now: u64, seconds: u16, saved: Saved) -> Result<(), Busy>
-        requires time { now ≤ LAST_TIME }
-        requires not_own { is_armed_by owner self.old ≡ false }
+        requires { is_armed_by owner self.old ≡ false }
         // Ok exactly where it is not armed, and otherwise Busy with its owner, who is another.
         ensures answer { result ≡ arm_answer self.old }
         ensures another { IfErr result (λ busy. busy.owner ≢ owner) }
@@ -88,7 +86,6 @@ impl Failsafe {
     /// Lets it last from now, in ms, for so many seconds, and never past 900 s behind its arming; that
     /// may be earlier than before. NotArmed where it is not armed, Busy where another has armed it.
     pub fn renew(&mut self, owner: u8, now: u64, seconds: u16) -> Result<(), FailsafeFault>
-        requires { now ≤ LAST_TIME }
         // Ok exactly where the owner asks, NotArmed exactly where it is not armed, otherwise Busy.
         ensures answer { result ≡ renew_answer owner self.old }
         ensures ok { OnOk result (self.new ≡ option_map (renewed now seconds) self.old) }
@@ -201,17 +198,15 @@ impl ExactCopy for Failsafe {
 
 // When a fail-safe with this limit ends that now is to last for so many seconds.
 fn until(now: u64, seconds: u16, limit: u64) -> u64
-    requires { now ≤ LAST_TIME }
     ensures { result ≡ until_of now seconds limit }
 {
-    (now + 1000 * u64::from(seconds)).min(limit)
+    now.saturating_add(1000 * u64::from(seconds)).min(limit)
 }
 
 fn first_armed(owner: u8, now: u64, seconds: u16, networks: Networks) -> Armed
-    requires { now ≤ LAST_TIME }
     ensures { result ≡ armed_by owner now seconds networks }
 {
-    let limit = now + LONGEST_FAILSAFE;
+    let limit = now.saturating_add(LONGEST_FAILSAFE);
     Armed {
         owner,
         context: owner,
