@@ -1,4 +1,3 @@
 pub mod Bare
 pub mod EntryEvents
-pub mod Nulls
 pub mod Untagged

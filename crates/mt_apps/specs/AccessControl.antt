@@ -7,11 +7,11 @@ use Rattle.mt_model.specs.declared.tables.access.AclEntry.{AclEntry}
 use Rattle.mt_model.specs.declared.limits.TheConstants.{ENTRIES, SUBJECTS, TARGETS}
 use Rattle.mt_model.specs.declared.rows.place.Place.{Place}
 use Rattle.mt_model.specs.declared.rows.place.Row.{Row}
-use Rattle.mt_apps.specs.Parts.{row_at}
+use Rattle.mt_apps.specs.Lists.{item_row}
 
 -- The list: a row for each entry.
 abbrev pub entry_row : Place → AclEntry → Row
-entry_row place entry = row_at place entry.fabric (entry_value entry)
+entry_row = item_row (λ (entry : AclEntry). entry.fabric) entry_value
 
 abbrev pub access_control_value : ℕ → Option Value
 access_control_value leaf =

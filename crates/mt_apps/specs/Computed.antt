@@ -2,6 +2,7 @@
 -- Specification, chapters 7, 9 and 11). What each cluster has of them stands in the file of its name.
 use Rattle.std.specs.Prelude.{◌==◌, List, [], ◌∷◌, Option, Some, None, map, if◌then◌else◌}
 use Rattle.mt_tlv.specs.declared.value.Value.{Value}
+use Rattle.mt_model.specs.rows.Order.{row_at}
 use Rattle.mt_model.specs.rows.Sight.{is_acl, is_nocs}
 use Rattle.mt_model.specs.declared.rows.place.Place.{Place}
 use Rattle.mt_model.specs.declared.rows.place.Row.{Row}
@@ -18,7 +19,7 @@ use Rattle.mt_apps.specs.GeneralCommissioning.{general_commissioning_value}
 use Rattle.mt_apps.specs.Globals.{global_value}
 use Rattle.mt_apps.specs.NetworkCommissioning.{network_commissioning_value}
 use Rattle.mt_apps.specs.OperationalCredentials.{fabric_row, is_fabrics, noc_row, operational_credentials_value}
-use Rattle.mt_apps.specs.Parts.{Parts, row_at}
+use Rattle.mt_apps.specs.Parts.{Parts}
 
 -- Attributes that are not fabric-scoped: the value, None where there is none or where it is stored.
 

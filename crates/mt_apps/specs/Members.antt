@@ -1,10 +1,9 @@
 -- Values as trees, and as members of an array.
-use Rattle.std.specs.Prelude.{ℕ, List, map}
-use Rattle.mt_tlv.specs.Tree.{Tree, uint, none, more}
+use Rattle.std.specs.Prelude.{List, map}
+use Rattle.mt_tlv.specs.Tree.{Tree}
 use Rattle.mt_tlv.specs.declared.value.Tag.{Tag}
-use Rattle.mt_tlv.specs.declared.value.Tag.TheVariants.{Anonymous, Context}
+use Rattle.mt_tlv.specs.declared.value.Tag.TheVariants.{Anonymous}
 use Rattle.mt_tlv.specs.declared.value.Value.{Value}
-use Rattle.mt_tlv.specs.declared.value.Value.TheVariants as values
 use Rattle.mt_tlv.specs.View.{value_of}
 
 -- an item as a member of an array, without a tag
@@ -13,7 +12,3 @@ member of x = (Anonymous, value_of (of x))
 
 abbrev pub members : {X : Type 0} → (X → Tree) → List X → List (Tag × Value)
 members of xs = map (member of) xs
-
--- an item of which nothing is left but the field that names its fabric
-abbrev pub fabric_alone : ℕ → Value
-fabric_alone fabric = values.Struct (more (Context 254) (uint fabric) none)

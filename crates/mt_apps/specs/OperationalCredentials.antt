@@ -10,7 +10,8 @@ use Rattle.mt_model.specs.declared.limits.TheConstants.{FABRICS}
 use Rattle.mt_model.specs.declared.rows.place.Place.{Place}
 use Rattle.mt_model.specs.declared.rows.place.Row.{Row}
 use Rattle.mt_meta.specs.clusters.OperationalCredentials as operational_credentials
-use Rattle.mt_apps.specs.Parts.{Parts, row_at}
+use Rattle.mt_apps.specs.Lists.{item_row}
+use Rattle.mt_apps.specs.Parts.{Parts}
 
 -- no intermediate certificate is null
 abbrev pub intermediate_tree : List ℕ → Tree
@@ -28,10 +29,10 @@ fabric_value fabric = values.Struct (more (Context 1) (octets fabric.credentials
 -- The lists: a row for each fabric.
 
 abbrev pub noc_row : Place → Fabric → Row
-noc_row place fabric = row_at place fabric.index (noc_value fabric)
+noc_row = item_row (λ (fabric : Fabric). fabric.index) noc_value
 
 abbrev pub fabric_row : Place → Fabric → Row
-fabric_row place fabric = row_at place fabric.index (fabric_value fabric)
+fabric_row = item_row (λ (fabric : Fabric). fabric.index) fabric_value
 
 abbrev pub is_fabrics : Place → Bool
 is_fabrics place = place.cluster == operational_credentials.cluster && place.leaf == 1

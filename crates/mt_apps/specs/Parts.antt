@@ -1,4 +1,4 @@
--- The parts of the state from which rows are computed, and what rows are made with.
+-- The parts of the state from which rows are computed, and arrays of numbers.
 use Rattle.std.specs.Prelude.{ℕ, List}
 use Rattle.mt_tlv.specs.Tree.{uint}
 use Rattle.mt_tlv.specs.declared.value.Value.{Value}
@@ -6,8 +6,6 @@ use Rattle.mt_model.specs.Trees.{array_of}
 use Rattle.mt_model.specs.declared.tables.access.AclEntry.{AclEntry}
 use Rattle.mt_model.specs.declared.tables.fabric.Fabric.{Fabric}
 use Rattle.mt_model.specs.declared.tables.network.Network.{Network}
-use Rattle.mt_model.specs.declared.rows.place.Place.{Place}
-use Rattle.mt_model.specs.declared.rows.place.Row.{Row}
 
 -- the parts of the state from which rows are computed
 pub record Parts : Type 0 where
@@ -15,9 +13,6 @@ pub record Parts : Type 0 where
   pub fabrics : List Fabric
   pub roots : List (List ℕ)
   pub networks : List Network
-
-abbrev pub row_at : Place → ℕ → Value → Row
-row_at place fabric value = record { place = place; fabric = fabric; value = value }
 
 -- an array of numbers
 abbrev pub numbers : List ℕ → Value

@@ -1,36 +1,17 @@
 //! Arrays of values, and what stands in them.
 
-ghost use Rattle.std.specs.Prelude.{◌≡◌, ◌==◌, ◌||◌, List, IfOk};
+ghost use Rattle.std.specs.Prelude.{◌≡◌, List, IfOk};
 ghost use Rattle.mt_tlv.specs.Tree.{Tree, octets, uint};
 ghost use Rattle.mt_tlv.specs.View.{elements, tree, value_of};
 ghost use Rattle.mt_model.specs.Trees.{array_of, nullable};
 ghost use Rattle.mt_apps.specs.Descriptor.{device_tree};
 ghost use Rattle.mt_apps.specs.NetworkCommissioning.{network_tree};
 ghost use Rattle.mt_model.specs.tables.Entries.{target_tree};
-ghost use Rattle.mt_apps.specs.Members.{fabric_alone, member, members};
+ghost use Rattle.mt_apps.specs.Members.{member, members};
 
 use mt_model::{Network, Target};
 use mt_tlv::{Bytes, Members, Tag, Value, values_are_trees};
 use std::alloc::{AllocError, Global};
-
-/// The field of an item that names its fabric.
-pub(crate) const FABRIC_INDEX: u8 = 254;
-
-/// Whether an item of this owner is shown to a fabric with its sensitive fields: its own is, and nobody's.
-pub(crate) fn is_shown_whole(owner: u8, fabric: u8) -> bool
-    ensures { result ≡ (owner == fabric || owner == 0) }
-{
-    owner == fabric || owner == 0
-}
-
-/// An item of which nothing is shown but its fabric.
-pub(crate) fn fabric_alone(alloc: Global, fabric: u8) -> Result<Value, AllocError>
-    ensures { IfOk result (λ value. value ≡ fabric_alone fabric) }
-{
-    let index = (Tag::Context(FABRIC_INDEX), Value::Uint(fabric as u64));
-    let fields = vec![in alloc; index]?;
-    Ok(Value::Struct(Members::from_vec(fields)))
-}
 
 /// What can stand in an array.
 pub(crate) trait Member {

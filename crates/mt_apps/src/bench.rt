@@ -4,6 +4,7 @@ ghost use Rattle.std.specs.Prelude.{◌≡◌, IfOk, ◌∷◌, []};
 ghost use Rattle.mt_apps.specs.Bench.{bench_effect, number_at, number_of, rung, rung_at, rung_value};
 ghost use Rattle.mt_apps.specs.Seen.{nobodys_rows};
 
+use crate::lists::FABRIC_INDEX;
 use mt_meta::clusters::BENCH;
 use mt_meta::clusters::bench::{NUMBER, RING, RUNG};
 use mt_model::{Effect, NodeStep, Place, Row, Status, Steps, View};
@@ -75,7 +76,7 @@ fn rung_value(alloc: Global, number: Value, fabric: u8) -> Result<Value, AllocEr
 {
     let fields = vec![in alloc;
         (Tag::Context(0), number),
-        (Tag::Context(254), Value::Uint(fabric as u64)),
+        (Tag::Context(FABRIC_INDEX), Value::Uint(fabric as u64)),
     ]?;
     Ok(Value::Struct(Members::from_vec(fields)))
 }

@@ -6,6 +6,7 @@ ghost use Rattle.mt_model.specs.rows.Same.{is_same_entry};
 ghost use Rattle.mt_apps.specs.EntryEvents.{entry_changed_value, entry_event, entry_events, events_between, if_changed, node_field, passcode_field};
 
 use crate::access_control::entry_value;
+use crate::lists::FABRIC_INDEX;
 use mt_meta::clusters::ACCESS_CONTROL;
 use mt_meta::clusters::access_control::ACCESS_CONTROL_ENTRY_CHANGED;
 use mt_model::{AclEntry, Actor, Auth, NodeStep, Place, Steps, what_is_told_the_same_is};
@@ -174,7 +175,7 @@ fn entry_changed_value(
         (Tag::Context(2), passcode_field(actor.auth)),
         (Tag::Context(3), Value::Uint(change)),
         (Tag::Context(4), entry),
-        (Tag::Context(254), Value::Uint(actor.fabric as u64)),
+        (Tag::Context(FABRIC_INDEX), Value::Uint(actor.fabric as u64)),
     ]?;
     Ok(Value::Struct(Members::from_vec(fields)))
 }

@@ -9,6 +9,7 @@
 //!   `network_commissioning`, `operational_credentials`: those of each cluster's own;
 //! - `commands`: what commands come to, by cluster: `on_off`, `bench`;
 //! - `events`: the events of the access control list;
+//! - `lists`: lists of which each item is a fabric's;
 //! - `arrays`: arrays of values;
 //! - `laws`: that every place has its rows.
 #![tactic(auto)]
@@ -23,6 +24,7 @@ mod events;
 mod general_commissioning;
 mod globals;
 mod laws;
+mod lists;
 mod network_commissioning;
 mod on_off;
 mod operational_credentials;

@@ -4,15 +4,14 @@ ghost use Rattle.std.specs.Prelude.{◌≡◌, IfOk};
 ghost use Rattle.mt_apps.specs.Computed.{computed_rows, computed_value, particular_value, value_rows};
 ghost use Rattle.mt_apps.specs.Seen.{parts_in};
 
-use crate::access_control::{access_control_value, acl_rows, is_acl};
+use crate::access_control::{Acl, access_control_value};
 use crate::basic_information::basic_information_value;
 use crate::descriptor::descriptor_value;
 use crate::general_commissioning::general_commissioning_value;
 use crate::globals::global_value;
+use crate::lists::{FabricList, list_rows};
 use crate::network_commissioning::network_commissioning_value;
-use crate::operational_credentials::{
-    fabrics_rows, is_fabrics, is_nocs, nocs_rows, operational_credentials_value,
-};
+use crate::operational_credentials::{Fabrics, Nocs, operational_credentials_value};
 use mt_meta::clusters::{
     ACCESS_CONTROL, BASIC_INFORMATION, DESCRIPTOR, GENERAL_COMMISSIONING, NETWORK_COMMISSIONING,
     OPERATIONAL_CREDENTIALS,
@@ -29,14 +28,14 @@ use std::alloc::{AllocError, Global};
 pub fn rows_at(alloc: Global, view: &View, place: &Place) -> Result<Rows, AllocError>
     ensures { IfOk result (λ rows. rows ≡ computed_rows (parts_in view.now) place.now) }
 {
-    if is_acl(place) {
-        return acl_rows(alloc, view, place);
+    if Acl::is_at(place) {
+        return list_rows::<Acl>(alloc, view, place);
     }
-    if is_nocs(place) {
-        return nocs_rows(alloc, view, place);
+    if Nocs::is_at(place) {
+        return list_rows::<Nocs>(alloc, view, place);
     }
-    if is_fabrics(place) {
-        return fabrics_rows(alloc, view, place);
+    if Fabrics::is_at(place) {
+        return list_rows::<Fabrics>(alloc, view, place);
     }
     value_rows(alloc, place, computed_value(alloc, view, place)?)
 }

@@ -5,8 +5,9 @@ ghost use Rattle.mt_apps.specs.Computed.{computed_rows};
 ghost use Rattle.mt_apps.specs.Seen.{parts_in};
 ghost use Rattle.mt_model.specs.rows.Shown.{shown_items, shown_value};
 
-use crate::access_control::{acl_items, is_acl};
-use crate::operational_credentials::{fabric_items, is_fabrics, is_nocs, noc_items};
+use crate::access_control::Acl;
+use crate::lists::{FabricList, list_items};
+use crate::operational_credentials::{Fabrics, Nocs};
 use crate::rows::{computed_value, rows_at};
 use mt_model::{Place, View, shown_items, shown_value};
 use mt_tlv::{Members, Value};
@@ -23,14 +24,14 @@ pub fn items_shown(
 ) -> Result<Members, AllocError>
     ensures { IfOk result (λ items. items ≡ shown_items fabric own (computed_rows (parts_in view.now) place.now)) }
 {
-    if is_acl(place) {
-        return acl_items(alloc, view.entries.as_slice(), place, fabric, own);
+    if Acl::is_at(place) {
+        return list_items::<Acl>(alloc, view, fabric, own);
     }
-    if is_nocs(place) {
-        return noc_items(alloc, view.fabrics.as_slice(), place, fabric, own);
+    if Nocs::is_at(place) {
+        return list_items::<Nocs>(alloc, view, fabric, own);
     }
-    if is_fabrics(place) {
-        return fabric_items(alloc, view.fabrics.as_slice(), place, fabric, own);
+    if Fabrics::is_at(place) {
+        return list_items::<Fabrics>(alloc, view, fabric, own);
     }
     let rows = rows_at(alloc, view, place)?;
     shown_items(alloc, fabric, own, rows.as_slice())
@@ -47,7 +48,7 @@ pub fn value_shown(
 ) -> Result<Value, AllocError>
     ensures { IfOk result (λ value. value ≡ shown_value fabric (computed_rows (parts_in view.now) place.now)) }
 {
-    if is_acl(place) || is_nocs(place) || is_fabrics(place) {
+    if Acl::is_at(place) || Nocs::is_at(place) || Fabrics::is_at(place) {
         let rows = rows_at(alloc, view, place)?;
         return shown_value(alloc, fabric, rows.as_slice());
     }
