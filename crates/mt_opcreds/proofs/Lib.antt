@@ -1,0 +1,7 @@
+pub mod Choices
+pub mod Forms
+pub mod Others
+pub mod Steps
+pub mod Taken
+pub mod Verdicts
+pub mod Walks

@@ -1,0 +1,12 @@
+pub mod AddNoc
+pub mod AddTrustedRoot
+pub mod Commands
+pub mod CsrRequest
+pub mod Fields
+pub mod Judged
+pub mod Laws
+pub mod Owner
+pub mod RemoveFabric
+pub mod Responses
+pub mod UpdateFabricLabel
+pub mod UpdateNoc
