@@ -9,16 +9,16 @@ use Rattle.mt_model.specs.rows.Sight.{seen_by}
 use Rattle.mt_model.specs.declared.tables.access.AclEntry.{AclEntry}
 use Rattle.mt_model.specs.declared.tables.fabric.Fabric.{Fabric}
 use Rattle.mt_model.specs.declared.tables.network.Armed.{Armed}
-use Rattle.mt_model.specs.declared.tables.network.Network.{Network}
 use Rattle.mt_model.specs.declared.rows.place.Row.{Row}
 use Rattle.mt_model.specs.declared.node.state.NodeSession.{NodeSession}
 use Rattle.mt_model.specs.declared.node.state.NodeState.{NodeState}
-use Rattle.mt_machine.specs.Isolation.{bare_armed, bare_fabric, bare_network, descriptor_of, is_live_for, own, owns, public_view, saved_for, veil, with_saved}
+use Rattle.mt_machine.specs.Isolation.{bare_fabric, descriptor_of, is_live_for, own, owns, public_view, saved_for, veil, with_saved}
 use Rattle.mt_machine.proofs.Entries.{apart, bare_others, own_entries-apart}
 use Rattle.mt_machine.proofs.Fabrics.{known_to, own_fabrics, rebuilt-known}
 use Rattle.mt_machine.proofs.Rows as rows
 use Rattle.mt_machine.proofs.Rows.{others, seen-fabric, seen-twice}
-use Rattle.mt_machine.proofs.Seeing.{plain-veil}
+use Rattle.mt_machine.proofs.Seeing.{bare_again, bare_networks_again, plain-veil}
+use Rattle.mt_model.specs.tables.Known.{bare_armed}
 
 -- Rows.
 
@@ -113,20 +113,11 @@ module _ (fabric : ℕ) where
       by_test true = refl
       by_test false = refl
 
-  bare_again : (saved : Option Rattle.mt_model.specs.declared.tables.fabric.Credentials.Credentials) (armed : Option Armed)
-      → option_map bare_armed (option_map (with_saved saved) (option_map bare_armed armed)) ≡ option_map bare_armed armed
-  bare_again saved None = refl
-  bare_again saved (Some armed) = refl
-
   live_again : (sessions : List NodeSession)
       → filter (λ (session : NodeSession). is_live_for fabric session.standing) (filter (λ (session : NodeSession). is_live_for fabric session.standing) sessions)
       ≡ filter (λ (session : NodeSession). is_live_for fabric session.standing) sessions
   live_again [] = refl
   live_again (session ∷ sessions) = grind (arith, live_again sessions)
-
-bare_networks_again : (networks : List Network) → map bare_network (map bare_network networks) ≡ map bare_network networks
-bare_networks_again [] = refl
-bare_networks_again (network ∷ networks) = ap (λ rest. bare_network network ∷ rest) (bare_networks_again networks)
 
 -- Both parts.
 
@@ -147,7 +138,7 @@ view-again fabric s up = λ i. record {
   fabrics = (ap (map descriptor_of) (rebuilt-known fabric s.fabrics up) ∙ all_described fabric s.fabrics) i;
   roots = s.roots;
   networks = bare_networks_again s.networks i;
-  armed = bare_again fabric (saved_for fabric s.armed) s.armed i;
+  armed = bare_again (saved_for fabric s.armed) s.armed i;
   versions = s.versions;
   changes = s.changes;
   changed = s.changed;

@@ -21,9 +21,10 @@ use Rattle.mt_model.specs.declared.tables.access.Auth.{Auth}
 use Rattle.mt_model.specs.declared.tables.access.Auth.TheVariants.{Pase, Case, Group}
 use Rattle.mt_model.specs.declared.tables.fabric.Fabric.{Fabric}
 use Rattle.mt_model.specs.declared.node.action.Action.{Action}
+use Rattle.mt_model.specs.declared.node.action.Action.TheVariants as actions
 use Rattle.mt_model.specs.declared.node.action.Action.TheVariants.{Ask, Nothing}
 use Rattle.mt_model.specs.declared.node.action.NodeStep.{NodeStep}
-use Rattle.mt_model.specs.declared.node.action.NodeStep.TheVariants.{SetRow, SetEntries, PutNetwork, RemoveNetwork, ConnectNetwork, MoveNetwork, Emit}
+use Rattle.mt_model.specs.declared.node.action.NodeStep.TheVariants.{SetRow, SetEntries, PutNetwork, RemoveNetwork, ConnectNetwork, MoveNetwork, Arm, Renew, Expire, Complete, AddRoot, Csr, AddFabric, UpdateFabric, RemoveFabric, Label, Emit}
 use Rattle.mt_model.specs.declared.messages.message.Request.{Request}
 use Rattle.mt_model.specs.declared.messages.message.WriteItem.{WriteItem}
 use Rattle.mt_model.specs.declared.rows.place.Place.{Place}
@@ -37,11 +38,13 @@ use Rattle.mt_write.specs.Writing.{fabric_of, is_scoped, own_values, write_answe
 use Rattle.mt_machine.specs.Changes.{differing}
 use Rattle.mt_machine.specs.Effects.{after_all}
 use Rattle.mt_machine.specs.Observation.{observation}
+use Rattle.mt_machine.specs.Rollback.{is_due}
 use Rattle.mt_machine.specs.State.{IsValid, is_among, is_plain_of, is_row, is_row_at, is_row_of, is_session, rows_of, stands_rightly}
-use Rattle.mt_machine.specs.Step.{after_action, asked_steps, asker, asker_of, asker_on, is_late, live_actor, pase_actor, plain_asker, steps_of, steps_to}
+use Rattle.mt_machine.specs.Step.{after_action, after_steps, asked_steps, asker, asker_of, asker_on, at_time, is_expiry, is_late, live_actor, pase_actor, plain_asker, steps_of, steps_to}
 use Rattle.mt_machine.proofs.Commands.{fitting_command, fitting_events}
 use Rattle.mt_machine.proofs.Good.{in_time, requested}
-use Rattle.mt_machine.proofs.Writes.{after_all_valid, all-filter, all-kept, all-three, any-weaker, fits, impossible, passes_among, place-same, settled_valid}
+use Rattle.mt_machine.proofs.Rolled.{rolled-valid}
+use Rattle.mt_machine.proofs.Writes.{after_all_valid, all-filter, all-kept, all-three, any-weaker, fits, impossible, passes_among, place-same, settled_valid, timed_valid}
 
 -- Whoever is taken as asking has no fabric, or one of the table.
 
@@ -194,6 +197,16 @@ step_fits fabrics actor (PutNetwork id secret) own sound among = impossible own
 step_fits fabrics actor (RemoveNetwork id) own sound among = impossible own
 step_fits fabrics actor (ConnectNetwork id) own sound among = impossible own
 step_fits fabrics actor (MoveNetwork id index) own sound among = impossible own
+step_fits fabrics actor (Arm owner seconds) own sound among = impossible own
+step_fits fabrics actor (Renew seconds) own sound among = impossible own
+step_fits fabrics actor Expire own sound among = impossible own
+step_fits fabrics actor Complete own sound among = impossible own
+step_fits fabrics actor (AddRoot cert) own sound among = impossible own
+step_fits fabrics actor (Csr nonce update) own sound among = impossible own
+step_fits fabrics actor (AddFabric joins) own sound among = impossible own
+step_fits fabrics actor (UpdateFabric index given) own sound among = impossible own
+step_fits fabrics actor (RemoveFabric index) own sound among = impossible own
+step_fits fabrics actor (Label index label) own sound among = impossible own
 step_fits fabrics actor (Emit place priority fabric value) own sound among = refl
 
 member_fits : (fabrics : List Fabric) (actor : Actor) (steps : List NodeStep) → list_all (is_own_step actor) steps ≡ true → list_all is_sound_step steps ≡ true → is_among fabrics actor.fabric ≡ true → list_all (fits fabrics) steps ≡ true
@@ -233,16 +246,35 @@ module _ (own : TouchesItsOwn) (sound : LeavesSound) (nobody : NobodySetsScoped)
       in_time (fits s.fabrics) (is_late deadline now) (steps_to seen_by_it actor (is_some deadline) request)
       (requested (fits s.fabrics) seen_by_it actor (is_some deadline) request (λ items timed. write_fits s actor items timed valid known) (fitting_events s.fabrics actor) (fitting_command s.fabrics actor seen_by_it))
 
-  pub action_fits : (s : NodeState) (action : Action) (now : ℕ) → IsValid s → list_all (fits s.fabrics) (steps_of s action now) ≡ true
-  action_fits s (Ask actor request deadline) now valid = asked_fit s request deadline now (asker s actor) valid (known_on s actor actor.session valid)
-  action_fits s Nothing now valid = refl
+  pub action_fits : (s : NodeState) (action : Action) (now : ℕ) → IsValid s → is_expiry action ≡ false → list_all (fits s.fabrics) (steps_of s action now) ≡ true
+  action_fits s (Ask actor request deadline) now valid asks = asked_fit s request deadline now (asker s actor) valid (known_on s actor actor.session valid)
+  action_fits s actions.Expire now valid asks = absurd (cc)
+  action_fits s Nothing now valid asks = refl
 
--- An action leaves a valid state valid.
-pub stays_valid
-    : ((rows : List Row) (place : Place) (fabric : ℕ) (values : List Value) → are_ascending rows ≡ true → are_ascending (with_rows place fabric values rows) ≡ true)
-    → ((entries new : List AclEntry) (least fabric : ℕ) → least ≤ fabric → ascend_from least entries ≡ true → list_all (setting.is_entry_of fabric) new ≡ true → ascend_from least (with_entries fabric new entries) ≡ true)
-    → TouchesItsOwn → LeavesSound → NobodySetsScoped → (s : NodeState) (action : Action) (now : ℕ) → IsValid s → IsValid (after_action s action now)
-stays_valid rows_rise entries_rise own sound nobody s action now valid =
-    let behind = after_all (asker_of s action) (steps_of s action now) s in
-    settled_valid (differing s behind) s behind now valid
-    (after_all_valid rows_rise entries_rise (asker_of s action) (steps_of s action now) s valid (action_fits own sound nobody s action now valid))
+-- An action leaves a valid state valid, by the laws of the model on rows and entries that are set and that stay.
+module _
+    (rows_rise : (rows : List Row) (place : Place) (fabric : ℕ) (values : List Value) → are_ascending rows ≡ true → are_ascending (with_rows place fabric values rows) ≡ true)
+    (entries_rise : (entries new : List AclEntry) (least fabric : ℕ) → least ≤ fabric → ascend_from least entries ≡ true → list_all (setting.is_entry_of fabric) new ≡ true → ascend_from least (with_entries fabric new entries) ≡ true)
+    (rows_stay : (keep : Row → Bool) (rows : List Row) → are_ascending rows ≡ true → are_ascending (filter keep rows) ≡ true)
+    (entries_stay : (keep : AclEntry → Bool) (least : ℕ) (entries : List AclEntry) → ascend_from least entries ≡ true → ascend_from least (filter keep entries) ≡ true)
+    (own : TouchesItsOwn) (sound : LeavesSound) (nobody : NobodySetsScoped) where
+  -- the state before it is valid at its time, and the one behind its steps is
+  behind_valid : (s : NodeState) (asking : Option Actor) (steps : List NodeStep) (now : ℕ) → IsValid s → IsValid (after_all asking steps (at_time now s)) → IsValid (after_steps asking steps (at_time now s))
+  behind_valid s asking steps now valid behind =
+      let timed = at_time now s in
+      settled_valid (differing timed (after_all asking steps timed)) timed (after_all asking steps timed) (timed_valid s now valid) behind
+
+  sets_valid : (s : NodeState) (action : Action) (now : ℕ) → IsValid s → is_expiry action ≡ false → IsValid (after_action s action now)
+  sets_valid s action now valid sets =
+      behind_valid s (asker_of s action) (steps_of s action now) now valid
+      (after_all_valid rows_rise entries_rise (asker_of s action) (steps_of s action now) (at_time now s) (timed_valid s now valid) (action_fits own sound nobody s action now valid sets))
+
+  expires_valid : (s : NodeState) (now : ℕ) (due : Bool) → IsValid s → IsValid (after_steps None (if due then Expire ∷ [] else []) (at_time now s))
+  expires_valid s now true valid =
+      behind_valid s None (Expire ∷ []) now valid (rolled-valid rows_stay entries_stay rows_rise entries_rise s.armed (at_time now s) refl (timed_valid s now valid))
+  expires_valid s now false valid = behind_valid s None [] now valid (timed_valid s now valid)
+
+  pub stays_valid : (s : NodeState) (action : Action) (now : ℕ) → IsValid s → IsValid (after_action s action now)
+  stays_valid s (Ask actor request deadline) now valid = sets_valid s (Ask actor request deadline) now valid refl
+  stays_valid s actions.Expire now valid = expires_valid s now (is_due s.armed now) valid
+  stays_valid s Nothing now valid = sets_valid s Nothing now valid refl

@@ -19,7 +19,7 @@ use Rattle.mt_model.specs.rows.Seen.{Observation}
 use Rattle.mt_model.specs.declared.messages.status.Status.{Status}
 use Rattle.mt_model.specs.declared.messages.status.Status.TheVariants.{NeedsTimedInteraction, UnsupportedAccess, UnsupportedCluster, UnsupportedEndpoint}
 use Rattle.mt_model.specs.declared.node.action.NodeStep.{NodeStep}
-use Rattle.mt_model.specs.declared.node.action.NodeStep.TheVariants.{SetRow, SetEntries, PutNetwork, RemoveNetwork, ConnectNetwork, MoveNetwork, Emit}
+use Rattle.mt_model.specs.declared.node.action.NodeStep.TheVariants.{SetRow, SetEntries, PutNetwork, RemoveNetwork, ConnectNetwork, MoveNetwork, Arm, Renew, Expire, Complete, AddRoot, Csr, AddFabric, UpdateFabric, RemoveFabric, Label, Emit}
 use Rattle.mt_model.specs.declared.rows.place.Place.{Place}
 use Rattle.mt_model.specs.declared.rows.place.Row.{Row}
 use Rattle.mt_model.specs.declared.tables.access.AclEntry.{AclEntry}
@@ -87,6 +87,16 @@ module _ (P : NodeStep → Bool) (actor : Actor) (told : (place : Place) (priori
   events_pass entries (RemoveNetwork id ∷ steps) = events_pass entries steps
   events_pass entries (ConnectNetwork id ∷ steps) = events_pass entries steps
   events_pass entries (MoveNetwork id index ∷ steps) = events_pass entries steps
+  events_pass entries (Arm owner seconds ∷ steps) = events_pass entries steps
+  events_pass entries (Renew seconds ∷ steps) = events_pass entries steps
+  events_pass entries (Expire ∷ steps) = events_pass entries steps
+  events_pass entries (Complete ∷ steps) = events_pass entries steps
+  events_pass entries (AddRoot cert ∷ steps) = events_pass entries steps
+  events_pass entries (Csr nonce update ∷ steps) = events_pass entries steps
+  events_pass entries (AddFabric joins ∷ steps) = events_pass entries steps
+  events_pass entries (UpdateFabric index given ∷ steps) = events_pass entries steps
+  events_pass entries (RemoveFabric index ∷ steps) = events_pass entries steps
+  events_pass entries (Label index label ∷ steps) = events_pass entries steps
   events_pass entries (Emit place priority whose value ∷ steps) = events_pass entries steps
 
   module _ (set : (endpoint : ℕ) (on : Bool) → find_of (on_off_at endpoint) ≡ Ok on_off_meta → P (SetRow (on_off_at endpoint) 0 (values.Bool on ∷ [])) ≡ true) where

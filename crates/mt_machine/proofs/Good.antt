@@ -16,7 +16,7 @@ use Rattle.mt_model.specs.declared.messages.message.Request.{Request}
 use Rattle.mt_model.specs.declared.messages.message.Request.TheVariants as requests
 use Rattle.mt_model.specs.declared.messages.message.WriteItem.{WriteItem}
 use Rattle.mt_model.specs.declared.node.action.NodeStep.{NodeStep}
-use Rattle.mt_model.specs.declared.node.action.NodeStep.TheVariants.{SetRow, SetEntries, PutNetwork, RemoveNetwork, ConnectNetwork, MoveNetwork, Emit}
+use Rattle.mt_model.specs.declared.node.action.NodeStep.TheVariants.{SetRow, SetEntries, PutNetwork, RemoveNetwork, ConnectNetwork, MoveNetwork, Arm, Renew, Expire, Complete, AddRoot, Csr, AddFabric, UpdateFabric, RemoveFabric, Label, Emit}
 use Rattle.mt_model.specs.declared.tables.fabric.Fabric.{Fabric}
 use Rattle.mt_meta.specs.Finding.{find_of}
 use Rattle.mt_meta.specs.Stored.{is_stored}
@@ -78,6 +78,16 @@ module _ (kept : (place : Place) → is_stored_place place ≡ (is_stored place 
   setting_step fabrics (RemoveNetwork id) fit = absurd (cc)
   setting_step fabrics (ConnectNetwork id) fit = absurd (cc)
   setting_step fabrics (MoveNetwork id index) fit = absurd (cc)
+  setting_step fabrics (Arm owner seconds) fit = absurd (cc)
+  setting_step fabrics (Renew seconds) fit = absurd (cc)
+  setting_step fabrics Expire fit = absurd (cc)
+  setting_step fabrics Complete fit = absurd (cc)
+  setting_step fabrics (AddRoot cert) fit = absurd (cc)
+  setting_step fabrics (Csr nonce update) fit = absurd (cc)
+  setting_step fabrics (AddFabric joins) fit = absurd (cc)
+  setting_step fabrics (UpdateFabric index given) fit = absurd (cc)
+  setting_step fabrics (RemoveFabric index) fit = absurd (cc)
+  setting_step fabrics (Label index label) fit = absurd (cc)
   setting_step fabrics (Emit place priority whose value) fit = refl
 
   pub setting_steps : (fabrics : List Fabric) (steps : List NodeStep) → list_all (fits fabrics) steps ≡ true → list_all is_setting_step steps ≡ true
@@ -96,6 +106,16 @@ step_of asking fabrics (PutNetwork id secret) own fit = absurd (cc)
 step_of asking fabrics (RemoveNetwork id) own fit = absurd (cc)
 step_of asking fabrics (ConnectNetwork id) own fit = absurd (cc)
 step_of asking fabrics (MoveNetwork id index) own fit = absurd (cc)
+step_of asking fabrics (Arm owner seconds) own fit = absurd (cc)
+step_of asking fabrics (Renew seconds) own fit = absurd (cc)
+step_of asking fabrics Expire own fit = absurd (cc)
+step_of asking fabrics Complete own fit = absurd (cc)
+step_of asking fabrics (AddRoot cert) own fit = absurd (cc)
+step_of asking fabrics (Csr nonce update) own fit = absurd (cc)
+step_of asking fabrics (AddFabric joins) own fit = absurd (cc)
+step_of asking fabrics (UpdateFabric index given) own fit = absurd (cc)
+step_of asking fabrics (RemoveFabric index) own fit = absurd (cc)
+step_of asking fabrics (Label index label) own fit = absurd (cc)
 step_of asking fabrics (Emit place priority whose value) own fit = own
 
 pub steps_of_its : (asking : Actor) (fabrics : List Fabric) (steps : List NodeStep) → list_all (is_own_step asking) steps ≡ true → list_all (fits fabrics) steps ≡ true → list_all (is_step_of asking.fabric) steps ≡ true

@@ -1,6 +1,6 @@
 -- An action leaves what is another fabric's own, by the laws of the model on rows and entries that are set, and by those of
 -- writes on whose their steps are.
-use Rattle.std.proofs.Common.{◌≡◌, ◌≢◌, ℕ, ◌==◌, ◌++◌, not, true, false, List, Option, Some, ap, ◌∙◌, filter, is_some}
+use Rattle.std.proofs.Common.{◌≡◌, ◌≢◌, ℕ, ◌==◌, ◌++◌, not, true, false, List, Option, Some, refl, ap, ◌∙◌, filter, is_some}
 use Rattle.std.specs.List.{list_all}
 use Rattle.mt_tlv.specs.declared.value.Value.{Value}
 use Rattle.mt_model.specs.texts.Config.{ascend_from}
@@ -17,10 +17,10 @@ use Rattle.mt_model.specs.declared.texts.recording.Event.{Event}
 use Rattle.mt_write.specs.Laws.{LeavesSound, NobodySetsScoped, TouchesItsOwn, is_own_step}
 use Rattle.mt_machine.specs.Isolation as isolation
 use Rattle.mt_machine.specs.Isolation.{own_of_whole}
-use Rattle.mt_machine.specs.Lines.{fabric_of, next}
+use Rattle.mt_machine.specs.Lines.{fabric_of, is_tick, next}
 use Rattle.mt_machine.specs.Observation.{observation}
 use Rattle.mt_machine.specs.State.{IsValid, State}
-use Rattle.mt_machine.specs.Step.{after_action, asked_steps, asker, is_late, steps_to}
+use Rattle.mt_machine.specs.Step.{after_action, asked_steps, asker, at_time, is_late, steps_to}
 use Rattle.mt_machine.proofs.Asked.{action_fits}
 use Rattle.mt_machine.proofs.Good.{in_time, own_steps, steps_of_its}
 use Rattle.mt_machine.proofs.Order.{from_zero}
@@ -41,13 +41,13 @@ module _
 
     its : (request : Request) (deadline : Option ℕ) (ms : ℕ) → list_all (is_step_of asking.fabric) (asked_steps s request deadline ms (asker s actor)) ≡ true
     its request deadline ms =
-        steps_of_its asking s.fabrics (asked_steps s request deadline ms (asker s actor)) (own request deadline ms) (action_fits touches sound nobody s (actions.Ask actor request deadline) ms valid)
+        steps_of_its asking s.fabrics (asked_steps s request deadline ms (asker s actor)) (own request deadline ms) (action_fits touches sound nobody s (actions.Ask actor request deadline) ms valid refl)
 
     kept : (fabric : ℕ) (request : Request) (deadline : Option ℕ) (ms : ℕ) → (asking.fabric == fabric) ≡ false → isolation.own fabric (after_action s (actions.Ask actor request deadline) ms) ≡ isolation.own fabric s
     kept fabric request deadline ms other =
-        own-kept rows_ascend rows_apart entries_ascend entries_apart fabric asking.fabric other (asker s actor) (asked_steps s request deadline ms (asker s actor)) s
+        own-kept rows_ascend rows_apart entries_ascend entries_apart fabric asking.fabric other (asker s actor) (asked_steps s request deadline ms (asker s actor)) (at_time ms s)
         valid.rows_rise (from_zero s.entries valid.entries_rise) (its request deadline ms)
 
-  pub keeps_own : (fabric : ℕ) (s : State) (e : Event) → IsValid s.node → fabric ≢ fabric_of s.node e → own_of_whole fabric (next s e) ≡ own_of_whole fabric s
-  keeps_own fabric s e valid differ =
-      veiled.keeps_own fabric s valid (λ actor asking request deadline ms is other. kept s.node valid actor asking is fabric request deadline ms other) e differ
+  pub keeps_own : (fabric : ℕ) (s : State) (e : Event) → IsValid s.node → is_tick e ≡ false → fabric ≢ fabric_of s.node e → own_of_whole fabric (next s e) ≡ own_of_whole fabric s
+  keeps_own fabric s e valid no_tick differ =
+      veiled.keeps_own fabric s valid (λ actor asking request deadline ms is other. kept s.node valid actor asking is fabric request deadline ms other) e no_tick differ

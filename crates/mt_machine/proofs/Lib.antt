@@ -17,3 +17,14 @@ pub mod Steps
 pub mod Times
 pub mod Veiled
 pub mod Writes
+pub mod Expired
+pub mod Ticks
+pub mod Untouched
+pub mod ValidParts
+pub mod NetworksValid
+pub mod ArmedValid
+pub mod OtherFabrics
+pub mod ChangedValid
+pub mod LeftValid
+pub mod JoinedValid
+pub mod StepsValid

@@ -17,7 +17,8 @@ use Rattle.mt_model.specs.declared.tables.access.Auth.TheVariants.{Pase, Case, G
 use Rattle.mt_model.specs.declared.rows.place.Place.{Place}
 use Rattle.mt_model.specs.declared.texts.config.SessionRow.{SessionRow}
 use Rattle.mt_model.specs.declared.tables.fabric.Fabric.{Fabric}
-use Rattle.mt_machine.specs.Opened.{live_or_waits, opened_with, session_of, sessions_of, standing_of, unchanged, with_root, with_roots_of}
+use Rattle.mt_machine.specs.Opened.{live_or_waits, opened_with, session_of, sessions_of, standing_of, unchanged, with_roots_of}
+use Rattle.mt_machine.specs.Effects.{with_root}
 use Rattle.mt_model.specs.declared.node.state.NodeSession.{NodeSession}
 use Rattle.mt_machine.specs.State.{IsValid, follows, has_index_up_to, has_one_row, is_change_up_to, is_owned, is_root_of, is_row, is_session, is_used, stands_once, stands_rightly}
 
@@ -70,13 +71,13 @@ rows_stand = refl
 
 -- Roots.
 
-same_bytes : (a : List ℕ) → bytes_eq a a ≡ true
+pub same_bytes : (a : List ℕ) → bytes_eq a a ≡ true
 same_bytes a = (bytes_eq-Decides a a).1 refl
 
-bytes_apart : (a b : List ℕ) → bytes_eq a b ≡ false → bytes_eq b a ≡ false
+pub bytes_apart : (a b : List ℕ) → bytes_eq a b ≡ false → bytes_eq b a ≡ false
 bytes_apart a b apart = false_from_ne_true (bytes_eq b a) (λ alike. both_ways (bytes_eq a b) apart ((bytes_eq-Decides a b).1 (sym ((bytes_eq-Decides b a).0 alike))))
 
-differ-append : (roots : List (List ℕ)) (root : List ℕ) → list_any (bytes_eq root) roots ≡ false → none_alike bytes_eq roots ≡ true → none_alike bytes_eq (roots ++ root ∷ []) ≡ true
+pub differ-append : (roots : List (List ℕ)) (root : List ℕ) → list_any (bytes_eq root) roots ≡ false → none_alike bytes_eq roots ≡ true → none_alike bytes_eq (roots ++ root ∷ []) ≡ true
 differ-append [] root new differ = refl
 differ-append (first ∷ roots) root new differ =
     let apart = or_parts (bytes_eq root first) (list_any (bytes_eq root) roots) new in
@@ -85,7 +86,7 @@ differ-append (first ∷ roots) root new differ =
     let not_root : (bytes_eq first root || false) ≡ false = or_from _ _ (bytes_apart root first apart.0) refl in
     and_from _ _ (not_from_false _ (list_any-append (bytes_eq first) roots (root ∷ []) ∙ or_from _ _ none not_root)) (differ-append roots root apart.1 parts.1)
 
-with_root_differ : (roots : List (List ℕ)) (root : List ℕ) → none_alike bytes_eq roots ≡ true → none_alike bytes_eq (with_root roots root) ≡ true
+pub with_root_differ : (roots : List (List ℕ)) (root : List ℕ) → none_alike bytes_eq roots ≡ true → none_alike bytes_eq (with_root roots root) ≡ true
 with_root_differ roots root differ = elim (cases_Bool (list_any (bytes_eq root) roots)) [
   | inl known ↦ rw known differ
   | inr new ↦ rw new (differ-append roots root new differ)
@@ -96,13 +97,13 @@ roots_differ roots [] differ = differ
 roots_differ roots (fabric ∷ fabrics) differ = roots_differ (with_root roots fabric.credentials.root) fabrics (with_root_differ roots fabric.credentials.root differ)
 
 module _ (used : List ℕ → Bool) where
-  all-append : (roots : List (List ℕ)) (root : List ℕ) → list_all used roots ≡ true → used root ≡ true → list_all used (roots ++ root ∷ []) ≡ true
+  pub all-append : (roots : List (List ℕ)) (root : List ℕ) → list_all used roots ≡ true → used root ≡ true → list_all used (roots ++ root ∷ []) ≡ true
   all-append [] root all here = and_from _ _ here refl
   all-append (first ∷ roots) root all here =
       let parts = and_parts (used first) (list_all used roots) all in
       and_from _ _ parts.0 (all-append roots root parts.1 here)
 
-  with_root_used : (roots : List (List ℕ)) (root : List ℕ) → list_all used roots ≡ true → used root ≡ true → list_all used (with_root roots root) ≡ true
+  pub with_root_used : (roots : List (List ℕ)) (root : List ℕ) → list_all used roots ≡ true → used root ≡ true → list_all used (with_root roots root) ≡ true
   with_root_used roots root all here = elim (cases_Bool (list_any (bytes_eq root) roots)) [
     | inl known ↦ rw known all
     | inr new ↦ rw new (all-append roots root all here)

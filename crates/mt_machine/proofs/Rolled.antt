@@ -37,7 +37,7 @@ use Rattle.mt_machine.proofs.Writes.{all-filter, all-kept, all-weaker, after_all
 
 -- Lists of which some stay.
 
-any-filter : {X : Type 0} (p keep : X → Bool) (xs : List X) → list_any p xs ≡ false → list_any p (filter keep xs) ≡ false
+pub any-filter : {X : Type 0} (p keep : X → Bool) (xs : List X) → list_any p xs ≡ false → list_any p (filter keep xs) ≡ false
 any-filter p keep [] none = refl
 any-filter p keep (x ∷ xs) none =
     let both = or_parts (p x) (list_any p xs) none in
@@ -46,7 +46,7 @@ any-filter p keep (x ∷ xs) none =
       | inr gone ↦ rw gone (any-filter p keep xs both.1)
     ]
 
-none-filter : {X : Type 0} (alike : X → X → Bool) (keep : X → Bool) (xs : List X) → none_alike alike xs ≡ true → none_alike alike (filter keep xs) ≡ true
+pub none-filter : {X : Type 0} (alike : X → X → Bool) (keep : X → Bool) (xs : List X) → none_alike alike xs ≡ true → none_alike alike (filter keep xs) ≡ true
 none-filter alike keep [] none = refl
 none-filter alike keep (x ∷ xs) none =
     let both = and_parts (not (list_any (alike x) xs)) (none_alike alike xs) none in
@@ -64,7 +64,7 @@ fewer-pass p keep (x ∷ xs) =
       | inr gone ↦ elim (cases_Bool (p x)) [ inl passes ↦ rw (gone, passes) (omega (arith, rest)) | inr fails ↦ rw (gone, fails) (omega (arith, rest)) ]
     ]
 
-count-filter : {X : Type 0} (p keep : X → Bool) (xs : List X) → count_by p (filter keep xs) ≤ count_by p xs
+pub count-filter : {X : Type 0} (p keep : X → Bool) (xs : List X) → count_by p (filter keep xs) ≤ count_by p xs
 count-filter p keep xs = omega (arith, fewer-pass p keep xs, length-filter p xs, length-filter p (filter keep xs))
 
 length-filter-map : {X Y : Type 0} (h : X → Y) (keep : X → Bool) (xs : List X) → length (map h (filter keep xs)) ≤ length xs
@@ -75,13 +75,13 @@ length-filter-map h keep (x ∷ xs) =
 
 -- a test of two that is the same of what they become
 module _ {X : Type 0} (alike : X → X → Bool) (h : X → X) (P : X → Bool) (same : (x y : X) → P x ≡ true → P y ≡ true → alike (h x) (h y) ≡ alike x y) where
-  any-same : (x : X) (xs : List X) → P x ≡ true → list_all P xs ≡ true → list_any (alike (h x)) (map h xs) ≡ list_any (alike x) xs
+  pub any-same : (x : X) (xs : List X) → P x ≡ true → list_all P xs ≡ true → list_any (alike (h x)) (map h xs) ≡ list_any (alike x) xs
   any-same x [] its all = refl
   any-same x (y ∷ xs) its all =
       let both = and_parts (P y) (list_all P xs) all in
       λ i. same x y its both.0 i || any-same x xs its both.1 i
 
-  none-map : (xs : List X) → list_all P xs ≡ true → none_alike alike xs ≡ true → none_alike alike (map h xs) ≡ true
+  pub none-map : (xs : List X) → list_all P xs ≡ true → none_alike alike xs ≡ true → none_alike alike (map h xs) ≡ true
   none-map [] all none = refl
   none-map (x ∷ xs) all none =
       let both = and_parts (P x) (list_all P xs) all in
@@ -97,7 +97,7 @@ rise-weaker least more (f ∷ fabrics) less rise =
     let higher = ltb-true more f.index both.0 in
     and_from _ _ (lt-ltb least f.index (omega (arith, less, higher))) both.1
 
-rise-filter : (keep : Fabric → Bool) (least : ℕ) (fabrics : List Fabric) → rise_above least fabrics ≡ true → rise_above least (filter keep fabrics) ≡ true
+pub rise-filter : (keep : Fabric → Bool) (least : ℕ) (fabrics : List Fabric) → rise_above least fabrics ≡ true → rise_above least (filter keep fabrics) ≡ true
 rise-filter keep least [] rise = refl
 rise-filter keep least (f ∷ fabrics) rise =
     let both = and_parts (nat_lt least f.index) (rise_above f.index fabrics) rise in
@@ -125,13 +125,13 @@ rise-given updated saved least (f ∷ fabrics) rise =
     (and_from _ _ both.0 (rise-given updated saved f.index fabrics both.1))
 
 -- each index once
-later-others : (index : ℕ) (fabrics : List Fabric) → rise_above index fabrics ≡ true → list_all (λ (f : Fabric). nat_lt index f.index) fabrics ≡ true
+pub later-others : (index : ℕ) (fabrics : List Fabric) → rise_above index fabrics ≡ true → list_all (λ (f : Fabric). nat_lt index f.index) fabrics ≡ true
 later-others index [] rise = refl
 later-others index (f ∷ fabrics) rise =
     let both = and_parts (nat_lt index f.index) (rise_above f.index fabrics) rise in
     and_from _ _ both.0 (later-others index fabrics (rise-weaker index f.index fabrics (omega (arith, ltb-true index f.index both.0)) both.1))
 
-higher-is-other : (u n : ℕ) → nat_lt u n ≡ true → (not (n == u)) ≡ true
+pub higher-is-other : (u n : ℕ) → nat_lt u n ≡ true → (not (n == u)) ≡ true
 higher-is-other u n higher = grind (arith, higher)
 
 module _ (u : ℕ) (q : Fabric → Bool) where
@@ -144,7 +144,7 @@ module _ (u : ℕ) (q : Fabric → Bool) where
       let both = and_parts (nat_lt u f.index) (list_all (λ (g : Fabric). nat_lt u g.index) fabrics) all in
       or_from _ _ (ap (λ b. b && q f) (not-true (f.index == u) (higher-is-other u f.index both.0))) (none-higher fabrics both.1)
 
-  only-one : (least : ℕ) (fabrics : List Fabric) → rise_above least fabrics ≡ true → list_any (λ (f : Fabric). f.index == u && q f) fabrics ≡ true → list_all (λ (f : Fabric). not (f.index == u) || q f) fabrics ≡ true
+  pub only-one : (least : ℕ) (fabrics : List Fabric) → rise_above least fabrics ≡ true → list_any (λ (f : Fabric). f.index == u && q f) fabrics ≡ true → list_all (λ (f : Fabric). not (f.index == u) || q f) fabrics ≡ true
   only-one least [] rise some = refl
   only-one least (f ∷ fabrics) rise some =
       let both = and_parts (nat_lt least f.index) (rise_above f.index fabrics) rise in
@@ -194,7 +194,7 @@ has_its None saved f = true
 has_its (Some u) None f = true
 has_its (Some u) (Some c) f = not (f.index == u) || has_identity c.root_key c.fabric_id f
 
-all-true : (fabrics : List Fabric) (P : Fabric → Bool) → ((f : Fabric) → P f ≡ true) → list_all P fabrics ≡ true
+pub all-true : (fabrics : List Fabric) (P : Fabric → Bool) → ((f : Fabric) → P f ≡ true) → list_all P fabrics ≡ true
 all-true [] P each = refl
 all-true (f ∷ fabrics) P each = and_from _ _ (each f) (all-true fabrics P each)
 
@@ -273,17 +273,17 @@ module _ (added updated : Option ℕ) (saved : Option Credentials) where
 
 -- Lists of which what passes stays.
 
-all-passed : {X : Type 0} (p q : X → Bool) → ((x : X) → p x ≡ true → q x ≡ true) → (xs : List X) → list_all q (filter p xs) ≡ true
+pub all-passed : {X : Type 0} (p q : X → Bool) → ((x : X) → p x ≡ true → q x ≡ true) → (xs : List X) → list_all q (filter p xs) ≡ true
 all-passed p q each [] = refl
 all-passed p q each (x ∷ xs) = elim (cases_Bool (p x)) [
   | inl passes ↦ rw passes (and_from _ _ (each x passes) (all-passed p q each xs))
   | inr fails ↦ rw fails (all-passed p q each xs)
 ]
 
-all-staying : {X : Type 0} (p q keep : X → Bool) → ((x : X) → keep x ≡ true → p x ≡ true → q x ≡ true) → (xs : List X) → list_all p xs ≡ true → list_all q (filter keep xs) ≡ true
+pub all-staying : {X : Type 0} (p q keep : X → Bool) → ((x : X) → keep x ≡ true → p x ≡ true → q x ≡ true) → (xs : List X) → list_all p xs ≡ true → list_all q (filter keep xs) ≡ true
 all-staying p q keep each xs all = all-kept p q keep each xs (all-filter p keep xs all)
 
-pass-stay : {X : Type 0} (p good keep : X → Bool) → ((x : X) → good x ≡ true → p x ≡ true → keep x ≡ true) → (xs : List X) → list_all good xs ≡ true → length (filter p (filter keep xs)) ≡ length (filter p xs)
+pub pass-stay : {X : Type 0} (p good keep : X → Bool) → ((x : X) → good x ≡ true → p x ≡ true → keep x ≡ true) → (xs : List X) → list_all good xs ≡ true → length (filter p (filter keep xs)) ≡ length (filter p xs)
 pass-stay p good keep each [] all = refl
 pass-stay p good keep each (x ∷ xs) all =
     let both = and_parts (good x) (list_all good xs) all in

@@ -1,5 +1,5 @@
 -- What a fabric sees of a state is what it sees of the veil.
-use Rattle.std.proofs.Common.{◌≡◌, ℕ, Bool, true, false, ◌==◌, nat_lt, List, [], ◌∷◌, ◌++◌, Option, Some, None, cond, refl, ap, sym, subst, ◌∙◌, filter, map, if◌then◌else◌, arith}
+use Rattle.std.proofs.Common.{◌≡◌, ℕ, inl, inr, Bool, true, false, ◌==◌, nat_lt, List, [], ◌∷◌, ◌++◌, Option, Some, None, cond, refl, ap, sym, subst, ◌∙◌, filter, map, if◌then◌else◌, arith}
 use Rattle.std.specs.List.{list_any}
 use Rattle.std.proofs.lemmas.List.{map-append}
 use Rattle.mt_tlv.specs.Tree.{Elements}
@@ -16,7 +16,13 @@ use Rattle.mt_apps.specs.Parts.{Parts}
 use Rattle.mt_meta.specs.Stored.{is_stored}
 use Rattle.mt_model.specs.Trees.{untagged}
 use Rattle.mt_model.specs.declared.node.state.NodeState.{NodeState}
-use Rattle.mt_machine.specs.Isolation.{bare_network, has_fabric, veil}
+use Rattle.mt_machine.specs.Isolation.{has_fabric, saved_for, veil, with_saved}
+use Rattle.mt_model.specs.tables.Known.{bare_armed, bare_credentials, bare_network, fabric_known_to}
+use Rattle.mt_model.specs.declared.tables.fabric.Credentials.{Credentials}
+use Rattle.mt_model.specs.declared.tables.fabric.Fabric.{Fabric}
+use Rattle.mt_model.specs.declared.tables.network.Armed.{Armed}
+use Rattle.std.specs.Option.{option_map}
+use Rattle.std.proofs.lemmas.Bool.{cases_Bool}
 use Rattle.mt_machine.specs.Observation.{observation}
 use Rattle.mt_machine.specs.State.{IsValid, is_indexed, parts, rows_of}
 use Rattle.mt_machine.proofs.Rows.{apart-others, apart-own, passed}
@@ -114,6 +120,23 @@ plain-veil fabric (Some other) = by_test (other == fabric)
 pub members-veil : (fabric : ℕ) (s : NodeState) → fabrics_ascend s.fabrics ≡ true → list_any (is_indexed fabric) (veil fabric s).fabrics ≡ list_any (is_indexed fabric) s.fabrics
 members-veil fabric s up = ap (list_any (is_indexed fabric)) (rebuilt-known fabric s.fabrics up) ∙ known-members fabric s.fabrics
 
+-- What is known of fabrics, networks and the fail-safe is known on the veil.
+
+fabrics-known : (fabric : ℕ) (fs : List Fabric) → map (fabric_known_to fabric) (map (known_to fabric) fs) ≡ map (fabric_known_to fabric) fs
+fabrics-known fabric [] = refl
+fabrics-known fabric (f ∷ fs) = elim (cases_Bool (f.index == fabric)) [
+  | inl mine ↦ rw (mine, mine) (ap (λ (rest : List Fabric). f ∷ rest) (fabrics-known fabric fs))
+  | inr other ↦ rw (other, other) (ap (λ (rest : List Fabric). record f { credentials = bare_credentials f.credentials } ∷ rest) (fabrics-known fabric fs))
+]
+
+pub bare_networks_again : (networks : List Network) → map bare_network (map bare_network networks) ≡ map bare_network networks
+bare_networks_again [] = refl
+bare_networks_again (network ∷ networks) = ap (λ rest. bare_network network ∷ rest) (bare_networks_again networks)
+
+pub bare_again : (saved : Option Credentials) (armed : Option Armed) → option_map bare_armed (option_map (with_saved saved) (option_map bare_armed armed)) ≡ option_map bare_armed armed
+bare_again saved None = refl
+bare_again saved (Some armed) = refl
+
 pub sees-veil : (fabric : ℕ) (s : NodeState) → IsValid s → observation fabric (veil fabric s) ≡ observation fabric s
 sees-veil fabric s valid =
     λ i. record {
@@ -124,6 +147,11 @@ sees-veil fabric s valid =
         rows_at = λ place. rows-veil fabric s valid place i;
         version_of = version_in s.versions;
         entries = own_entries-apart fabric s.entries i;
+      };
+      known = record {
+        fabrics = (ap (map (fabric_known_to fabric)) (rebuilt-known fabric s.fabrics valid.fabrics_rise) ∙ fabrics-known fabric s.fabrics) i;
+        networks = bare_networks_again s.networks i;
+        armed = bare_again (saved_for fabric s.armed) s.armed i;
       };
       clock = s.clock;
     }

@@ -30,7 +30,7 @@ use Rattle.mt_machine.proofs.Steps.{own-kept}
 use Rattle.mt_machine.proofs.Writes.{impossible}
 
 -- what passes one test and so stays, is the same whether others stay
-both-filters : {X : Type 0} (mine keep : X → Bool) → ((x : X) → mine x ≡ true → keep x ≡ true) → (xs : List X) → filter mine (filter keep xs) ≡ filter mine xs
+pub both-filters : {X : Type 0} (mine keep : X → Bool) → ((x : X) → mine x ≡ true → keep x ≡ true) → (xs : List X) → filter mine (filter keep xs) ≡ filter mine xs
 both-filters mine keep each [] = refl
 both-filters mine keep each (x ∷ xs) =
     let rest = both-filters mine keep each xs in
@@ -39,7 +39,7 @@ both-filters mine keep each (x ∷ xs) =
       | inr not_its ↦ elim (cases_Bool (keep x)) [ inl kept ↦ rw (kept, not_its) rest | inr gone ↦ rw (gone, not_its) rest ]
     ]
 
-stays-other : (added : Option ℕ) (fabric n : ℕ) → is_that fabric added ≡ false → (n == fabric) ≡ true → stays added n ≡ true
+pub stays-other : (added : Option ℕ) (fabric n : ℕ) → is_that fabric added ≡ false → (n == fabric) ≡ true → stays added n ≡ true
 stays-other None fabric n other same = refl
 stays-other (Some a) fabric n other same = ap not (subst (λ m. (a == m) ≡ false) (sym (eqb-true n fabric same)) other)
 

@@ -11,12 +11,13 @@ use Rattle.mt_model.specs.texts.Config.{ascend_from}
 use Rattle.mt_model.specs.declared.tables.access.AclEntry.{AclEntry}
 use Rattle.mt_model.specs.declared.tables.access.Actor.{Actor}
 use Rattle.mt_model.specs.declared.node.action.NodeStep.{NodeStep}
-use Rattle.mt_model.specs.declared.node.action.NodeStep.TheVariants.{SetRow, SetEntries, PutNetwork, RemoveNetwork, ConnectNetwork, MoveNetwork, Emit}
+use Rattle.mt_model.specs.declared.node.action.NodeStep.TheVariants.{SetRow, SetEntries, PutNetwork, RemoveNetwork, ConnectNetwork, MoveNetwork, Arm, Renew, Expire, Complete, AddRoot, Csr, AddFabric, UpdateFabric, RemoveFabric, Label, Emit}
 use Rattle.mt_model.specs.declared.node.state.NodeState.{NodeState}
 use Rattle.mt_model.specs.declared.rows.place.Place.{Place}
 use Rattle.mt_model.specs.declared.rows.place.Row.{Row}
-use Rattle.mt_machine.specs.Effects.{after, after_all}
+use Rattle.mt_machine.specs.Effects.{after, after_all, is_setting_step}
 use Rattle.mt_machine.specs.Isolation.{Own, own, owns}
+use Rattle.mt_machine.specs.Settings.{setting_cases}
 
 -- Two filters give the same in either order.
 
@@ -39,11 +40,7 @@ module _ (fabric : ℕ) where
   abbrev own_after : NodeStep → Own → Own
   own_after (SetRow place whose values) o = record o { rows = rows_after place whose values o.rows }
   own_after (SetEntries whose entries) o = record o { entries = entries_after whose entries o.entries }
-  own_after (PutNetwork id secret) o = o
-  own_after (RemoveNetwork id) o = o
-  own_after (ConnectNetwork id) o = o
-  own_after (MoveNetwork id index) o = o
-  own_after (Emit place priority whose value) o = o
+  own_after step o = o
 
   rows-own : (place : Place) (whose : ℕ) (values : List Value) (rows : List Row) → filter (owns fabric) (with_rows place whose values rows) ≡ rows_after place whose values (filter (owns fabric) rows)
   rows-own place whose values rows =
@@ -57,20 +54,19 @@ module _ (fabric : ℕ) where
       ∙ ap (λ (rest : List AclEntry). own_entries fabric (filter (is_entry_below whose) es) ++ rest) (filter-append (is_entry_of fabric) new (filter (is_entry_above whose) es))
       ∙ (λ i. entries-swap (is_entry_of fabric) (is_entry_below whose) es i ++ (own_entries fabric new ++ entries-swap (is_entry_of fabric) (is_entry_above whose) es i))
 
-  own-after : (asker : Option Actor) (step : NodeStep) (s : NodeState) → own fabric (after asker step s) ≡ own_after step (own fabric s)
-  own-after asker (SetRow place whose values) s = ap (λ (rows : List Row). record (own fabric s) { rows = rows }) (rows-own place whose values s.rows)
-  own-after asker (SetEntries whose entries) s = ap (λ (es : List AclEntry). record (own fabric s) { entries = es }) (entries-own whose entries s.entries)
-  own-after asker (PutNetwork id secret) s = refl
-  own-after asker (RemoveNetwork id) s = refl
-  own-after asker (ConnectNetwork id) s = refl
-  own-after asker (MoveNetwork id index) s = refl
-  own-after asker (Emit place priority whose value) s = refl
+  own-after : (asker : Option Actor) (step : NodeStep) (s : NodeState) → is_setting_step step ≡ true → own fabric (after asker step s) ≡ own_after step (own fabric s)
+  own-after asker step s =
+      setting_cases (λ (step : NodeStep). own fabric (after asker step s) ≡ own_after step (own fabric s))
+      (λ place whose values stored. ap (λ (rows : List Row). record (own fabric s) { rows = rows }) (rows-own place whose values s.rows))
+      (λ whose entries all. ap (λ (es : List AclEntry). record (own fabric s) { entries = es }) (entries-own whose entries s.entries))
+      (λ place priority whose value. refl) step
 
-  -- so where own parts are equal before steps, they are behind them
-  pub own-alike : (asker other : Option Actor) (steps : List NodeStep) (s t : NodeState) → own fabric s ≡ own fabric t → own fabric (after_all asker steps s) ≡ own fabric (after_all other steps t)
-  own-alike asker other [] s t same = same
-  own-alike asker other (step ∷ steps) s t same =
-      own-alike asker other steps (after asker step s) (after other step t) (own-after asker step s ∙ ap (own_after step) same ∙ sym (own-after other step t))
+  -- so where own parts are equal before such steps, they are behind them
+  pub own-alike : (asker other : Option Actor) (steps : List NodeStep) (s t : NodeState) → list_all is_setting_step steps ≡ true → own fabric s ≡ own fabric t → own fabric (after_all asker steps s) ≡ own fabric (after_all other steps t)
+  own-alike asker other [] s t sets same = same
+  own-alike asker other (step ∷ steps) s t sets same =
+      let both = and_parts (is_setting_step step) (list_all is_setting_step steps) sets in
+      own-alike asker other steps (after asker step s) (after other step t) both.1 (own-after asker step s both.0 ∙ ap (own_after step) same ∙ sym (own-after other step t both.0))
 
 -- What is set for a fabric is no other's own.
 
@@ -149,4 +145,14 @@ module _
   own-kept asker (RemoveNetwork id ∷ steps) s up up_entries all = absurd (cc)
   own-kept asker (ConnectNetwork id ∷ steps) s up up_entries all = absurd (cc)
   own-kept asker (MoveNetwork id index ∷ steps) s up up_entries all = absurd (cc)
+  own-kept asker (Arm owner seconds ∷ steps) s up up_entries all = absurd (cc)
+  own-kept asker (Renew seconds ∷ steps) s up up_entries all = absurd (cc)
+  own-kept asker (Expire ∷ steps) s up up_entries all = absurd (cc)
+  own-kept asker (Complete ∷ steps) s up up_entries all = absurd (cc)
+  own-kept asker (AddRoot cert ∷ steps) s up up_entries all = absurd (cc)
+  own-kept asker (Csr nonce update ∷ steps) s up up_entries all = absurd (cc)
+  own-kept asker (AddFabric joins ∷ steps) s up up_entries all = absurd (cc)
+  own-kept asker (UpdateFabric index given ∷ steps) s up up_entries all = absurd (cc)
+  own-kept asker (RemoveFabric index ∷ steps) s up up_entries all = absurd (cc)
+  own-kept asker (Label index label ∷ steps) s up up_entries all = absurd (cc)
   own-kept asker (Emit place priority whose value ∷ steps) s up up_entries all = own-kept asker steps s up up_entries (and_parts (whose == writer) (list_all (is_step_of writer) steps) all).1

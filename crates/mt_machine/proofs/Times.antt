@@ -1,7 +1,8 @@
 -- What an action does besides: without steps it sets the time alone, and none ends anything.
 use Rattle.std.proofs.Common.{◌≡◌, ◌↔◌, ℕ, ◌==◌, ◌&&◌, ◌||◌, not, Bool, true, false, List, [], ◌∷◌, ◌++◌, Option, None, append_assoc, arith, refl, ap, ◌∙◌, subst, if◌then◌else◌}
-use Rattle.std.specs.List.{find}
+use Rattle.std.specs.List.{find, list_all}
 use Rattle.std.specs.Option.{option_map}
+use Rattle.std.proofs.lemmas.Bool.{and_parts}
 use Rattle.std.proofs.lemmas.List.Folds.{list_any-append}
 use Rattle.mt_model.specs.rows.Same.{are_same_rows}
 use Rattle.mt_model.specs.declared.rows.place.Row.{Row}
@@ -13,17 +14,15 @@ use Rattle.mt_model.specs.declared.node.state.NodeSession.{NodeSession}
 use Rattle.mt_model.specs.declared.node.state.NodeState.{NodeState}
 use Rattle.mt_model.specs.declared.node.state.Standing.{Standing}
 use Rattle.mt_model.specs.declared.node.state.Standing.TheVariants.{Waits, Live, Ended}
-use Rattle.mt_model.specs.declared.node.action.NodeStep.TheVariants.{SetRow, SetEntries, PutNetwork, RemoveNetwork, ConnectNetwork, MoveNetwork, Emit}
-use Rattle.mt_machine.specs.Changes.{settled}
-use Rattle.mt_machine.specs.Effects.{after, after_all}
+use Rattle.mt_machine.specs.Effects.{after, after_all, is_setting_step}
+use Rattle.mt_machine.specs.Settings.{setting_cases}
 use Rattle.mt_machine.specs.State.{is_among, is_indexed}
-use Rattle.mt_machine.specs.Step.{after_action, aside_of, asker_of, closed_between, gone_between, is_live, session_asking, steps_of}
+use Rattle.mt_machine.specs.Step.{after_action, after_steps, aside_of, asker_of, at_time, closed_between, gone_between, is_live, session_asking, steps_of}
 use Rattle.mt_machine.proofs.Settled.{settled-same}
 
 pub sets_time : ((rows others : List Row) → (are_same_rows rows others ≡ true) ↔ (rows ≡ others)) → (s : NodeState) (action : Action) (now : ℕ) → steps_of s action now ≡ [] → after_action s action now ≡ record s { clock = now }
 sets_time same s action now none =
-    ap (λ (steps : List NodeStep). record (settled s (after_all (asker_of s action) steps s)) { clock = now }) none
-    ∙ ap (λ (t : NodeState). record t { clock = now }) (settled-same same s)
+    ap (λ (steps : List NodeStep). after_steps (asker_of s action) steps (at_time now s)) none ∙ settled-same same (at_time now s)
 
 -- Nothing ends where nothing changes.
 
@@ -52,40 +51,32 @@ among_all front (fabric ∷ fabrics) =
     let same : (front ++ fabric ∷ []) ++ fabrics ≡ front ++ fabric ∷ fabrics = append_assoc front (fabric ∷ []) fabrics in
     rw there (subst (λ (all : List Fabric). find (λ (f : Fabric). not (is_among all f.index)) fabrics ≡ None) same again)
 
-gone_none : (fabrics : List Fabric) → gone_between fabrics fabrics ≡ None
+pub gone_none : (fabrics : List Fabric) → gone_between fabrics fabrics ≡ None
 gone_none fabrics = ap (option_map (λ (fabric : Fabric). fabric.index)) (among_all [] fabrics)
 
--- No step ends a session, and none takes a fabric away.
+-- What sets rows and entries ends no session, and takes no fabric away.
 
-sessions-stay : (asker : Option Actor) (step : NodeStep) (s : NodeState) → (after asker step s).sessions ≡ s.sessions
-sessions-stay asker (SetRow place whose values) s = refl
-sessions-stay asker (SetEntries whose entries) s = refl
-sessions-stay asker (PutNetwork id secret) s = refl
-sessions-stay asker (RemoveNetwork id) s = refl
-sessions-stay asker (ConnectNetwork id) s = refl
-sessions-stay asker (MoveNetwork id index) s = refl
-sessions-stay asker (Emit place priority whose value) s = refl
+set_alone : (asker : Option Actor) (step : NodeStep) (s : NodeState) → is_setting_step step ≡ true
+    → after asker step s ≡ record s { rows = (after asker step s).rows; entries = (after asker step s).entries }
+set_alone asker step s =
+    setting_cases (λ (step : NodeStep). after asker step s ≡ record s { rows = (after asker step s).rows; entries = (after asker step s).entries })
+    (λ place whose values stored. refl) (λ whose entries all. refl) (λ place priority whose value. refl) step
 
-fabrics-stay : (asker : Option Actor) (step : NodeStep) (s : NodeState) → (after asker step s).fabrics ≡ s.fabrics
-fabrics-stay asker (SetRow place whose values) s = refl
-fabrics-stay asker (SetEntries whose entries) s = refl
-fabrics-stay asker (PutNetwork id secret) s = refl
-fabrics-stay asker (RemoveNetwork id) s = refl
-fabrics-stay asker (ConnectNetwork id) s = refl
-fabrics-stay asker (MoveNetwork id index) s = refl
-fabrics-stay asker (Emit place priority whose value) s = refl
+sessions-stay : (asker : Option Actor) (steps : List NodeStep) (s : NodeState) → list_all is_setting_step steps ≡ true → (after_all asker steps s).sessions ≡ s.sessions
+sessions-stay asker [] s sets = refl
+sessions-stay asker (step ∷ steps) s sets =
+    let both = and_parts (is_setting_step step) (list_all is_setting_step steps) sets in
+    sessions-stay asker steps (after asker step s) both.1 ∙ ap (λ (t : NodeState). t.sessions) (set_alone asker step s both.0)
 
-all_sessions-stay : (asker : Option Actor) (steps : List NodeStep) (s : NodeState) → (after_all asker steps s).sessions ≡ s.sessions
-all_sessions-stay asker [] s = refl
-all_sessions-stay asker (step ∷ steps) s = all_sessions-stay asker steps (after asker step s) ∙ sessions-stay asker step s
+fabrics-stay : (asker : Option Actor) (steps : List NodeStep) (s : NodeState) → list_all is_setting_step steps ≡ true → (after_all asker steps s).fabrics ≡ s.fabrics
+fabrics-stay asker [] s sets = refl
+fabrics-stay asker (step ∷ steps) s sets =
+    let both = and_parts (is_setting_step step) (list_all is_setting_step steps) sets in
+    fabrics-stay asker steps (after asker step s) both.1 ∙ ap (λ (t : NodeState). t.fabrics) (set_alone asker step s both.0)
 
-all_fabrics-stay : (asker : Option Actor) (steps : List NodeStep) (s : NodeState) → (after_all asker steps s).fabrics ≡ s.fabrics
-all_fabrics-stay asker [] s = refl
-all_fabrics-stay asker (step ∷ steps) s = all_fabrics-stay asker steps (after asker step s) ∙ fabrics-stay asker step s
-
-pub ends_nothing : (s : NodeState) (action : Action) (now : ℕ) → aside_of s action now ≡ record { session = session_asking s action; closed = []; gone = None }
-ends_nothing s action now = λ i. record {
+pub ends_nothing : (s : NodeState) (action : Action) (now : ℕ) → list_all is_setting_step (steps_of s action now) ≡ true → aside_of s action now ≡ record { session = session_asking s action; closed = []; gone = None }
+ends_nothing s action now sets = λ i. record {
   session = session_asking s action;
-  closed = (ap (closed_between s.sessions) (all_sessions-stay (asker_of s action) (steps_of s action now) s) ∙ closed_none s.sessions) i;
-  gone = (ap (gone_between s.fabrics) (all_fabrics-stay (asker_of s action) (steps_of s action now) s) ∙ gone_none s.fabrics) i;
+  closed = (ap (closed_between s.sessions) (sessions-stay (asker_of s action) (steps_of s action now) (at_time now s) sets) ∙ closed_none s.sessions) i;
+  gone = (ap (gone_between s.fabrics) (fabrics-stay (asker_of s action) (steps_of s action now) (at_time now s) sets) ∙ gone_none s.fabrics) i;
 }

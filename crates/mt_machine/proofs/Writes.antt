@@ -21,7 +21,7 @@ use Rattle.mt_model.specs.declared.tables.access.AclEntry.{AclEntry}
 use Rattle.mt_model.specs.declared.tables.access.Actor.{Actor}
 use Rattle.mt_model.specs.declared.tables.fabric.Fabric.{Fabric}
 use Rattle.mt_model.specs.declared.node.action.NodeStep.{NodeStep}
-use Rattle.mt_model.specs.declared.node.action.NodeStep.TheVariants.{SetRow, SetEntries, PutNetwork, RemoveNetwork, ConnectNetwork, MoveNetwork, Emit}
+use Rattle.mt_model.specs.declared.node.action.NodeStep.TheVariants.{SetRow, SetEntries, PutNetwork, RemoveNetwork, ConnectNetwork, MoveNetwork, Arm, Renew, Expire, Complete, AddRoot, Csr, AddFabric, UpdateFabric, RemoveFabric, Label, Emit}
 use Rattle.mt_model.specs.declared.rows.place.Place.{Place}
 use Rattle.mt_model.specs.declared.rows.place.Row.{Row}
 use Rattle.mt_model.specs.declared.node.state.ChangeNumber.{ChangeNumber}
@@ -425,23 +425,43 @@ module _
     after_step asker (RemoveNetwork id) s valid fit = impossible fit
     after_step asker (ConnectNetwork id) s valid fit = impossible fit
     after_step asker (MoveNetwork id index) s valid fit = impossible fit
+    after_step asker (Arm owner seconds) s valid fit = impossible fit
+    after_step asker (Renew seconds) s valid fit = impossible fit
+    after_step asker Expire s valid fit = impossible fit
+    after_step asker Complete s valid fit = impossible fit
+    after_step asker (AddRoot cert) s valid fit = impossible fit
+    after_step asker (Csr nonce update) s valid fit = impossible fit
+    after_step asker (AddFabric joins) s valid fit = impossible fit
+    after_step asker (UpdateFabric index given) s valid fit = impossible fit
+    after_step asker (RemoveFabric index) s valid fit = impossible fit
+    after_step asker (Label index label) s valid fit = impossible fit
     after_step asker (Emit place priority fabric value) s valid fit = valid
 
-    keeps_fabrics : (asker : Option Actor) (step : NodeStep) (s : NodeState) → (after asker step s).fabrics ≡ s.fabrics
-    keeps_fabrics asker (SetRow place fabric values) s = refl
-    keeps_fabrics asker (SetEntries fabric new) s = refl
-    keeps_fabrics asker (PutNetwork id secret) s = refl
-    keeps_fabrics asker (RemoveNetwork id) s = refl
-    keeps_fabrics asker (ConnectNetwork id) s = refl
-    keeps_fabrics asker (MoveNetwork id index) s = refl
-    keeps_fabrics asker (Emit place priority fabric value) s = refl
+    keeps_fabrics : (asker : Option Actor) (step : NodeStep) (s : NodeState) (fabrics : List Fabric) → fits fabrics step ≡ true → (after asker step s).fabrics ≡ s.fabrics
+    keeps_fabrics asker (SetRow place fabric values) s fabrics fit = refl
+    keeps_fabrics asker (SetEntries fabric new) s fabrics fit = refl
+    keeps_fabrics asker (PutNetwork id secret) s fabrics fit = impossible fit
+    keeps_fabrics asker (RemoveNetwork id) s fabrics fit = impossible fit
+    keeps_fabrics asker (ConnectNetwork id) s fabrics fit = impossible fit
+    keeps_fabrics asker (MoveNetwork id index) s fabrics fit = impossible fit
+    keeps_fabrics asker (Arm owner seconds) s fabrics fit = impossible fit
+    keeps_fabrics asker (Renew seconds) s fabrics fit = impossible fit
+    keeps_fabrics asker Expire s fabrics fit = impossible fit
+    keeps_fabrics asker Complete s fabrics fit = impossible fit
+    keeps_fabrics asker (AddRoot cert) s fabrics fit = impossible fit
+    keeps_fabrics asker (Csr nonce update) s fabrics fit = impossible fit
+    keeps_fabrics asker (AddFabric joins) s fabrics fit = impossible fit
+    keeps_fabrics asker (UpdateFabric index given) s fabrics fit = impossible fit
+    keeps_fabrics asker (RemoveFabric index) s fabrics fit = impossible fit
+    keeps_fabrics asker (Label index label) s fabrics fit = impossible fit
+    keeps_fabrics asker (Emit place priority fabric value) s fabrics fit = refl
 
     pub after_all_valid : (asker : Option Actor) (steps : List NodeStep) (s : NodeState) → IsValid s → list_all (fits s.fabrics) steps ≡ true → IsValid (after_all asker steps s)
     after_all_valid asker [] s valid fit = valid
     after_all_valid asker (step ∷ steps) s valid fit =
         let both = and_parts (fits s.fabrics step) (list_all (fits s.fabrics) steps) fit in
         after_all_valid asker steps (after asker step s) (after_step asker step s valid both.0)
-        (subst (λ (fabrics : List Fabric). list_all (fits fabrics) steps ≡ true) (sym (keeps_fabrics asker step s)) both.1)
+        (subst (λ (fabrics : List Fabric). list_all (fits fabrics) steps ≡ true) (sym (keeps_fabrics asker step s s.fabrics both.0)) both.1)
 
 -- Versions, change numbers and the time that follow.
 
@@ -469,8 +489,11 @@ changes_follow (place ∷ places) changes changed are = record {
   fits = next_fits changed;
 }
 
-pub settled_valid : (places : List Place) (s t : NodeState) (now : ℕ) → IsValid s → IsValid t → IsValid (record (changed_at places s t) { clock = now })
-settled_valid places s t now before behind =
+pub settled_valid : (places : List Place) (s t : NodeState) → IsValid s → IsValid t → IsValid (changed_at places s t)
+settled_valid places s t before behind =
     let follow = changes_follow places s.changes s.changed (same_changes s before) in
-    renewed t t.rows t.entries (map (version_after places) s.versions) (map (change_after places (next_change s.changed)) s.changes) (count_after places s.changed) now
+    renewed t t.rows t.entries (map (version_after places) s.versions) (map (change_after places (next_change s.changed)) s.changes) (count_after places s.changed) t.clock
     behind (same_rows t behind) (same_entries t behind) follow
+
+pub timed_valid : (s : NodeState) (now : ℕ) → IsValid s → IsValid (record s { clock = now })
+timed_valid s now valid = renewed s s.rows s.entries s.versions s.changes s.changed now valid (same_rows s valid) (same_entries s valid) (same_changes s valid)

@@ -4,6 +4,7 @@ use Rattle.std.specs.List.{find}
 use Rattle.std.specs.Option.{option_map}
 use Rattle.mt_model.specs.rows.Seen.{own_entries}
 use Rattle.mt_model.specs.rows.Sight.{seen_by}
+use Rattle.mt_model.specs.tables.Known.{bare_armed, bare_network}
 use Rattle.mt_model.specs.declared.tables.access.AclEntry.{AclEntry}
 use Rattle.mt_model.specs.declared.tables.access.Auth.TheVariants.{Case}
 use Rattle.mt_model.specs.declared.tables.access.Privilege.TheVariants as privileges
@@ -81,14 +82,6 @@ descriptor_of f = record {
   node_id = f.credentials.node_id;
   label = f.label;
 }
-
--- a network without its secret
-abbrev pub bare_network : Network → Network
-bare_network network = record network { secret = [] }
-
--- the fail-safe without saved values
-abbrev pub bare_armed : Armed → Armed
-bare_armed armed = record armed { saved_credentials = None; saved_networks = [] }
 
 -- The rows of nobody, and of others as it sees them; whose the others' access control entries are; who the
 -- fabrics are; roots, networks without secrets, the fail-safe without saved values; data versions and change

@@ -1,5 +1,5 @@
 -- Laws of the written machine.
-use Rattle.std.specs.Prelude.{◌≡◌, ◌≢◌, ℕ, List, [], None, Option, Some, false, true}
+use Rattle.std.specs.Prelude.{◌≡◌, ◌≢◌, ℕ, List, [], None, Option, Some, false, true, if◌then◌else◌}
 use Rattle.std.specs.List.{list_all}
 use Rattle.mt_model.specs.texts.Config.{are_entries, are_fabrics}
 use Rattle.mt_model.specs.rows.Seen.{seen_as}
@@ -13,14 +13,21 @@ use Rattle.mt_model.specs.declared.texts.recording.Event.{Event}
 use Rattle.mt_model.specs.declared.node.state.NodeState.{NodeState}
 use Rattle.mt_model.specs.declared.node.action.Action.{Action}
 use Rattle.mt_machine.specs.Changes.{changed_at, settled}
-use Rattle.mt_machine.specs.Effects.{is_setting_step}
+use Rattle.mt_fabrics.specs.Table.{credentials_at}
+use Rattle.mt_model.specs.declared.node.action.NodeStep.{NodeStep}
+use Rattle.mt_model.specs.declared.node.action.NodeStep.TheVariants.{UpdateFabric}
+use Rattle.mt_model.specs.declared.tables.access.Actor.{Actor}
+use Rattle.mt_machine.specs.Effects.{after, is_setting_step, is_sound_step, may_update}
+use Rattle.mt_machine.specs.Touching.{may_touch}
 use Rattle.mt_machine.specs.Isolation.{own, own_of_whole, public_view, veil, veil_of_whole}
-use Rattle.mt_machine.specs.Lines.{fabric_of, next, sent}
+use Rattle.mt_model.specs.declared.texts.recording.Event.TheVariants.{Tick}
+use Rattle.mt_machine.specs.Lines.{fabric_of, is_tick, next, sent}
 use Rattle.mt_machine.specs.Observation.{observation}
 use Rattle.mt_machine.specs.Opened.{opened_with}
-use Rattle.mt_machine.specs.Rollback.{rollback}
+use Rattle.mt_machine.specs.Rollback.{added_in, deadlines_left, is_due, rollback}
+use Rattle.mt_model.specs.declared.node.action.Action.TheVariants.{Expire}
 use Rattle.mt_machine.specs.State.{IsValid, State, rows_of, was_added, was_updated}
-use Rattle.mt_machine.specs.Step.{after_action, aside_of, session_asking, steps_of}
+use Rattle.mt_machine.specs.Step.{after_action, aside_of, at_time, is_expiry, session_asking, steps_of}
 
 -- What a fabric observes of a state is what it observes of the veil, which is made of its own part and of what is
 -- public to it.
@@ -65,10 +72,38 @@ abbrev pub LeavesTheOwnOnTheVeil : Type 0
 LeavesTheOwnOnTheVeil = (s : State) (e : Event) → IsValid s.node
     → own_of_whole (fabric_of s.node e) (next (veil_of_whole (fabric_of s.node e) s) e) ≡ own_of_whole (fabric_of s.node e) (next s e)
 
--- An event changes nothing that is another fabric's own.
+-- An event changes nothing that is another fabric's own. (A time step is nobody's event: the next laws say what it changes.)
 abbrev pub KeepsTheOwn : Type 0
-KeepsTheOwn = (fabric : ℕ) (s : State) (e : Event) → IsValid s.node → fabric ≢ fabric_of s.node e
+KeepsTheOwn = (fabric : ℕ) (s : State) (e : Event) → IsValid s.node → is_tick e ≡ false → fabric ≢ fabric_of s.node e
     → own_of_whole fabric (next s e) ≡ own_of_whole fabric s
+
+-- A time step lets the fail-safe expire exactly where it is armed and the time of its end has come. Then the state is the rollback of the
+-- state before, at that time, with the versions and change numbers that follow; otherwise the time alone is new.
+abbrev pub ExpiresWhereDue : Type 0
+ExpiresWhereDue = (s : State) (ms : ℕ) → is_due s.node.armed ms ≡ true
+    → next s (Tick ms) ≡ record { node = settled (at_time ms s.node) (rollback (at_time ms s.node)); deadlines = deadlines_left s.node.armed s.deadlines }
+
+abbrev pub PassesOtherwise : Type 0
+PassesOtherwise = (s : State) (ms : ℕ) → is_due s.node.armed ms ≡ false → next s (Tick ms) ≡ record s { node = at_time ms s.node }
+
+-- The fabric that it takes out of the table is the one that was added, where one was.
+abbrev pub TakesTheAddedAway : Type 0
+TakesTheAddedAway = (s : NodeState) (now : ℕ) → IsValid s → (aside_of s Expire now).gone ≡ (if is_due s.armed now then added_in s.armed else None)
+
+-- A time step leaves a fabric that was neither added nor updated under the fail-safe its own part.
+abbrev pub TicksSpareOthers : Type 0
+TicksSpareOthers = (fabric : ℕ) (s : State) (ms : ℕ) → IsValid s.node → fabric ≢ 0 → was_added fabric s.node.armed ≡ false → was_updated fabric s.node.armed ≡ false
+    → own_of_whole fabric (next s (Tick ms)) ≡ own_of_whole fabric s
+
+-- The own part that a time step leaves to any fabric is what it leaves on the veil of that fabric, and so it is determined by that part and
+-- by what is public to it, as both were before.
+abbrev pub TicksOnTheVeil : Type 0
+TicksOnTheVeil = (fabric : ℕ) (s : State) (ms : ℕ) → IsValid s.node → own_of_whole fabric (next (veil_of_whole fabric s) (Tick ms)) ≡ own_of_whole fabric (next s (Tick ms))
+
+abbrev pub TicksSeeTheMarkAlone : Type 0
+TicksSeeTheMarkAlone = (fabric : ℕ) (s t : State) (ms : ℕ) → IsValid s.node → IsValid t.node
+    → own_of_whole fabric s ≡ own_of_whole fabric t → public_view fabric s.node ≡ public_view fabric t.node
+    → own_of_whole fabric (next s (Tick ms)) ≡ own_of_whole fabric (next t (Tick ms))
 
 -- A new node's state is valid.
 abbrev pub OpensValid : Type 0
@@ -88,6 +123,21 @@ RollsBackValid = (s : NodeState) → IsValid s → IsValid (rollback s)
 abbrev pub SparesOthers : Type 0
 SparesOthers = (fabric : ℕ) (s : NodeState) → IsValid s → fabric ≢ 0 → was_added fabric s.armed ≡ false → was_updated fabric s.armed ≡ false → own fabric (rollback s) ≡ own fabric s
 
+-- Each step of commissioning, which is on networks, the fail-safe or the fabric table, leaves a valid state valid: the limits hold, and the
+-- facts of the fail-safe.
+abbrev pub StepsStayValid : Type 0
+StepsStayValid = (asker : Option Actor) (step : NodeStep) (s : NodeState) → IsValid s → is_sound_step step ≡ true → IsValid (after asker step s)
+
+-- Such a step changes nothing that is another fabric's own.
+abbrev pub StepsSpareOthers : Type 0
+StepsSpareOthers = (fabric : ℕ) (asker : Option Actor) (step : NodeStep) (s : NodeState) → IsValid s → is_sound_step step ≡ true → may_touch s step fabric ≡ false
+    → own fabric (after asker step s) ≡ own fabric s
+
+-- A fabric that gets new credentials sees as its own those that it had, which an expiry gives back.
+abbrev pub SavesWhatItHad : Type 0
+SavesWhatItHad = (asker : Option Actor) (index : ℕ) (given : Credentials) (s : NodeState) → may_update index given s ≡ true
+    → (own index (after asker (UpdateFabric index given) s)).saved ≡ credentials_at index s.fabrics
+
 -- An action that makes no step sets the time, and nothing else: no version moves, and no change is counted.
 abbrev pub SetsTheTime : Type 0
 SetsTheTime = (s : NodeState) (action : Action) (now : ℕ) → steps_of s action now ≡ [] → after_action s action now ≡ record s { clock = now }
@@ -100,13 +150,13 @@ StaysSettled = (s : NodeState) → settled s s ≡ s
 abbrev pub ChangesNowhere : Type 0
 ChangesNowhere = (s : NodeState) → changed_at [] s s ≡ s
 
--- The steps of requests set rows of stored places, and entries of the fabric that they name, or tell of events.
+-- The steps of actions other than an expiry set rows of stored places, and entries of the fabric that they name, or tell of events.
 abbrev pub SetsValues : Type 0
-SetsValues = (s : NodeState) (action : Action) (now : ℕ) → IsValid s → list_all is_setting_step (steps_of s action now) ≡ true
+SetsValues = (s : NodeState) (action : Action) (now : ℕ) → IsValid s → is_expiry action ≡ false → list_all is_setting_step (steps_of s action now) ≡ true
 
--- No action ends a session, and none takes a fabric away.
+-- An action whose steps are such ends no session, and takes no fabric away.
 abbrev pub EndsNothing : Type 0
-EndsNothing = (s : NodeState) (action : Action) (now : ℕ) → aside_of s action now ≡ record { session = session_asking s action; closed = []; gone = None }
+EndsNothing = (s : NodeState) (action : Action) (now : ℕ) → list_all is_setting_step (steps_of s action now) ≡ true → aside_of s action now ≡ record { session = session_asking s action; closed = []; gone = None }
 
 -- The rows of each place stand in the order in which a fabric sees them.
 abbrev pub StandsInOrder : Type 0

@@ -3,11 +3,14 @@ pub mod Changes
 pub mod Commands
 pub mod Effects
 pub mod Isolation
+pub mod Joins
 pub mod Laws
 pub mod Lines
 pub mod Observation
 pub mod Opened
 pub mod Rollback
 pub mod Samples
+pub mod Settings
 pub mod State
 pub mod Step
+pub mod Touching

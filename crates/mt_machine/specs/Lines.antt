@@ -22,12 +22,22 @@ use Rattle.mt_model.specs.declared.texts.recording.To.TheVariants.{Plain}
 use Rattle.mt_model.specs.declared.node.state.NodeState.{NodeState}
 use Rattle.mt_model.specs.declared.messages.status.Status.TheVariants.{Busy, InvalidAction, PathsExhausted}
 use Rattle.mt_machine.specs.Isolation.{is_deadline_in}
+use Rattle.mt_machine.specs.Rollback.{deadlines_left, is_due}
 use Rattle.mt_machine.specs.State.{State}
 use Rattle.mt_machine.specs.Step.{after_action, asker, case_actor, is_built_request, is_late, pase_actor, refusal, reply_of}
 
 -- Whom a plain line names: the plain PASE session where its fabric is 0, otherwise a node of its fabric.
 abbrev pub line_actor : ℕ → ℕ → List ℕ → Actor
 line_actor fabric node cats = if fabric == 0 then pase_actor 0 else case_actor fabric node cats
+
+-- a time step is nobody's: in it an expiry may take back what is any fabric's
+abbrev pub is_tick : Event → Bool
+is_tick (events.Ask ms fabric node cats opcode payload) = false
+is_tick (events.Datagram ms peer bytes) = false
+is_tick (events.Tick ms) = true
+is_tick (events.Report ms fabric subscription) = false
+is_tick (events.Resend ms session) = false
+is_tick (events.Stop calls fate) = false
 
 -- The fabric for which an event acts: a line of fabric 0 acts for the fabric that the plain PASE session has.
 abbrev pub fabric_of : NodeState → Event → ℕ
@@ -134,7 +144,14 @@ next_for s actor ms asked = record {
   deadlines = deadlines_after (asker s.node actor) s.deadlines ms asked;
 }
 
--- what an event sends; other events than lines of plain actors are not built
+-- A time step lets the fail-safe expire where it is time: then the deadlines of the fabric that goes, go with it.
+abbrev pub next_tick : State → ℕ → State
+next_tick s ms = record {
+  node = after_action s.node actions.Expire ms;
+  deadlines = if is_due s.node.armed ms then deadlines_left s.node.armed s.deadlines else s.deadlines;
+}
+
+-- what an event sends; a time step sends nothing; other events than these and lines of plain actors are not built
 abbrev pub sent : State → Event → List Sent
 sent s (events.Ask ms fabric node cats opcode payload) = sent_for s (line_actor fabric node cats) ms (request_in opcode payload)
 sent s (events.Datagram ms peer bytes) = []
@@ -147,7 +164,7 @@ sent s (events.Stop calls fate) = []
 abbrev pub next : State → Event → State
 next s (events.Ask ms fabric node cats opcode payload) = next_for s (line_actor fabric node cats) ms (request_in opcode payload)
 next s (events.Datagram ms peer bytes) = s
-next s (events.Tick ms) = s
+next s (events.Tick ms) = next_tick s ms
 next s (events.Report ms fabric subscription) = s
 next s (events.Resend ms session) = s
 next s (events.Stop calls fate) = s
@@ -166,7 +183,7 @@ is_built_payload (Err fault) = true
 abbrev pub is_built : Event → Bool
 is_built (events.Ask ms fabric node cats opcode payload) = is_built_payload (request_in opcode payload)
 is_built (events.Datagram ms peer bytes) = false
-is_built (events.Tick ms) = false
+is_built (events.Tick ms) = true
 is_built (events.Report ms fabric subscription) = false
 is_built (events.Resend ms session) = false
 is_built (events.Stop calls fate) = false

@@ -1,6 +1,6 @@
 -- The state in which a new node begins.
-use Rattle.std.specs.Prelude.{ℕ, ◌+◌, ◌-◌, ◌*◌, ◌%◌, ◌^◌, ◌==◌, ◌++◌, List, [], ◌∷◌, Option, None, Some, bytes_eq, filter, if◌then◌else◌, map}
-use Rattle.std.specs.List.{find, flat_map, list_any}
+use Rattle.std.specs.Prelude.{ℕ, ◌+◌, ◌-◌, ◌*◌, ◌%◌, ◌^◌, ◌==◌, List, [], ◌∷◌, Option, None, Some, filter, map}
+use Rattle.std.specs.List.{find, flat_map}
 use Rattle.mt_meta.specs.Places.{all_places}
 use Rattle.mt_meta.specs.Stored.{first_rows}
 use Rattle.mt_meta.specs.Table.{clusters_of, endpoints}
@@ -18,6 +18,7 @@ use Rattle.mt_model.specs.declared.node.state.Standing.{Standing}
 use Rattle.mt_model.specs.declared.node.state.Standing.TheVariants.{Waits, Live}
 use Rattle.mt_model.specs.declared.node.state.Version.{Version}
 use Rattle.mt_model.specs.declared.node.state.NodeState.{NodeState}
+use Rattle.mt_machine.specs.Effects.{with_root}
 use Rattle.mt_machine.specs.State.{State}
 use Rattle.mt_model.specs.texts.Config.{has_identity}
 
@@ -38,10 +39,6 @@ versions_at version = flat_map (versions_of_endpoint version) endpoints
 -- no attribute has changed yet
 abbrev pub unchanged : Place → ChangeNumber
 unchanged place = record { place = place; number = 0 }
-
--- roots with one more, unless it is there
-abbrev pub with_root : List (List ℕ) → List ℕ → List (List ℕ)
-with_root roots root = if list_any (bytes_eq root) roots then roots else roots ++ root ∷ []
 
 -- roots, and those of fabrics, each once
 abbrev pub with_roots_of : List (List ℕ) → List Fabric → List (List ℕ)

@@ -74,7 +74,7 @@ abbrev pub rolled_back : Option Armed → NodeState → NodeState
 rolled_back None s = s
 rolled_back (Some armed) s = without_breadcrumb (undone armed s)
 
--- The node behind an expiry; where the fail-safe is not armed, nothing is taken back.
+-- The state without what was done under the fail-safe, and as it is where that is not armed. It moves no version.
 abbrev pub rollback : NodeState → NodeState
 rollback s = rolled_back s.armed s
 
@@ -82,6 +82,11 @@ rollback s = rolled_back s.armed s
 abbrev pub is_due : Option Armed → ℕ → Bool
 is_due None now = false
 is_due (Some armed) now = nat_le armed.until now
+
+-- the fabric that was added under the fail-safe, which an expiry takes away
+abbrev pub added_in : Option Armed → Option ℕ
+added_in None = None
+added_in (Some armed) = armed.added
 
 -- the deadlines of the fabric that goes, go with it
 abbrev pub deadlines_left : Option Armed → List PlainDeadline → List PlainDeadline

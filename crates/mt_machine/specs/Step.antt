@@ -9,8 +9,9 @@ use Rattle.mt_model.specs.declared.tables.access.Actor.{Actor}
 use Rattle.mt_model.specs.declared.tables.access.Auth.{Auth}
 use Rattle.mt_model.specs.declared.tables.access.Auth.TheVariants.{Pase, Case, Group}
 use Rattle.mt_model.specs.declared.node.action.Action.{Action}
-use Rattle.mt_model.specs.declared.node.action.Action.TheVariants.{Ask, Nothing}
+use Rattle.mt_model.specs.declared.node.action.Action.TheVariants.{Ask, Expire, Nothing}
 use Rattle.mt_model.specs.declared.node.action.NodeStep.{NodeStep}
+use Rattle.mt_model.specs.declared.node.action.NodeStep.TheVariants as steps
 use Rattle.mt_model.specs.declared.tables.fabric.Fabric.{Fabric}
 use Rattle.mt_model.specs.declared.messages.message.Index.{Index}
 use Rattle.mt_model.specs.declared.messages.message.Index.TheVariants.{Whole, Append, At}
@@ -35,6 +36,7 @@ use Rattle.mt_machine.specs.Changes.{settled}
 use Rattle.mt_machine.specs.Commands.{command_effect, is_commissioning}
 use Rattle.mt_machine.specs.Effects.{after_all}
 use Rattle.mt_machine.specs.Observation.{observation}
+use Rattle.mt_machine.specs.Rollback.{is_due}
 use Rattle.mt_machine.specs.State.{is_among, is_member}
 
 -- Who is taken as asking.
@@ -170,26 +172,38 @@ asked_steps s request deadline now (Some asker) = steps_in_time s asker request 
 
 -- An action at a time.
 
+-- whether it lets the fail-safe expire
+abbrev pub is_expiry : Action → Bool
+is_expiry (Ask actor request deadline) = false
+is_expiry Expire = true
+is_expiry Nothing = false
+
 -- who is taken as asking
 abbrev pub asker_of : NodeState → Action → Option Actor
 asker_of s (Ask actor request deadline) = asker s actor
+asker_of s Expire = None
 asker_of s Nothing = None
 
 abbrev pub reply_of : NodeState → Action → ℕ → Reply
 reply_of s (Ask actor request deadline) now = asked_reply s request deadline now (asker s actor)
+reply_of s Expire now = replies.Nothing
 reply_of s Nothing now = replies.Nothing
 
 abbrev pub steps_of : NodeState → Action → ℕ → List NodeStep
 steps_of s (Ask actor request deadline) now = asked_steps s request deadline now (asker s actor)
+steps_of s Expire now = if is_due s.armed now then steps.Expire ∷ [] else []
 steps_of s Nothing now = []
 
 -- the state behind its steps, with the versions and change numbers that follow
 abbrev pub after_steps : Option Actor → List NodeStep → NodeState → NodeState
 after_steps asker steps s = settled s (after_all asker steps s)
 
--- the state behind it: its steps are made, and it is this time
+abbrev pub at_time : ℕ → NodeState → NodeState
+at_time now s = record s { clock = now }
+
+-- the state behind it: it is this time, and its steps are made
 abbrev pub after_action : NodeState → Action → ℕ → NodeState
-after_action s action now = record (after_steps (asker_of s action) (steps_of s action now) s) { clock = now }
+after_action s action now = after_steps (asker_of s action) (steps_of s action now) (at_time now s)
 
 -- What else an action does: on whose session it was asked, which sessions end, which fabric leaves the table.
 
@@ -242,4 +256,5 @@ is_built_request (requests.Timed ms) = true
 
 abbrev pub is_built_action : Action → Bool
 is_built_action (Ask actor request deadline) = is_built_request request
+is_built_action Expire = true
 is_built_action Nothing = true

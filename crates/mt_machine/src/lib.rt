@@ -12,13 +12,23 @@
 //! - `Lines`: one line of a recording: its action, what is sent, the state behind it;
 //! - `Rollback`: what an expiry of the fail-safe takes back;
 //! - `Opened`: the state in which a new node begins;
+//! - `Touching`: which steps of commissioning may change what is a fabric's own;
+//! - `Settings`: of what kinds the steps are that set values;
+//! - `Joins`: what steps of commissioning and an expiry make of a bench node;
 //! - `Laws`: the laws.
 #![tactic(auto)]
 
-ghost use Rattle.std.specs.Prelude.{◌≡◌, ◌∷◌, []};
-ghost use Rattle.mt_machine.specs.Laws.{ChangesNowhere, EndsNothing, HidesWhatIsSaved, KeepsItsOwnPart, KeepsItsPublicView, KeepsTheOwn, LeavesItsOwnByItsView, LeavesTheOwnOnTheVeil, OpensValid, RollsBackValid, SeesItsViewAlone, SeesTheVeil, SendsOnTheVeil, SetsTheTime, SetsValues, SparesOthers, StandsInOrder, StaysSettled, StaysValid};
+ghost use Rattle.std.specs.Prelude.{◌≡◌, ◌∷◌, [], Some, None, codes};
+ghost use Rattle.mt_model.specs.declared.node.action.NodeStep.TheVariants.{RemoveFabric};
+ghost use Rattle.mt_model.specs.declared.node.state.Standing.TheVariants.{Live, Ended};
+ghost use Rattle.mt_machine.specs.Bench.{bench_entries};
+ghost use Rattle.mt_machine.specs.Effects.{after_all};
+ghost use Rattle.mt_machine.specs.Joins.{end_of, first_administrator, indexes, joined_again, joined_by, labels, left_by_owner, nocs, node_label, number_row, owner_and_context, plain_pase, renewed_late, rows_at, session_pase, standings, ticked, updated_node};
+ghost use Rattle.mt_machine.specs.Laws.{ChangesNowhere, EndsNothing, ExpiresWhereDue, HidesWhatIsSaved, KeepsItsOwnPart, KeepsItsPublicView, KeepsTheOwn, LeavesItsOwnByItsView, LeavesTheOwnOnTheVeil, OpensValid, PassesOtherwise, RollsBackValid, SeesItsViewAlone, SavesWhatItHad, SeesTheVeil, SendsOnTheVeil, SetsTheTime, SetsValues, SparesOthers, StandsInOrder, StaysSettled, StaysValid, StepsSpareOthers, StepsStayValid, TakesTheAddedAway, TicksOnTheVeil, TicksSeeTheMarkAlone, TicksSpareOthers};
+ghost use Rattle.mt_machine.specs.Rollback.{breadcrumb};
 ghost use Rattle.mt_machine.specs.Samples.{acl_report, data_report, denial_report, empty_report, hidden_report, invalid_action, no_cluster_report, no_endpoint_report, read_acl, read_acl_anywhere, read_cluster_99, read_endpoint_7, read_on_off, sent_to_reader, too_deep};
 
+use mt_fabrics::{the_index_is_the_least, valid_tables_stay_valid};
 use mt_meta::stored_places_are_those_of_the_model;
 use mt_model::{
     entries_are_in_order, fabrics_are_in_order, numbered_fabrics_ascend,
@@ -54,15 +64,25 @@ pub fn sees_its_view_alone()
 /// On the veil of its fabric an event leaves the same own part as on the state.
 pub fn leaves_the_own_on_the_veil()
     ensures { LeavesTheOwnOnTheVeil }
-{}
+{
+    writes_touch_their_own();
+    writes_keep_forms();
+    nobody_writes_scoped();
+    stored_places_are_those_of_the_model();
+}
 
 /// The own part that an event leaves to its fabric is determined by that part and by what is public to it, as
 /// both were before the event.
 pub fn leaves_its_own_by_its_view()
     ensures { LeavesItsOwnByItsView }
-{}
+{
+    writes_touch_their_own();
+    writes_keep_forms();
+    nobody_writes_scoped();
+    stored_places_are_those_of_the_model();
+}
 
-/// An event changes nothing that is another fabric's own.
+/// An event that is no time step changes nothing that is another fabric's own.
 pub fn keeps_the_own()
     ensures { KeepsTheOwn }
 {
@@ -84,6 +104,24 @@ pub fn states_are_valid()
     writes_touch_their_own();
     writes_keep_forms();
     nobody_writes_scoped();
+    what_stays_stands_in_order();
+}
+
+/// A time step lets the fail-safe expire exactly where it is armed and its end has come, and then makes the
+/// rollback of the state; otherwise it sets the time alone. It leaves a fabric that was neither added nor
+/// updated its own part, and what it leaves to any fabric is determined by that part and by what is public.
+pub fn ticks_let_the_failsafe_expire()
+    ensures due { ExpiresWhereDue }
+    ensures otherwise { PassesOtherwise }
+    ensures gone { TakesTheAddedAway }
+    ensures others { TicksSpareOthers }
+    ensures veil { TicksOnTheVeil }
+    ensures mark { TicksSeeTheMarkAlone }
+{
+    what_is_told_the_same_is();
+    set_rows_stand_in_order();
+    set_entries_stand_in_order();
+    what_stays_stands_in_order();
 }
 
 /// What an expiry of the fail-safe leaves of a valid state is valid, and a fabric that was neither added nor
@@ -97,9 +135,32 @@ pub fn expiries_spare_others()
     what_stays_stands_in_order();
 }
 
+/// Each step of commissioning, which is on networks, the fail-safe or the fabric table, leaves a valid state
+/// valid: the limits hold, and the facts of the fail-safe.
+pub fn steps_leave_states_valid()
+    ensures { StepsStayValid }
+{
+    set_rows_stand_in_order();
+    set_entries_stand_in_order();
+    what_stays_stands_in_order();
+    valid_tables_stay_valid();
+    the_index_is_the_least();
+}
+
+/// A step of commissioning changes nothing that is another fabric's own; a fabric that gets new credentials
+/// sees as its own those that it had.
+pub fn steps_spare_others()
+    ensures others { StepsSpareOthers }
+    ensures saves { SavesWhatItHad }
+{
+    set_rows_stand_in_order();
+    set_entries_stand_in_order();
+    what_stays_stands_in_order();
+}
+
 /// An action that makes no step sets the time, and nothing else of the state: no version moves, since none does
-/// where nothing differs. What steps requests make set rows of stored places and access control entries, or tell of
-/// events, so an action ends no session and takes no fabric away.
+/// where nothing differs. The steps that requests make set rows of stored places and access control entries, or tell
+/// of events, and such steps end no session and take no fabric away.
 pub fn actions_set_values()
     ensures time { SetsTheTime }
     ensures settled { StaysSettled }
@@ -122,6 +183,35 @@ pub fn rows_stand_in_order()
     entries_are_in_order();
     fabrics_are_in_order();
 }
+
+/// What steps of commissioning and an expiry make of a bench node, by hand: over PASE a fabric joins and its
+/// session follows; one ms before the end nothing happens, and at the end the fabric is gone with its entry and
+/// its root, Breadcrumb is 0 and a label that was written stands; its index is used again; the fabric for which
+/// commissioning goes on does not leave by a removal, and the owner does; a fabric that was updated has its old
+/// credentials and its new label; no renewal goes past 900 s.
+pub fn samples_join_and_expire()
+    ensures joined { indexes (joined_by 0 plain_pase) ≡ 1 ∷ 2 ∷ 3 ∷ [] }
+    ensures owner { owner_and_context (joined_by 0 plain_pase) ≡ Some (3, 3) }
+    ensures follows { (joined_by 0 plain_pase).plain ≡ Some 3 }
+    ensures session_follows { standings (joined_by 0 session_pase) ≡ Live 1 ∷ Live 2 ∷ Live 3 ∷ [] }
+    ensures not_yet { indexes (ticked 60004 (joined_by 0 plain_pase)) ≡ 1 ∷ 2 ∷ 3 ∷ [] }
+    ensures gone { indexes (ticked 60005 (joined_by 0 plain_pase)) ≡ 1 ∷ 2 ∷ [] }
+    ensures entries { (ticked 60005 (joined_by 0 plain_pase)).entries ≡ bench_entries }
+    ensures roots { (ticked 60005 (joined_by 0 plain_pase)).roots ≡ (0xa1 ∷ []) ∷ (0xa2 ∷ []) ∷ [] }
+    ensures breadcrumb { rows_at breadcrumb (ticked 60005 (joined_by 0 plain_pase)) ≡ number_row breadcrumb 0 ∷ [] }
+    ensures label_stays { rows_at node_label (ticked 60005 (joined_by 0 plain_pase)) ≡ rows_at node_label (joined_by 0 plain_pase) }
+    ensures pase_ends { (ticked 60005 (joined_by 0 plain_pase)).plain ≡ None }
+    ensures session_ends { standings (ticked 60005 (joined_by 0 session_pase)) ≡ Live 1 ∷ Live 2 ∷ Ended ∷ [] }
+    ensures again { indexes joined_again ≡ 1 ∷ 2 ∷ 3 ∷ [] }
+    ensures over_case { owner_and_context (joined_by 1 first_administrator) ≡ Some (1, 3) }
+    ensures owner_leaves { indexes left_by_owner ≡ 2 ∷ 3 ∷ [] }
+    ensures still_armed { owner_and_context left_by_owner ≡ Some (1, 3) }
+    ensures context_stays { after_all (Some plain_pase) (RemoveFabric 3 ∷ []) (joined_by 0 plain_pase) ≡ joined_by 0 plain_pase }
+    ensures updated { nocs updated_node ≡ (0xb9 ∷ []) ∷ (0xb2 ∷ []) ∷ [] }
+    ensures given_back { nocs (ticked 60005 updated_node) ≡ (0xb1 ∷ []) ∷ (0xb2 ∷ []) ∷ [] }
+    ensures new_label { labels (ticked 60005 updated_node) ≡ codes "uno" ∷ codes "two" ∷ [] }
+    ensures limit { end_of renewed_late ≡ Some 900005 }
+{}
 
 /// What a new bench node sends to readers, byte by byte: the data where an entry names the node or a
 /// CAT of its version or an earlier one, a denial where none does, and nothing to a fabric that is not

@@ -15,7 +15,7 @@ use Rattle.mt_model.specs.declared.tables.access.Auth.{Auth}
 use Rattle.mt_model.specs.declared.tables.access.Privilege.{Privilege}
 use Rattle.mt_model.specs.declared.tables.access.Target.{Target}
 use Rattle.mt_model.specs.declared.node.action.NodeStep.{NodeStep}
-use Rattle.mt_model.specs.declared.node.action.NodeStep.TheVariants.{SetRow, SetEntries, PutNetwork, RemoveNetwork, ConnectNetwork, MoveNetwork, Emit}
+use Rattle.mt_model.specs.declared.node.action.NodeStep.TheVariants.{SetRow, SetEntries, PutNetwork, RemoveNetwork, ConnectNetwork, MoveNetwork, Arm, Renew, Expire, Complete, AddRoot, Csr, AddFabric, UpdateFabric, RemoveFabric, Label, Emit}
 use Rattle.mt_model.specs.declared.messages.message.Index.{Index}
 use Rattle.mt_model.specs.declared.messages.message.WriteItem.{WriteItem}
 use Rattle.mt_model.specs.declared.rows.place.Place.{Place}
@@ -315,6 +315,16 @@ module _ (place : Place) (meta : Meta) (there : find_of place ≡ Ok meta) (fabr
   newer-row (RemoveNetwork id) found is before = before
   newer-row (ConnectNetwork id) found is before = before
   newer-row (MoveNetwork id index) found is before = before
+  newer-row (Arm owner seconds) found is before = before
+  newer-row (Renew seconds) found is before = before
+  newer-row Expire found is before = before
+  newer-row Complete found is before = before
+  newer-row (AddRoot cert) found is before = before
+  newer-row (Csr nonce update) found is before = before
+  newer-row (AddFabric joins) found is before = before
+  newer-row (UpdateFabric index given) found is before = before
+  newer-row (RemoveFabric index) found is before = before
+  newer-row (Label index label) found is before = before
   newer-row (Emit place priority fabric value) found is before = before
 
   latest-row : (found : Option (List Value)) (steps : List NodeStep) → list_all is_sound_step steps ≡ true → fine (unwrap_or found stored) → fine (unwrap_or (latest (row_set place fabric) found steps) stored)
@@ -342,6 +352,16 @@ module _ (fabric : ℕ) (stored : List AclEntry) where
   newer-entries (RemoveNetwork id) found is before = before
   newer-entries (ConnectNetwork id) found is before = before
   newer-entries (MoveNetwork id index) found is before = before
+  newer-entries (Arm owner seconds) found is before = before
+  newer-entries (Renew seconds) found is before = before
+  newer-entries Expire found is before = before
+  newer-entries Complete found is before = before
+  newer-entries (AddRoot cert) found is before = before
+  newer-entries (Csr nonce update) found is before = before
+  newer-entries (AddFabric joins) found is before = before
+  newer-entries (UpdateFabric index given) found is before = before
+  newer-entries (RemoveFabric index) found is before = before
+  newer-entries (Label index label) found is before = before
   newer-entries (Emit place priority fabric value) found is before = before
 
   latest-entries : (found : Option (List AclEntry)) (steps : List NodeStep) → list_all is_sound_step steps ≡ true → fine-entries (unwrap_or found stored) → fine-entries (unwrap_or (latest (entries_set fabric) found steps) stored)

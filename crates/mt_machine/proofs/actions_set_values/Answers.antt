@@ -12,8 +12,8 @@ pub returns-clause-settled : goal.returns-clause-settled
 returns-clause-settled c = settled-same c.what_is_told_the_same_is.ensures.rows
 
 pub returns-clause-values : goal.returns-clause-values
-returns-clause-values c = λ s action now valid.
-    setting_steps c.stored_places_are_those_of_the_model.ensures s.fabrics (steps_of s action now) (action_fits c.writes_touch_their_own.ensures c.writes_keep_forms.ensures c.nobody_writes_scoped.ensures s action now valid)
+returns-clause-values c = λ s action now valid sets.
+    setting_steps c.stored_places_are_those_of_the_model.ensures s.fabrics (steps_of s action now) (action_fits c.writes_touch_their_own.ensures c.writes_keep_forms.ensures c.nobody_writes_scoped.ensures s action now valid sets)
 
 pub returns-clause-nothing_ends : goal.returns-clause-nothing_ends
 returns-clause-nothing_ends c = ends_nothing
