@@ -12,7 +12,7 @@ use Rattle.mt_model.specs.rows.Order.{row_at}
 use Rattle.mt_model.specs.rows.Setting.{is_above, is_below, is_other_at}
 use Rattle.mt_model.specs.rows.Sight.{same_place}
 use Rattle.mt_model.specs.declared.node.action.NodeStep.{NodeStep}
-use Rattle.mt_model.specs.declared.node.action.NodeStep.TheVariants.{SetRow, SetEntries, PutNetwork, RemoveNetwork, ConnectNetwork, MoveNetwork, Emit}
+use Rattle.mt_model.specs.declared.node.action.NodeStep.TheVariants.{SetRow, SetEntries, PutNetwork, RemoveNetwork, ConnectNetwork, MoveNetwork, Arm, Renew, Expire, Complete, AddRoot, Csr, AddFabric, UpdateFabric, RemoveFabric, Label, Emit}
 use Rattle.mt_model.specs.declared.rows.place.Place.{Place}
 use Rattle.mt_model.specs.declared.rows.place.Row.{Row}
 use Rattle.mt_node.specs.Plan.{HaveRoom, IsAmple, IsRoomFor, others_in, rows_behind}
@@ -77,6 +77,16 @@ module _ (place : Place) (fabric : ℕ) where
   step_adds (RemoveNetwork id) rows = omega arith
   step_adds (ConnectNetwork id) rows = omega arith
   step_adds (MoveNetwork id index) rows = omega arith
+  step_adds (Arm owner seconds) rows = omega arith
+  step_adds (Renew seconds) rows = omega arith
+  step_adds Expire rows = omega arith
+  step_adds Complete rows = omega arith
+  step_adds (AddRoot cert) rows = omega arith
+  step_adds (Csr nonce update) rows = omega arith
+  step_adds (AddFabric joins) rows = omega arith
+  step_adds (UpdateFabric index given) rows = omega arith
+  step_adds (RemoveFabric index) rows = omega arith
+  step_adds (Label index label) rows = omega arith
   step_adds (Emit at-event priority whom value) rows = omega arith
 
 -- Ample rooms.
@@ -110,6 +120,16 @@ module _ (rows : List Row) (all : List NodeStep) where
     room_now (RemoveNetwork id) steps room is ample = tt
     room_now (ConnectNetwork id) steps room is ample = tt
     room_now (MoveNetwork id index) steps room is ample = tt
+    room_now (Arm owner seconds) steps room is ample = tt
+    room_now (Renew seconds) steps room is ample = tt
+    room_now Expire steps room is ample = tt
+    room_now Complete steps room is ample = tt
+    room_now (AddRoot cert) steps room is ample = tt
+    room_now (Csr nonce update) steps room is ample = tt
+    room_now (AddFabric joins) steps room is ample = tt
+    room_now (UpdateFabric index given) steps room is ample = tt
+    room_now (RemoveFabric index) steps room is ample = tt
+    room_now (Label index label) steps room is ample = tt
     room_now (Emit at-event priority whom value) steps room is ample = tt
 
     bound_behind : (step : NodeStep) (place : Place) (fabric : ℕ) → others place fabric (rows_behind step now) ≤ others place fabric rows + sum_by (others_in place fabric) (done ++ step ∷ [])

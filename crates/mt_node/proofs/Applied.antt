@@ -1,5 +1,5 @@
 -- The state behind an outcome, and the room that its steps need.
-use Rattle.std.proofs.Common.{◌≡◌, ℕ, ◌+◌, ◌≤◌, List, [], ◌∷◌, Option, sym, ap, ◌∙◌, subst, map, arith, refl}
+use Rattle.std.proofs.Common.{◌≡◌, ℕ, ◌+◌, ◌≤◌, List, [], ◌∷◌, Option, sym, ◌∙◌, subst, arith, refl}
 use Rattle.std.specs.Global.{Vec}
 use Rattle.std.specs.List.{sum_by}
 use Rattle.mt_model.specs.declared.tables.access.Actor.{Actor}
@@ -7,32 +7,19 @@ use Rattle.mt_model.specs.declared.node.action.NodeStep.{NodeStep}
 use Rattle.mt_model.specs.declared.node.state.NodeState.{NodeState}
 use Rattle.mt_model.specs.declared.rows.place.Place.{Place}
 use Rattle.mt_model.specs.declared.rows.place.Row.{Row}
-use Rattle.mt_machine.specs.Changes.{change_after, changed_at, count_after, next_change, version_after}
+use Rattle.mt_machine.specs.Changes.{changed_at}
 use Rattle.mt_machine.specs.Effects.{after_all}
 use Rattle.mt_machine.specs.Laws.{ChangesNowhere, StaysSettled}
 use Rattle.mt_machine.specs.Step.{after_steps}
 use Rattle.mt_node.specs.Plan.{HaveRoom, needed}
 
-pub applied_is : (asking : Option Actor) (steps : List NodeStep) (places : List Place) (s t u : NodeState) (clock : ℕ) → t ≡ after_all asking steps s
-    → t ≡ record s { rows = t.rows; entries = t.entries }
-    → u ≡ record t { versions = map (version_after places) t.versions; changes = map (change_after places (next_change t.changed)) t.changes; changed = count_after places t.changed }
-    → record u { clock = clock } ≡ record (changed_at places s (after_all asking steps s)) { clock = clock }
-applied_is asking steps places s t u clock made kept settled =
-    let versions : t.versions ≡ s.versions = ap (λ (v : NodeState). v.versions) kept in
-    let changes : t.changes ≡ s.changes = ap (λ (v : NodeState). v.changes) kept in
-    let changed : t.changed ≡ s.changed = ap (λ (v : NodeState). v.changed) kept in
-    ap (λ (v : NodeState). record v { clock = clock })
-    (settled
-    ∙ (λ i. record t { versions = map (version_after places) (versions i); changes = map (change_after places (next_change (changed i))) (changes i); changed = count_after places (changed i) })
-    ∙ ap (changed_at places s) made)
-
 -- where no step is made, nothing differs
-pub none_made : StaysSettled → ChangesNowhere → (asking : Option Actor) (steps : List NodeStep) (places : List Place) (s : NodeState) (clock : ℕ) → steps ≡ [] → places ≡ []
-    → record (changed_at places s (after_all asking steps s)) { clock = clock } ≡ record (after_steps asking steps s) { clock = clock }
-none_made settled unchanged asking steps places s clock none nowhere =
-    (λ i. record (changed_at (nowhere i) s (after_all asking (none i) s)) { clock = clock })
-    ∙ ap (λ (v : NodeState). record v { clock = clock }) (unchanged s ∙ sym (settled s))
-    ∙ (λ i. record (after_steps asking (sym none i) s) { clock = clock })
+pub none_made : StaysSettled → ChangesNowhere → (asking : Option Actor) (steps : List NodeStep) (places : List Place) (s : NodeState) → steps ≡ [] → places ≡ []
+    → changed_at places s (after_all asking steps s) ≡ after_steps asking steps s
+none_made settled unchanged asking steps places s none nowhere =
+    (λ i. changed_at (nowhere i) s (after_all asking (none i) s))
+    ∙ unchanged s ∙ sym (settled s)
+    ∙ (λ i. after_steps asking (sym none i) s)
 
 -- Room.
 

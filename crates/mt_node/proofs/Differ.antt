@@ -11,7 +11,6 @@ use Rattle.mt_model.specs.tables.Entries.{entry_value}
 use Rattle.mt_model.specs.declared.tables.access.AclEntry.{AclEntry}
 use Rattle.mt_model.specs.declared.tables.access.Actor.{Actor}
 use Rattle.mt_model.specs.declared.node.action.NodeStep.{NodeStep}
-use Rattle.mt_model.specs.declared.node.action.NodeStep.TheVariants.{SetRow, SetEntries, PutNetwork, RemoveNetwork, ConnectNetwork, MoveNetwork, Emit}
 use Rattle.mt_model.specs.declared.node.state.NodeState.{NodeState}
 use Rattle.mt_model.specs.declared.rows.place.Place.{Place}
 use Rattle.mt_model.specs.declared.rows.place.Row.{Row}
@@ -22,6 +21,7 @@ use Rattle.mt_meta.specs.Stored.{is_stored}
 use Rattle.mt_model.specs.rows.Same.{are_same_rows}
 use Rattle.mt_machine.specs.Changes.{differing, differs}
 use Rattle.mt_machine.specs.Effects.{after, after_all, is_setting_step}
+use Rattle.mt_machine.specs.Settings.{setting_cases}
 use Rattle.mt_machine.specs.State.{parts}
 use Rattle.mt_node.specs.Differences.{differs_by}
 use Rattle.mt_node.proofs.EntriesBehind.{KeepsOtherEntries, ReadsAgain, SetsEntriesInOrder, entries_agree}
@@ -42,13 +42,9 @@ unfolding computed_rows
 computed_entries p place e = rw e refl
 
 parts_step : (asking : Option Actor) (step : NodeStep) (s : NodeState) → is_setting_step step ≡ true → parts (after asking step s) ≡ record (parts s) { entries = (after asking step s).entries }
-parts_step asking (SetRow at fabric values) s setting = refl
-parts_step asking (SetEntries fabric entries) s setting = refl
-parts_step asking (PutNetwork id secret) s setting = absurd (cc)
-parts_step asking (RemoveNetwork id) s setting = absurd (cc)
-parts_step asking (ConnectNetwork id) s setting = absurd (cc)
-parts_step asking (MoveNetwork id index) s setting = absurd (cc)
-parts_step asking (Emit at priority fabric value) s setting = refl
+parts_step asking step s =
+    setting_cases (λ (step : NodeStep). parts (after asking step s) ≡ record (parts s) { entries = (after asking step s).entries })
+    (λ at fabric values stored. refl) (λ fabric entries all. refl) (λ at priority fabric value. refl) step
 
 parts_all : (asking : Option Actor) (steps : List NodeStep) (s : NodeState) → list_all is_setting_step steps ≡ true → parts (after_all asking steps s) ≡ record (parts s) { entries = (after_all asking steps s).entries }
 parts_all asking [] s settings = refl
@@ -65,7 +61,7 @@ module _ (told : ToldSame) (sets : SetsInOrder) (keeps : KeepsOthers) (sets_entr
   after_them = after_all asking steps s
 
   stored_agrees : (place : Place) → is_stored place ≡ true → differs_by s steps place ≡ differs s (after_all asking steps s) place
-  stored_agrees place e = rw e (rows_agree told sets keeps place asking steps s up order)
+  stored_agrees place e = rw e (rows_agree told sets keeps place asking steps s up settings order)
 
   entries_agree_at : (place : Place) → is_stored place ≡ false → is_acl place ≡ true → differs_by s steps place ≡ differs s (after_all asking steps s) place
   entries_agree_at place e acl =

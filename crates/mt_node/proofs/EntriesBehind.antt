@@ -12,13 +12,14 @@ use Rattle.mt_model.specs.texts.Config.{ascend_from}
 use Rattle.mt_model.specs.declared.tables.access.AclEntry.{AclEntry}
 use Rattle.mt_model.specs.declared.tables.access.Actor.{Actor}
 use Rattle.mt_model.specs.declared.node.action.NodeStep.{NodeStep}
-use Rattle.mt_model.specs.declared.node.action.NodeStep.TheVariants.{SetRow, SetEntries, PutNetwork, RemoveNetwork, ConnectNetwork, MoveNetwork, Emit}
+use Rattle.mt_model.specs.declared.node.action.NodeStep.TheVariants.{SetRow, SetEntries, PutNetwork, RemoveNetwork, ConnectNetwork, MoveNetwork, Arm, Renew, Expire, Complete, AddRoot, Csr, AddFabric, UpdateFabric, RemoveFabric, Label, Emit}
 use Rattle.mt_model.specs.declared.node.state.NodeState.{NodeState}
 use Rattle.mt_model.specs.declared.rows.place.Place.{Place}
 use Rattle.mt_model.specs.declared.rows.place.Row.{Row}
 use Rattle.mt_write.specs.Latest.{entries_set, latest, newer}
 use Rattle.mt_model.specs.rows.Same.{are_same_rows}
 use Rattle.mt_machine.specs.Effects.{after, after_all, is_setting_step}
+use Rattle.mt_machine.specs.Settings.{setting_cases}
 use Rattle.mt_node.specs.Differences.{are_same_entries, entries_stand, has_other_entries, list_of_entries, sets_other_entries}
 use Rattle.mt_node.proofs.Filters.{filter_all, filter_none, filter_through, filter_without}
 use Rattle.mt_node.proofs.RowsBehind.{rows_are_own}
@@ -115,26 +116,18 @@ module _ (fabric : ℕ) where
 
   behind_step : KeepsOtherEntries → (asking : Option Actor) (step : NodeStep) (s : NodeState) → ascend_from 0 s.entries ≡ true → is_setting_step step ≡ true
       → own_entries fabric (after asking step s).entries ≡ unwrap_or (entries_set fabric step) (own_entries fabric s.entries)
-  behind_step keeps asking (SetRow at whose values) s up setting = refl
-  behind_step keeps asking (SetEntries whose new) s up setting = behind_entries keeps whose new s.entries up setting (whose == fabric) refl
-  behind_step keeps asking (PutNetwork id secret) s up setting = refl
-  behind_step keeps asking (RemoveNetwork id) s up setting = refl
-  behind_step keeps asking (ConnectNetwork id) s up setting = refl
-  behind_step keeps asking (MoveNetwork id index) s up setting = refl
-  behind_step keeps asking (Emit at-event priority whom value) s up setting = refl
+  behind_step keeps asking step s up =
+      setting_cases (λ (step : NodeStep). own_entries fabric (after asking step s).entries ≡ unwrap_or (entries_set fabric step) (own_entries fabric s.entries))
+      (λ at whose values stored. refl) (λ whose new all. behind_entries keeps whose new s.entries up all (whose == fabric) refl) (λ at-event priority whom value. refl) step
 
   newer_is : (set found : Option (List AclEntry)) (behind before stored : List AclEntry) → behind ≡ unwrap_or set before → before ≡ unwrap_or found stored → behind ≡ unwrap_or (newer set found) stored
   newer_is (Some new) found behind before stored a b = a
   newer_is None found behind before stored a b = a ∙ b
 
 up_step : SetsEntriesInOrder → (asking : Option Actor) (step : NodeStep) (s : NodeState) → ascend_from 0 s.entries ≡ true → is_setting_step step ≡ true → ascend_from 0 (after asking step s).entries ≡ true
-up_step sets asking (SetRow at whose values) s up setting = up
-up_step sets asking (SetEntries whose new) s up setting = sets s.entries new 0 whose (omega arith) up setting
-up_step sets asking (PutNetwork id secret) s up setting = up
-up_step sets asking (RemoveNetwork id) s up setting = up
-up_step sets asking (ConnectNetwork id) s up setting = up
-up_step sets asking (MoveNetwork id index) s up setting = up
-up_step sets asking (Emit at-event priority whom value) s up setting = up
+up_step sets asking step s up =
+    setting_cases (λ (step : NodeStep). ascend_from 0 (after asking step s).entries ≡ true)
+    (λ at whose values stored. up) (λ whose new all. sets s.entries new 0 whose (omega arith) up all) (λ at-event priority whom value. up) step
 
 pub up_all : SetsEntriesInOrder → (asking : Option Actor) (steps : List NodeStep) (s : NodeState) → ascend_from 0 s.entries ≡ true → list_all is_setting_step steps ≡ true → ascend_from 0 (after_all asking steps s).entries ≡ true
 up_all sets asking [] s up settings = up
@@ -178,6 +171,16 @@ module _ (told : ToldSame) (sets : SetsEntriesInOrder) (keeps : KeepsOtherEntrie
     some_moves (RemoveNetwork id ∷ some) any same = some_moves some any same
     some_moves (ConnectNetwork id ∷ some) any same = some_moves some any same
     some_moves (MoveNetwork id index ∷ some) any same = some_moves some any same
+    some_moves (Arm owner seconds ∷ some) any same = some_moves some any same
+    some_moves (Renew seconds ∷ some) any same = some_moves some any same
+    some_moves (Expire ∷ some) any same = some_moves some any same
+    some_moves (Complete ∷ some) any same = some_moves some any same
+    some_moves (AddRoot cert ∷ some) any same = some_moves some any same
+    some_moves (Csr nonce update ∷ some) any same = some_moves some any same
+    some_moves (AddFabric joins ∷ some) any same = some_moves some any same
+    some_moves (UpdateFabric index given ∷ some) any same = some_moves some any same
+    some_moves (RemoveFabric index ∷ some) any same = some_moves some any same
+    some_moves (Label index label ∷ some) any same = some_moves some any same
     some_moves (Emit at-event priority whom value ∷ some) any same = some_moves some any same
 
     -- either what stands is what the steps set, or these steps set nothing of the fabric
@@ -203,6 +206,16 @@ module _ (told : ToldSame) (sets : SetsEntriesInOrder) (keeps : KeepsOtherEntrie
     none_moves fabric (RemoveNetwork id ∷ some) none = passed fabric (RemoveNetwork id) some refl (none_moves fabric some none)
     none_moves fabric (ConnectNetwork id ∷ some) none = passed fabric (ConnectNetwork id) some refl (none_moves fabric some none)
     none_moves fabric (MoveNetwork id index ∷ some) none = passed fabric (MoveNetwork id index) some refl (none_moves fabric some none)
+    none_moves fabric (Arm owner seconds ∷ some) none = passed fabric (Arm owner seconds) some refl (none_moves fabric some none)
+    none_moves fabric (Renew seconds ∷ some) none = passed fabric (Renew seconds) some refl (none_moves fabric some none)
+    none_moves fabric (Expire ∷ some) none = passed fabric Expire some refl (none_moves fabric some none)
+    none_moves fabric (Complete ∷ some) none = passed fabric Complete some refl (none_moves fabric some none)
+    none_moves fabric (AddRoot cert ∷ some) none = passed fabric (AddRoot cert) some refl (none_moves fabric some none)
+    none_moves fabric (Csr nonce update ∷ some) none = passed fabric (Csr nonce update) some refl (none_moves fabric some none)
+    none_moves fabric (AddFabric joins ∷ some) none = passed fabric (AddFabric joins) some refl (none_moves fabric some none)
+    none_moves fabric (UpdateFabric index given ∷ some) none = passed fabric (UpdateFabric index given) some refl (none_moves fabric some none)
+    none_moves fabric (RemoveFabric index ∷ some) none = passed fabric (RemoveFabric index) some refl (none_moves fabric some none)
+    none_moves fabric (Label index label ∷ some) none = passed fabric (Label index label) some refl (none_moves fabric some none)
     none_moves fabric (Emit at-event priority whom value ∷ some) none = passed fabric (Emit at-event priority whom value) some refl (none_moves fabric some none)
 
     own_stays : (fabric : ℕ) → StaysOf fabric steps → own_entries fabric (after_all asking steps s).entries ≡ own_entries fabric s.entries

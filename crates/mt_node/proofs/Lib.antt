@@ -1,9 +1,12 @@
 pub mod Ample
 pub mod Applied
 pub mod Observed
+pub mod Closed
 pub mod Differ
 pub mod EntriesBehind
+pub mod Expiring
 pub mod Filters
+pub mod Given
 pub mod Orderly
 pub mod Plans
 pub mod RowsBehind

@@ -1,5 +1,5 @@
 -- The outcome of an answer is the plan of the action that it answers.
-use Rattle.std.proofs.Common.{◌≡◌, ℕ, Bool, true, List, [], Option, None, Result, Ok, Err, IfOk, ap, sym, ◌∙◌, subst}
+use Rattle.std.proofs.Common.{◌≡◌, ℕ, Bool, true, List, [], Option, None, Some, Result, Ok, Err, IfOk, ap, sym, ◌∙◌, subst}
 use Rattle.std.specs.List.{list_all}
 use Rattle.std.specs.Option.{option_and_then}
 use Rattle.mt_model.specs.declared.tables.access.Actor.{Actor}
@@ -12,11 +12,15 @@ use Rattle.mt_model.specs.declared.node.state.NodeState.{NodeState}
 use Rattle.mt_machine.specs.Effects.{is_setting_step}
 use Rattle.mt_machine.specs.Laws.{EndsNothing}
 use Rattle.mt_machine.specs.Observation.{observation}
-use Rattle.mt_machine.specs.Step.{after_steps, asked_reply, asked_steps, asker, asker_of, closed_between, gone_between, reply_of, reply_to, steps_of, steps_to}
+use Rattle.mt_machine.specs.Step.{after_steps, asked_reply, asked_steps, asker, asker_of, at_time, closed_between, gone_between, reply_of, reply_to, steps_of, steps_to}
 use Rattle.mt_node.specs.Answered.{IsAnswer}
-use Rattle.mt_node.specs.Plan.{IsMade, IsPlan}
+use Rattle.mt_node.specs.Plan.{HasRoom, IsMade, IsPlan, IsReadyAs, applied_as}
 use Rattle.mt_model.specs.declared.node.action.Effect.{Effect}
 use Rattle.mt_node.specs.declared.outcome.Outcome.{Outcome}
+
+ready_as : (behind : Option NodeState) (s : NodeState) (outcome : Outcome) → behind ≡ None → list_all is_setting_step outcome.steps ≡ true → HasRoom s outcome → IsReadyAs behind s outcome
+ready_as None s outcome none settings room = (settings, room)
+ready_as (Some behind) s outcome none settings room = tt
 
 pub plan_of : EndsNothing → (s : NodeState) (action : Action) (now : ℕ) (asking : Option Actor) (answered : Effect) (outcome : Outcome)
     → list_all is_setting_step (steps_of s action now) ≡ true → asking ≡ asker_of s action
@@ -24,10 +28,10 @@ pub plan_of : EndsNothing → (s : NodeState) (action : Action) (now : ℕ) (ask
     → IsMade s asking answered now outcome → IsPlan s action now outcome
 plan_of nothing s action now asking answered outcome settings asks replies steps made = record {
   reply = made.reply ∙ replies;
-  aside = made.aside ∙ (λ i. record { session = option_and_then (λ (actor : Actor). actor.session) (asks i); closed = []; gone = None }) ∙ sym (nothing s action now);
-  steps = made.steps ∙ steps;
-  state = made.state (subst (λ (l : List NodeStep). list_all is_setting_step l ≡ true) (sym steps) settings) ∙ (λ i. record (after_steps (asks i) (steps i) s) { clock = now });
-  room = made.room;
+  aside = made.aside ∙ (λ i. record { session = option_and_then (λ (actor : Actor). actor.session) (asks i); closed = []; gone = None }) ∙ sym (nothing s action now settings);
+  state = ap (λ (behind : Option NodeState). applied_as behind outcome s) made.behind
+      ∙ made.state (subst (λ (l : List NodeStep). list_all is_setting_step l ≡ true) (sym steps) settings) ∙ (λ i. after_steps (asks i) (steps i) (at_time now s));
+  ready = ready_as outcome.behind s outcome made.behind (subst (λ (l : List NodeStep). list_all is_setting_step l ≡ true) (sym (made.steps ∙ steps)) settings) made.room;
 }
 
 -- where nobody is taken as asking, nothing is asked
@@ -36,11 +40,10 @@ pub nobody_asks : (s : NodeState) (actor : Actor) (request : Request) (timed : O
 nobody_asks s actor request timed now outcome nobody planned = record {
   reply = planned.reply ∙ (λ i. asked_reply s request timed now (sym nobody i));
   aside = planned.aside ∙ (λ i.
-      let t : NodeState = record (after_steps (sym nobody i) (asked_steps s request timed now (sym nobody i)) s) { clock = now } in
+      let t : NodeState = after_steps (sym nobody i) (asked_steps s request timed now (sym nobody i)) (at_time now s) in
       record { session = option_and_then (λ (a : Actor). a.session) (sym nobody i); closed = closed_between s.sessions t.sessions; gone = gone_between s.fabrics t.fabrics });
-  steps = planned.steps ∙ (λ i. asked_steps s request timed now (sym nobody i));
-  state = planned.state ∙ (λ i. record (after_steps (sym nobody i) (asked_steps s request timed now (sym nobody i)) s) { clock = now });
-  room = planned.room;
+  state = planned.state ∙ (λ i. after_steps (sym nobody i) (asked_steps s request timed now (sym nobody i)) (at_time now s));
+  ready = planned.ready;
 }
 
 pub if_ok : {A E : Type 0} (P Q : A → Type 0) (result : Result A E) → ((a : A) → P a → Q a) → IfOk result P → IfOk result Q

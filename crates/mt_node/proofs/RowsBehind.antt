@@ -10,13 +10,14 @@ use Rattle.mt_model.specs.rows.Setting.{is_above, is_at, is_below, with_rows}
 use Rattle.mt_model.specs.rows.Sight.{same_place, stands_at}
 use Rattle.mt_model.specs.declared.tables.access.Actor.{Actor}
 use Rattle.mt_model.specs.declared.node.action.NodeStep.{NodeStep}
-use Rattle.mt_model.specs.declared.node.action.NodeStep.TheVariants.{SetRow, SetEntries, PutNetwork, RemoveNetwork, ConnectNetwork, MoveNetwork, Emit}
+use Rattle.mt_model.specs.declared.node.action.NodeStep.TheVariants.{SetRow, SetEntries, PutNetwork, RemoveNetwork, ConnectNetwork, MoveNetwork, Arm, Renew, Expire, Complete, AddRoot, Csr, AddFabric, UpdateFabric, RemoveFabric, Label, Emit}
 use Rattle.mt_model.specs.declared.node.state.NodeState.{NodeState}
 use Rattle.mt_model.specs.declared.rows.place.Place.{Place}
 use Rattle.mt_model.specs.declared.rows.place.Row.{Row}
 use Rattle.mt_write.specs.Latest.{latest, newer, row_set}
 use Rattle.mt_model.specs.rows.Same.{are_same_rows}
-use Rattle.mt_machine.specs.Effects.{after, after_all}
+use Rattle.mt_machine.specs.Effects.{after, after_all, is_setting_step}
+use Rattle.mt_machine.specs.Settings.{setting_cases}
 use Rattle.mt_node.specs.Differences.{rows_stand, sets_other_rows}
 use Rattle.mt_node.proofs.Filters.{filter_all, filter_and, filter_none, filter_through, filter_within, filter_without}
 use Rattle.mt_node.proofs.Same.{ToldSame, differ_rows, rows_differ, rows_same, same_rows}
@@ -168,51 +169,45 @@ module _ (place : Place) (fabric : ℕ) where
       (λ i. filter (is_at place fabric) (with_rows (is i) (whose_is i) values rows)) ∙ set_here values rows
   behind_row keeps at whose values rows up false e = set_elsewhere keeps at whose values rows up e
 
-  behind_step : KeepsOthers → (asking : Option Actor) (step : NodeStep) (s : NodeState) → IsTrue (are_ascending s.rows)
+  behind_step : KeepsOthers → (asking : Option Actor) (step : NodeStep) (s : NodeState) → IsTrue (are_ascending s.rows) → is_setting_step step ≡ true
       → filter (is_at place fabric) (after asking step s).rows ≡ or_stored (row_set place fabric step) (filter (is_at place fabric) s.rows)
-  behind_step keeps asking (SetRow at whose values) s up = behind_row keeps at whose values s.rows up (same_place at place && (whose == fabric)) refl
-  behind_step keeps asking (SetEntries whose entries) s up = refl
-  behind_step keeps asking (PutNetwork id secret) s up = refl
-  behind_step keeps asking (RemoveNetwork id) s up = refl
-  behind_step keeps asking (ConnectNetwork id) s up = refl
-  behind_step keeps asking (MoveNetwork id index) s up = refl
-  behind_step keeps asking (Emit at-event priority whom value) s up = refl
+  behind_step keeps asking step s up =
+      setting_cases (λ (step : NodeStep). filter (is_at place fabric) (after asking step s).rows ≡ or_stored (row_set place fabric step) (filter (is_at place fabric) s.rows))
+      (λ at whose values stored. behind_row keeps at whose values s.rows up (same_place at place && (whose == fabric)) refl) (λ whose entries all. refl) (λ at-event priority whom value. refl) step
 
   newer_is : (set found : Option (List Value)) (behind before stored : List Row) → behind ≡ or_stored set before → before ≡ or_stored found stored → behind ≡ or_stored (newer set found) stored
   newer_is (Some values) found behind before stored a b = a
   newer_is None found behind before stored a b = a ∙ b
 
-up_step : SetsInOrder → (asking : Option Actor) (step : NodeStep) (s : NodeState) → IsTrue (are_ascending s.rows) → IsTrue (are_ascending (after asking step s).rows)
-up_step sets asking (SetRow at whose values) s up = sets s.rows at whose values up
-up_step sets asking (SetEntries whose entries) s up = up
-up_step sets asking (PutNetwork id secret) s up = up
-up_step sets asking (RemoveNetwork id) s up = up
-up_step sets asking (ConnectNetwork id) s up = up
-up_step sets asking (MoveNetwork id index) s up = up
-up_step sets asking (Emit at-event priority whom value) s up = up
+up_step : SetsInOrder → (asking : Option Actor) (step : NodeStep) (s : NodeState) → IsTrue (are_ascending s.rows) → is_setting_step step ≡ true → IsTrue (are_ascending (after asking step s).rows)
+up_step sets asking step s up =
+    setting_cases (λ (step : NodeStep). IsTrue (are_ascending (after asking step s).rows)) (λ at whose values stored. sets s.rows at whose values up) (λ whose entries all. up) (λ at-event priority whom value. up) step
 
-pub up_all : SetsInOrder → (asking : Option Actor) (steps : List NodeStep) (s : NodeState) → IsTrue (are_ascending s.rows) → IsTrue (are_ascending (after_all asking steps s).rows)
-up_all sets asking [] s up = up
-up_all sets asking (step ∷ steps) s up = up_all sets asking steps (after asking step s) (up_step sets asking step s up)
+pub up_all : SetsInOrder → (asking : Option Actor) (steps : List NodeStep) (s : NodeState) → IsTrue (are_ascending s.rows) → list_all is_setting_step steps ≡ true → IsTrue (are_ascending (after_all asking steps s).rows)
+up_all sets asking [] s up settings = up
+up_all sets asking (step ∷ steps) s up settings =
+    let both = and_parts (is_setting_step step) (list_all is_setting_step steps) settings in
+    up_all sets asking steps (after asking step s) (up_step sets asking step s up both.0) both.1
 
 module _ (told : ToldSame) (sets : SetsInOrder) (keeps : KeepsOthers) (place : Place) where
-  behind_all : (fabric : ℕ) (asking : Option Actor) (steps : List NodeStep) (s : NodeState) (found : Option (List Value)) (stored : List Row) → IsTrue (are_ascending s.rows)
+  behind_all : (fabric : ℕ) (asking : Option Actor) (steps : List NodeStep) (s : NodeState) (found : Option (List Value)) (stored : List Row) → IsTrue (are_ascending s.rows) → list_all is_setting_step steps ≡ true
       → filter (is_at place fabric) s.rows ≡ or_stored place fabric found stored
       → filter (is_at place fabric) (after_all asking steps s).rows ≡ or_stored place fabric (latest (row_set place fabric) found steps) stored
-  behind_all fabric asking [] s found stored up e = e
-  behind_all fabric asking (step ∷ steps) s found stored up e =
-      behind_all fabric asking steps (after asking step s) (newer (row_set place fabric step) found) stored (up_step sets asking step s up)
-      (newer_is place fabric (row_set place fabric step) found (filter (is_at place fabric) (after asking step s).rows) (filter (is_at place fabric) s.rows) stored (behind_step place fabric keeps asking step s up) e)
+  behind_all fabric asking [] s found stored up settings e = e
+  behind_all fabric asking (step ∷ steps) s found stored up settings e =
+      let both = and_parts (is_setting_step step) (list_all is_setting_step steps) settings in
+      behind_all fabric asking steps (after asking step s) (newer (row_set place fabric step) found) stored (up_step sets asking step s up both.0) both.1
+      (newer_is place fabric (row_set place fabric step) found (filter (is_at place fabric) (after asking step s).rows) (filter (is_at place fabric) s.rows) stored (behind_step place fabric keeps asking step s up both.0) e)
 
   own_at : (fabric : ℕ) (rows : List Row) → filter (is_own fabric) (filter (stands_at place) rows) ≡ filter (is_at place fabric) rows
   own_at fabric rows = filter_and (is_own fabric) (stands_at place) rows
 
-  module _ (asking : Option Actor) (steps : List NodeStep) (s : NodeState) (up : IsTrue (are_ascending s.rows)) where
+  module _ (asking : Option Actor) (steps : List NodeStep) (s : NodeState) (up : IsTrue (are_ascending s.rows)) (settings : list_all is_setting_step steps ≡ true) where
     latest_rows : (fabric : ℕ) → Option (List Value)
     latest_rows fabric = latest (row_set place fabric) None steps
 
     behind : (fabric : ℕ) → filter (is_at place fabric) (after_all asking steps s).rows ≡ or_stored place fabric (latest (row_set place fabric) None steps) (filter (is_at place fabric) s.rows)
-    behind fabric = behind_all fabric asking steps s None (filter (is_at place fabric) s.rows) up refl
+    behind fabric = behind_all fabric asking steps s None (filter (is_at place fabric) s.rows) up settings refl
 
     -- where what the steps set stands already, nothing differs, and otherwise something does
     stays : (fabric : ℕ) (set : Option (List Value)) (before after : List Row) → rows_stand place fabric before set ≡ true → after ≡ or_stored place fabric set before → after ≡ before
@@ -238,6 +233,16 @@ module _ (told : ToldSame) (sets : SetsInOrder) (keeps : KeepsOthers) (place : P
     some_moves (RemoveNetwork id ∷ some) any same = some_moves some any same
     some_moves (ConnectNetwork id ∷ some) any same = some_moves some any same
     some_moves (MoveNetwork id index ∷ some) any same = some_moves some any same
+    some_moves (Arm owner seconds ∷ some) any same = some_moves some any same
+    some_moves (Renew seconds ∷ some) any same = some_moves some any same
+    some_moves (Expire ∷ some) any same = some_moves some any same
+    some_moves (Complete ∷ some) any same = some_moves some any same
+    some_moves (AddRoot cert ∷ some) any same = some_moves some any same
+    some_moves (Csr nonce update ∷ some) any same = some_moves some any same
+    some_moves (AddFabric joins ∷ some) any same = some_moves some any same
+    some_moves (UpdateFabric index given ∷ some) any same = some_moves some any same
+    some_moves (RemoveFabric index ∷ some) any same = some_moves some any same
+    some_moves (Label index label ∷ some) any same = some_moves some any same
     some_moves (Emit at-event priority whom value ∷ some) any same = some_moves some any same
 
     -- either what stands is what the steps set, or these steps set nothing of the fabric there
@@ -266,6 +271,16 @@ module _ (told : ToldSame) (sets : SetsInOrder) (keeps : KeepsOthers) (place : P
     none_moves fabric (RemoveNetwork id ∷ some) none = passed fabric (RemoveNetwork id) some refl (none_moves fabric some none)
     none_moves fabric (ConnectNetwork id ∷ some) none = passed fabric (ConnectNetwork id) some refl (none_moves fabric some none)
     none_moves fabric (MoveNetwork id index ∷ some) none = passed fabric (MoveNetwork id index) some refl (none_moves fabric some none)
+    none_moves fabric (Arm owner seconds ∷ some) none = passed fabric (Arm owner seconds) some refl (none_moves fabric some none)
+    none_moves fabric (Renew seconds ∷ some) none = passed fabric (Renew seconds) some refl (none_moves fabric some none)
+    none_moves fabric (Expire ∷ some) none = passed fabric Expire some refl (none_moves fabric some none)
+    none_moves fabric (Complete ∷ some) none = passed fabric Complete some refl (none_moves fabric some none)
+    none_moves fabric (AddRoot cert ∷ some) none = passed fabric (AddRoot cert) some refl (none_moves fabric some none)
+    none_moves fabric (Csr nonce update ∷ some) none = passed fabric (Csr nonce update) some refl (none_moves fabric some none)
+    none_moves fabric (AddFabric joins ∷ some) none = passed fabric (AddFabric joins) some refl (none_moves fabric some none)
+    none_moves fabric (UpdateFabric index given ∷ some) none = passed fabric (UpdateFabric index given) some refl (none_moves fabric some none)
+    none_moves fabric (RemoveFabric index ∷ some) none = passed fabric (RemoveFabric index) some refl (none_moves fabric some none)
+    none_moves fabric (Label index label ∷ some) none = passed fabric (Label index label) some refl (none_moves fabric some none)
     none_moves fabric (Emit at-event priority whom value ∷ some) none = passed fabric (Emit at-event priority whom value) some refl (none_moves fabric some none)
 
     own_stays : (fabric : ℕ) → StaysOf fabric steps → filter (is_at place fabric) (after_all asking steps s).rows ≡ filter (is_at place fabric) s.rows
@@ -277,7 +292,7 @@ module _ (told : ToldSame) (sets : SetsInOrder) (keeps : KeepsOthers) (place : P
       all_stay : list_any (sets_other_rows s.rows steps place) steps ≡ false → filter (stands_at place) s.rows ≡ filter (stands_at place) (after_all asking steps s).rows
       all_stay none =
           rows_are_own (filter (stands_at place) s.rows) (filter (stands_at place) (after_all asking steps s).rows)
-          (λ n. order s.rows place n up) (λ n. order (after_all asking steps s).rows place n (up_all sets asking steps s up))
+          (λ n. order s.rows place n up) (λ n. order (after_all asking steps s).rows place n (up_all sets asking steps s up settings))
           (λ n. own_at n s.rows ∙ sym (own_stays n (none_moves n steps none)) ∙ sym (own_at n (after_all asking steps s).rows))
 
       agree : (any : Bool) → list_any (sets_other_rows s.rows steps place) steps ≡ any → any ≡ not (are_same_rows (filter (stands_at place) s.rows) (filter (stands_at place) (after_all asking steps s).rows))

@@ -1,5 +1,6 @@
 pub mod Answered
 pub mod Differences
+pub mod Expired
 pub mod Kept
 pub mod Plan
 pub mod Sessions

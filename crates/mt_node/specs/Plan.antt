@@ -16,13 +16,22 @@ use Rattle.mt_model.specs.declared.messages.message.Request.{Request}
 use Rattle.mt_model.specs.declared.node.state.NodeState.{NodeState}
 use Rattle.mt_machine.specs.Changes.{changed_at}
 use Rattle.mt_machine.specs.Effects.{after_all, is_setting_step}
-use Rattle.mt_machine.specs.Step.{Aside, after_action, after_steps, aside_of, asker, reply_of, steps_of}
+use Rattle.mt_machine.specs.Step.{Aside, after_action, after_steps, aside_of, asker, at_time, reply_of}
 use Rattle.mt_model.specs.declared.node.action.Effect.{Effect}
 use Rattle.mt_node.specs.declared.outcome.Outcome.{Outcome}
 
--- the state behind an outcome: its steps are made, versions and change numbers follow from where attributes differ, and it is its time
+-- The state behind an outcome. One that brings a state puts it in place; for another it is its time, its steps are made, and versions and
+-- change numbers follow from where attributes differ.
+
+abbrev pub made_by : Outcome → NodeState → NodeState
+made_by outcome s = changed_at outcome.places s (after_all outcome.asking outcome.steps s)
+
+abbrev pub applied_as : Option NodeState → Outcome → NodeState → NodeState
+applied_as None outcome s = made_by outcome (at_time outcome.clock s)
+applied_as (Some behind) outcome s = behind
+
 abbrev pub applied : Outcome → NodeState → NodeState
-applied outcome s = record (changed_at outcome.places s (after_all outcome.asking outcome.steps s)) { clock = outcome.clock }
+applied outcome s = applied_as outcome.behind outcome s
 
 -- on whose session it was asked, which sessions end, which fabric goes
 abbrev pub aside_in : Outcome → Aside
@@ -74,21 +83,30 @@ pub record HasRoom (s : NodeState) (outcome : Outcome) : Type 0 where
   pub no_entries : outcome.entries_room.items ≡ []
   pub entries : needed entries_in (length s.entries) outcome.steps ≤ vec_capacity outcome.entries_room
 
--- The outcome is that of an answer to whoever is taken as asking, at this time.
+-- An outcome that brings no state makes steps that set rows and entries, in the room that it brings.
+
+abbrev pub IsReadyAs : Option NodeState → NodeState → Outcome → Type 0
+IsReadyAs None s outcome = (list_all is_setting_step outcome.steps ≡ true) × HasRoom s outcome
+IsReadyAs (Some behind) s outcome = ⊤
+
+abbrev pub IsReady : NodeState → Outcome → Type 0
+IsReady s outcome = IsReadyAs outcome.behind s outcome
+
+-- The outcome is that of an answer to whoever is taken as asking, at this time, whose steps it makes.
 pub record IsMade (s : NodeState) (asking : Option Actor) (answered : Effect) (now : ℕ) (outcome : Outcome) : Type 0 where
   pub reply : outcome.reply ≡ answered.reply
   pub aside : aside_in outcome ≡ record { session = option_and_then (λ (actor : Actor). actor.session) asking; closed = []; gone = None }
   pub steps : outcome.steps ≡ answered.steps
-  pub state : list_all is_setting_step answered.steps ≡ true → applied outcome s ≡ record (after_steps asking answered.steps s) { clock = now }
+  pub behind : outcome.behind ≡ None
+  pub state : list_all is_setting_step answered.steps ≡ true → made_by outcome (at_time outcome.clock s) ≡ after_steps asking answered.steps (at_time now s)
   pub room : HasRoom s outcome
 
 -- The outcome is that of this action at this time.
 pub record IsPlan (s : NodeState) (action : Action) (now : ℕ) (outcome : Outcome) : Type 0 where
   pub reply : outcome.reply ≡ reply_of s action now
   pub aside : aside_in outcome ≡ aside_of s action now
-  pub steps : outcome.steps ≡ steps_of s action now
   pub state : applied outcome s ≡ after_action s action now
-  pub room : HasRoom s outcome
+  pub ready : IsReady s outcome
 
 -- the outcome was made on this state
 abbrev pub IsPlanned : NodeState → Outcome → Type 0

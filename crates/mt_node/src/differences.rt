@@ -1,7 +1,7 @@
 //! Which attributes differ behind the steps of an answer. The state before them and the steps tell it, so that
 //! nothing of the state is copied.
 
-ghost use Rattle.std.specs.Prelude.{◌≡◌, ◌↔◌, ◌&&◌, true, IfOk, IsTrue, Option, filter, map, option_map};
+ghost use Rattle.std.specs.Prelude.{◌≡◌, ◌↔◌, ◌&&◌, ℕ, true, IfOk, IsTrue, Option, filter, map, option_map};
 ghost use Rattle.std.specs.List.{list_all, list_any};
 ghost use Rattle.mt_model.specs.rows.Setting.{is_at};
 ghost use Rattle.mt_model.specs.rows.Seen.{own_entries};
@@ -12,6 +12,7 @@ ghost use Rattle.mt_meta.specs.Places.{all_places};
 ghost use Rattle.mt_machine.specs.Changes.{differing};
 ghost use Rattle.mt_machine.specs.Effects.{after_all, is_setting_step};
 ghost use Rattle.mt_machine.specs.State.{IsValid};
+ghost use Rattle.mt_machine.specs.Step.{at_time};
 ghost use Rattle.mt_node.specs.Differences.{differs_by, differs_with, entries_stand, has_other_entries, rows_stand, sets_other_entries, sets_other_rows};
 
 use crate::node::Node;
@@ -32,7 +33,7 @@ pub(crate) fn differing(
     node: &Node,
     steps: &[NodeStep],
 ) -> Result<Places, AllocError>
-    ensures { (asking : Option Actor) → list_all is_setting_step steps.now ≡ true → IfOk result (λ places. places ≡ differing node.now.state (after_all asking steps.now node.now.state)) }
+    ensures { (asking : Option Actor) (now : ℕ) → list_all is_setting_step steps.now ≡ true → IfOk result (λ places. places ≡ differing (at_time now node.now.state) (after_all asking steps.now (at_time now node.now.state))) }
 {
     set_rows_stand_in_order();
     set_entries_stand_in_order();

@@ -10,7 +10,7 @@ ghost use Rattle.mt_model.specs.declared.tables.access.Actor.{Actor};
 ghost use Rattle.mt_model.specs.declared.node.state.NodeState.{NodeState};
 ghost use Rattle.mt_machine.specs.Changes.{change_after, count_after, is_within, next_change, version_after};
 ghost use Rattle.mt_machine.specs.Effects.{after, after_all, is_setting_step};
-ghost use Rattle.mt_node.specs.Plan.{HasRoom, HaveRoom, IsMade, IsRoomFor, applied, entries_in, needed, rows_behind};
+ghost use Rattle.mt_node.specs.Plan.{HaveRoom, IsMade, IsReady, IsRoomFor, applied, entries_in, needed, rows_behind};
 
 use crate::differences::differing;
 use crate::node::Node;
@@ -50,6 +50,7 @@ pub(crate) fn outcome(
         closed: SessionIds::new(alloc),
         gone: None,
         asking,
+        behind: None,
         steps: answered.steps,
         places,
         rows_rooms,
@@ -70,6 +71,7 @@ pub(crate) fn unchanged(alloc: Global, asking: Option<Actor>, answered: Effect, 
         closed: SessionIds::new(alloc),
         gone: None,
         asking,
+        behind: None,
         steps: answered.steps,
         places: Places::new(alloc),
         rows_rooms: Vec::new(alloc),
@@ -78,7 +80,7 @@ pub(crate) fn unchanged(alloc: Global, asking: Option<Actor>, answered: Effect, 
     }
 }
 
-fn session_of(asking: Option<Actor>) -> Option<u16>
+pub(crate) fn session_of(asking: Option<Actor>) -> Option<u16>
     ensures { result ≡ option_and_then (λ (actor : Actor). actor.session) asking }
 {
     match asking {
@@ -109,12 +111,12 @@ fn entries_in(step: &NodeStep) -> usize
 
 /// Makes of the state what an outcome makes of it. It takes no memory, and cannot fail.
 pub(crate) fn apply(alloc: Global, state: &mut NodeState, outcome: Outcome)
-    requires steps { list_all is_setting_step outcome.steps ≡ true }
-    requires room { HasRoom state.old outcome }
+    requires ready { IsReady state.old outcome }
     requires ascending { IsTrue (ascend_from 0 state.old.entries) }
     ensures { state.new ≡ applied outcome state.old }
 {
     let Outcome {
+        behind,
         steps,
         places,
         rows_rooms,
@@ -122,9 +124,14 @@ pub(crate) fn apply(alloc: Global, state: &mut NodeState, outcome: Outcome)
         clock,
         ..
     } = outcome;
-    make(alloc, state, steps, rows_rooms, entries_room);
-    settle(alloc, state, places.as_slice());
-    state.clock = clock;
+    match behind {
+        Some(behind) => *state = behind,
+        None => {
+            state.clock = clock;
+            make(alloc, state, steps, rows_rooms, entries_room);
+            settle(alloc, state, places.as_slice());
+        },
+    }
 }
 
 // Makes the steps. Where there is none, nothing is moved.
@@ -233,13 +240,23 @@ fn make_step(step: NodeStep, room: Vec<Row>, rows: &mut StoredRows, entries: &mu
         NodeStep::RemoveNetwork { .. } => {},
         NodeStep::ConnectNetwork { .. } => {},
         NodeStep::MoveNetwork { .. } => {},
+        NodeStep::Arm { .. } => {},
+        NodeStep::Renew { .. } => {},
+        NodeStep::Expire => {},
+        NodeStep::Complete => {},
+        NodeStep::AddRoot { .. } => {},
+        NodeStep::Csr { .. } => {},
+        NodeStep::AddFabric { .. } => {},
+        NodeStep::UpdateFabric { .. } => {},
+        NodeStep::RemoveFabric { .. } => {},
+        NodeStep::Label { .. } => {},
         NodeStep::Emit { .. } => {},
     }
 }
 
 // Gives the next version to each cluster of these places, and the number of this change to each attribute. Where
 // there is none, nothing is gone over.
-fn settle(alloc: Global, state: &mut NodeState, places: &[Place])
+pub(crate) fn settle(alloc: Global, state: &mut NodeState, places: &[Place])
     ensures { state.new ≡ record state.old { versions = map (version_after places.now) state.old.versions; changes = map (change_after places.now (next_change state.old.changed)) state.old.changes; changed = count_after places.now state.old.changed } }
 {
     actions_set_values();

@@ -7,6 +7,8 @@
 //! - `requests`: the table of requests, and which area answers each;
 //! - `reads`, `writes`, `commands`: the areas;
 //! - `differences`: which attributes differ behind the steps of an answer;
+//! - `expiry`: what an expiry of the fail-safe makes of the state;
+//! - `between`: what differs between two states;
 //! - `effects`: what the steps of an answer make of the state;
 //! - `rooms`: the room for the rows that the steps set;
 //! - `sight`: what of the node answers are made of;
@@ -14,9 +16,11 @@
 #![tactic(auto)]
 
 mod actors;
+mod between;
 mod commands;
 mod differences;
 mod effects;
+mod expiry;
 mod node;
 mod opening;
 mod outcome;

@@ -1,6 +1,8 @@
 //! The node.
 
 ghost use Rattle.std.specs.Prelude.{◌≡◌, ◌↔◌, None, true, false, IfOk};
+ghost use Rattle.mt_machine.specs.Rollback.{is_due};
+ghost use Rattle.mt_machine.specs.State.{IsValid};
 ghost use Rattle.mt_machine.specs.Step.{asker, is_built_action, is_built_request, is_late, session_actor};
 ghost use Rattle.mt_node.specs.Answered.{IsAnswerInTime};
 ghost use Rattle.mt_node.specs.Kept.{in_state, started};
@@ -8,12 +10,13 @@ ghost use Rattle.mt_node.specs.Plan.{IsPlan, IsPlanFor, IsPlanned, applied};
 ghost use Rattle.mt_node.specs.Sessions.{is_live_session};
 
 use crate::effects::{outcome, unchanged};
+use crate::expiry::expired;
 use crate::opening::opened;
 use crate::outcome::Outcome;
 use crate::requests::{answered, nothing, refused};
 use crate::{actors, effects};
 use mt_machine::{actions_set_values, states_are_valid};
-use mt_model::{Action, Actor, Config, Effect, ExactCopy, NodeState, Request, Status};
+use mt_model::{Action, Actor, Armed, Config, Effect, ExactCopy, NodeState, Request, Status};
 use std::alloc::{AllocError, Global};
 use std::marker::Model;
 
@@ -71,8 +74,21 @@ impl Node {
                 Some(asking) => self.plan_asked(&asking, request, *timed, now),
                 None => Ok(self.quiet(now)),
             },
+            Action::Expire => self.plan_expiry(now),
             Action::Nothing => Ok(self.quiet(now)),
         }
+    }
+
+    // Plans an expiry, where it is time for one.
+    fn plan_expiry(&self, now: u64) -> Result<Outcome, AllocError>
+        ensures { IfOk result (IsPlan self.now.state Action.Expire now) }
+    {
+        if is_due(&self.state.armed, now) {
+            return expired(self, now);
+        }
+        actions_set_values();
+        let outcome = unchanged(self.alloc, None, nothing(self.alloc), now);
+        Ok(outcome)
     }
 
     /// Plans to answer a request of whoever is taken as asking, as `asker` tells, at this time in ms.
@@ -126,6 +142,13 @@ impl Node {
         effects::apply(self.alloc, &mut self.state, outcome);
     }
 
+    /// The state of a node is valid at every time. It does nothing.
+    pub fn state_is_valid(&self)
+        ensures { IsValid self.now.state }
+    {
+        let _ = &self.state;
+    }
+
     /// The actor of a session, None exactly where the session may not be used.
     pub fn actor(&self, session: u16) -> Option<Actor>
         ensures exact { result ≡ session_actor self.now.state session }
@@ -141,6 +164,16 @@ impl Node {
         ensures { result ≡ asker self.now.state actor.now }
     {
         actors::asker(&self.state, actor)
+    }
+}
+
+// Whether it is time that the fail-safe expires.
+fn is_due(armed: &Option<Armed>, now: u64) -> bool
+    ensures { result ≡ is_due armed.now now }
+{
+    match armed {
+        Some(armed) => armed.until <= now,
+        None => false,
     }
 }
 

@@ -3,7 +3,8 @@
 ghost use Rattle.std.specs.Prelude.{◌≡◌, ◌==◌, ◌++◌, [], bytes_eq, map, IfOk, OnOk};
 ghost use Rattle.std.specs.List.{find, list_any};
 ghost use Rattle.mt_meta.specs.Places.{all_places};
-ghost use Rattle.mt_machine.specs.Opened.{first_version, live_or_waits, opened, session_of, sessions_of, standing_of, unchanged, versions_at, versions_of_endpoint, with_root, with_roots_of};
+ghost use Rattle.mt_machine.specs.Opened.{first_version, live_or_waits, opened, session_of, sessions_of, standing_of, unchanged, versions_at, versions_of_endpoint, with_roots_of};
+ghost use Rattle.mt_machine.specs.Effects.{with_root};
 ghost use Rattle.mt_model.specs.texts.Config.{has_identity};
 
 use mt_meta::{all_places, clusters_of, endpoints, first_rows};

@@ -1,6 +1,6 @@
 //! What comes of what the node is asked.
 
-use mt_model::{AclEntry, Actor, Places, Reply, Row, SessionIds, Steps};
+use mt_model::{AclEntry, Actor, NodeState, Places, Reply, Row, SessionIds, Steps};
 
 /// What a planned action answers, and what it makes of the node.
 #[derive(Drop)]
@@ -15,6 +15,8 @@ pub struct Outcome {
     pub gone: Option<u8>,
     /// Who is taken as asking.
     pub(crate) asking: Option<Actor>,
+    /// The state behind the action, where that is made whole; None where the steps make it.
+    pub(crate) behind: Option<NodeState>,
     /// What is made of the state, step by step.
     pub(crate) steps: Steps,
     /// The attributes that differ behind the steps.

@@ -1,7 +1,8 @@
 //! What of the node answers are made of.
 
 ghost use Rattle.std.specs.Prelude.{◌≡◌, IfOk, IsTrue};
-ghost use Rattle.mt_model.specs.rows.Order.{are_ascending};
+ghost use Rattle.mt_model.specs.rows.Order.{are_ascending, fabrics_ascend};
+ghost use Rattle.mt_model.specs.texts.Config.{ascend_from};
 ghost use Rattle.mt_model.specs.rows.Sight.{stands_at, version_in};
 ghost use Rattle.mt_apps.specs.Seen.{parts_in};
 ghost use Rattle.mt_machine.specs.State.{parts, rows_of};
@@ -10,8 +11,8 @@ use crate::node::Node;
 use mt_apps::{items_shown, rows_at, value_shown};
 use mt_meta::is_stored;
 use mt_model::{
-    AclEntry, ExactCopy, Place, Row, Rows, Sight, Version, View, entries_of, shown_items,
-    shown_value,
+    AclEntry, ExactCopy, NodeState, Place, Row, Rows, Sight, Version, View, entries_of,
+    shown_items, shown_value,
 };
 use mt_tlv::{Members, Value};
 use std::alloc::{AllocError, Global};
@@ -79,7 +80,16 @@ pub(crate) fn view(node: &Node) -> View<'_>
     ensures parts { parts_in result ≡ parts node.now.state }
     ensures rows { result.rows.now ≡ node.now.state.rows }
 {
-    let state = &node.state;
+    view_of(&node.state)
+}
+
+/// The same of a state whose entries and fabrics stand in order.
+pub(crate) fn view_of(state: &NodeState) -> View<'_>
+    requires entries { IsTrue (ascend_from 0 state.now.entries) }
+    requires fabrics { IsTrue (fabrics_ascend state.now.fabrics) }
+    ensures parts { parts_in result ≡ parts state.now }
+    ensures rows { result.rows.now ≡ state.now.rows }
+{
     View {
         rows: &state.rows,
         entries: &state.entries,

@@ -5,6 +5,7 @@ use Rattle.mt_model.specs.declared.rows.place.Place.{Place}
 use Rattle.mt_model.specs.declared.rows.place.Row.{Row}
 use Rattle.mt_machine.specs.Changes.{changed_at, differing}
 use Rattle.mt_machine.specs.Effects.{after_all, is_setting_step}
+use Rattle.mt_machine.specs.Step.{at_time}
 use Rattle.mt_node.specs.Kept.{Kept}
 use Rattle.mt_node.specs.Plan.{HaveRoom, entries_in}
 use Rattle.mt_node.proofs.Applied.{needed_at_most}
@@ -22,9 +23,11 @@ returns c =
       reply = refl;
       aside = λ i. record { session = c.session_of.ensures i; closed = c.new.ensures i; gone = None };
       steps = refl;
+      behind = refl;
       state = λ settings.
-          let differ = c.in_ok-places.ensures asking (subst (λ (l : List NodeStep). list_all is_setting_step l ≡ true) (sym same) settings) in
-          ap (λ (places : List Place). record (changed_at places s (after_all asking steps s)) { clock = c.args.now }) (c.places.view_is ∙ differ ∙ (λ i. differing s (after_all asking (same i) s)));
+          let timed = at_time c.args.now s in
+          let differ = c.in_ok-places.ensures asking c.args.now (subst (λ (l : List NodeStep). list_all is_setting_step l ≡ true) (sym same) settings) in
+          ap (λ (places : List Place). changed_at places timed (after_all asking steps timed)) (c.places.view_is ∙ differ ∙ (λ i. differing timed (after_all asking (same i) timed)));
       room = record {
         rows = subst (λ (both : List Row × List NodeStep). HaveRoom both.0 both.1 c.in_ok-rows_rooms.rows_rooms.items) (λ i. ((there i).rows, same i)) c.in_ok-rows_rooms.ensures;
         no_entries = c.in_ok-with_capacity.ensures.items;

@@ -1,8 +1,8 @@
 use Rattle.mt_node.proofs.Orderly.{entries_up_from_none}
 use Rattle.mt_node.proofs.sight.view.Goals as goal
 
-pub invariant_of-result : goal.invariant_of-result
-invariant_of-result c = record {
-  entries_ascend = entries_up_from_none c.node.inside.state c.node.invariant;
-  fabrics_ascend = c.node.invariant.fabrics_rise;
-}
+pub view_of-requires-clause-entries : goal.view_of-requires-clause-entries
+view_of-requires-clause-entries c = entries_up_from_none c.node.inside.state c.node.invariant
+
+pub view_of-requires-clause-fabrics : goal.view_of-requires-clause-fabrics
+view_of-requires-clause-fabrics c = c.node.invariant.fabrics_rise

@@ -1,4 +1,4 @@
-use Rattle.std.proofs.Common.{ap, sym, ◌∙◌, Some, subst}
+use Rattle.std.proofs.Common.{ap, refl, sym, ◌∙◌, Some, subst}
 use Rattle.mt_model.specs.declared.node.action.Action.TheVariants.{Ask}
 use Rattle.mt_machine.specs.Step.{asked_reply, asked_steps}
 use Rattle.mt_machine.specs.State.{IsValid}
@@ -18,7 +18,7 @@ returns c =
     let now = c.args.now in
     let answered = c.in_ok-answered.answered in
     if_ok (IsMade s (Some asking) answered now) (IsPlanFor s asking request now timed) c.outcome.result
-    (λ o made. λ actor asks. plan_of law.nothing_ends s (Ask actor request timed) now (Some asking) answered o (law.values s (Ask actor request timed) now valid) (sym asks)
+    (λ o made. λ actor asks. plan_of law.nothing_ends s (Ask actor request timed) now (Some asking) answered o (law.values s (Ask actor request timed) now valid refl) (sym asks)
     (c.in_ok-answered.ensures.reply ∙ sym (ap (asked_reply s request timed now) asks))
     (c.in_ok-answered.ensures.steps ∙ sym (ap (asked_steps s request timed now) asks)) made)
     c.outcome.ensures
