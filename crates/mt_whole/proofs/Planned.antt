@@ -1,25 +1,27 @@
 -- The outcome of a line, from the plan of the node's action.
-use Rattle.std.proofs.Common.{◌≡◌, ℕ, not, ◌||◌, Bool, true, false, List, [], ◌∷◌, Option, None, Result, Ok, Err, IfOk, refl, sym, ap, ◌∙◌, if◌then◌else◌, unwrap_or}
+use Rattle.std.proofs.Common.{◌≡◌, ℕ, not, ◌||◌, Bool, true, false, List, [], ◌∷◌, Option, None, Some, Result, Ok, Err, IfOk, filter, refl, sym, ap, ◌∙◌, if◌then◌else◌, unwrap_or}
 use Rattle.std.specs.List.{list_any}
 use Rattle.mt_im.specs.Reading.{Gives, request_in}
 use Rattle.mt_im.specs.declared.fault.ImFault.{ImFault}
 use Rattle.mt_im.specs.declared.fault.ImFault.TheVariants as faults
 use Rattle.mt_model.specs.messages.Status.{code_of}
 use Rattle.mt_model.specs.declared.tables.access.Actor.{Actor}
-use Rattle.mt_model.specs.declared.node.action.Action.TheVariants.{Ask, Nothing}
+use Rattle.mt_model.specs.declared.node.action.Action.TheVariants.{Ask, Expire, Nothing}
 use Rattle.mt_model.specs.declared.node.action.PlainDeadline.{PlainDeadline}
 use Rattle.mt_model.specs.declared.messages.message.Reply.{Reply}
 use Rattle.mt_model.specs.declared.messages.message.Request.{Request}
-use Rattle.mt_model.specs.declared.texts.recording.Event.{Event}
 use Rattle.mt_model.specs.declared.texts.recording.Event.TheVariants as events
 use Rattle.mt_model.specs.declared.messages.status.Status.TheVariants.{Busy}
-use Rattle.mt_machine.specs.Lines.{action_of, deadline_for, deadline_of, deadlines_after, fault_reply, is_built, is_built_payload, is_deadline_of, is_refused, line_actor, next, next_for, sent, sent_as, sent_for, sent_to, with_deadline, without}
+use Rattle.mt_machine.specs.Lines.{action_of, deadline_for, deadline_of, deadlines_after, fault_reply, is_built, is_built_payload, is_deadline_of, is_refused, line_actor, next, next_for, sent_as, sent_for, sent_to, with_deadline, without}
 use Rattle.mt_machine.specs.State.{State}
-use Rattle.mt_machine.specs.Step.{after_action, asked_steps, asker, refusal}
-use Rattle.mt_machine.specs.Changes.{settled}
-use Rattle.mt_machine.specs.Effects.{after_all}
+use Rattle.mt_machine.specs.Step.{after_action, after_steps, asked_steps, asker, at_time, refusal}
+use Rattle.mt_machine.specs.Rollback.{added_in, deadlines_left, is_due, stays}
+use Rattle.mt_machine.specs.Laws.{TakesTheAddedAway}
+use Rattle.mt_model.specs.declared.tables.network.Armed.{Armed}
+use Rattle.mt_machine.specs.State.{IsValid}
 use Rattle.mt_node.specs.Plan.{IsPlan, IsPlanFor, applied}
-use Rattle.mt_whole.specs.Plan.{IsLine, IsLineFor, IsQuiet, IsWholePlan, is_want_of_memory}
+use Rattle.mt_whole.specs.Plan.{IsLine, IsLineFor, IsQuiet, IsTick, IsWholePlan, is_want_of_memory}
+use Rattle.mt_machine.specs.Step.{Aside}
 use Rattle.mt_whole.specs.declared.outcome.WholeOutcome.{WholeOutcome}
 
 or_false : (a b : Bool) → (a || b) ≡ false → (a ≡ false) × (b ≡ false)
@@ -77,7 +79,7 @@ if_ok (Err e) P Q follows holds = holds
 
 -- nobody is taken as asking
 nobody_steps : (s : State) (actor : Actor) (ms : ℕ) (asked : Result Request ImFault) (deadline : Option ℕ) → asker s.node actor ≡ None → after_action s.node Nothing ms ≡ after_action s.node (action_of actor deadline asked) ms
-nobody_steps s actor ms (Ok request) deadline none = sym (ap (λ (a : Option Actor). record (settled s.node (after_all a (asked_steps s.node request deadline ms a) s.node)) { clock = ms }) none)
+nobody_steps s actor ms (Ok request) deadline none = sym (ap (λ (a : Option Actor). after_steps a (asked_steps s.node request deadline ms a) (at_time ms s.node)) none)
 nobody_steps s actor ms (Err fault) deadline none = refl
 
 pub quiet_line : (s : State) (ms : ℕ) (actor : Actor) (asked : Result Request ImFault) (outcome : WholeOutcome) → asker s.node actor ≡ None → IsQuiet s ms outcome → IsLine s ms actor asked outcome
@@ -102,23 +104,52 @@ comes_to (Err faults.Opcode) read gives sure = gives (λ e. absurd (cc))
 comes_to (Err faults.TooManyPaths) read gives sure = gives (λ e. absurd (cc))
 
 -- An event is a line of an actor, whose payload comes to this.
-pub event_of : (s : State) (event : Event) (ms fabric node : ℕ) (cats : List ℕ) (opcode : ℕ) (payload : List ℕ) (actor : Actor) (asked : Result Request ImFault) (outcome : WholeOutcome)
-    → event ≡ events.Ask ms fabric node cats opcode payload
+pub event_of : (s : State) (ms fabric node : ℕ) (cats : List ℕ) (opcode : ℕ) (payload : List ℕ) (actor : Actor) (asked : Result Request ImFault) (outcome : WholeOutcome)
     → actor ≡ line_actor fabric node cats
     → request_in opcode payload ≡ asked
     → is_built_payload asked ≡ true
     → IsLine s ms actor asked outcome
-    → (is_built event ≡ true) × IsWholePlan s event outcome
-event_of s event ms fabric node cats opcode payload actor asked outcome is by comes built line = (
-  ap is_built is ∙ ap is_built_payload comes ∙ built,
+    → (is_built (events.Ask ms fabric node cats opcode payload) ≡ true) × IsWholePlan s (events.Ask ms fabric node cats opcode payload) outcome
+event_of s ms fabric node cats opcode payload actor asked outcome by comes built line = (
+  ap is_built_payload comes ∙ built,
   record {
-    sent = line.sent ∙ ap (λ (a : Actor). sent_for s a ms asked) by ∙ ap (sent_for s (line_actor fabric node cats) ms) (sym comes) ∙ ap (sent s) (sym is);
-    state = line.state ∙ ap (λ (a : Actor). next_for s a ms asked) by ∙ ap (next_for s (line_actor fabric node cats) ms) (sym comes) ∙ ap (next s) (sym is);
+    sent = line.sent ∙ ap (λ (a : Actor). sent_for s a ms asked) by ∙ ap (sent_for s (line_actor fabric node cats) ms) (sym comes);
+    state = line.state ∙ ap (λ (a : Actor). next_for s a ms asked) by ∙ ap (next_for s (line_actor fabric node cats) ms) (sym comes);
     planned = line.planned;
   },
 )
 
--- an event that is not built
-pub not_built : (event : Event) (ms fabric node : ℕ) (cats : List ℕ) (opcode : ℕ) (payload : List ℕ) (asked : Result Request ImFault)
-    → event ≡ events.Ask ms fabric node cats opcode payload → request_in opcode payload ≡ asked → is_built_payload asked ≡ false → is_built event ≡ false
-not_built event ms fabric node cats opcode payload asked is comes built = ap is_built is ∙ ap is_built_payload comes ∙ built
+-- The deadlines of the fabric that an expiry takes away, told by that fabric.
+
+all_stay : (ds : List PlainDeadline) → ds ≡ filter (λ (d : PlainDeadline). stays None d.fabric) ds
+all_stay [] = refl
+all_stay (d ∷ ds) = ap (λ (rest : List PlainDeadline). d ∷ rest) (all_stay ds)
+
+-- those that are left where this fabric goes, if any
+abbrev pub left_without : Option ℕ → List PlainDeadline → List PlainDeadline
+left_without None ds = ds
+left_without (Some fabric) ds = filter (λ (d : PlainDeadline). stays (Some fabric) d.fabric) ds
+
+left_added : (added : Option ℕ) (ds : List PlainDeadline) → left_without added ds ≡ filter (λ (d : PlainDeadline). stays added d.fabric) ds
+left_added None ds = all_stay ds
+left_added (Some fabric) ds = refl
+
+left_armed : (armed : Option Armed) (ds : List PlainDeadline) → left_without (added_in armed) ds ≡ deadlines_left armed ds
+left_armed None ds = refl
+left_armed (Some armed) ds = left_added armed.added ds
+
+left_due : (due : Bool) (armed : Option Armed) (ds : List PlainDeadline) → left_without (if due then added_in armed else None) ds ≡ (if due then deadlines_left armed ds else ds)
+left_due true armed ds = left_armed armed ds
+left_due false armed ds = refl
+
+pub tick_of : TakesTheAddedAway → (s : State) (ms : ℕ) (outcome : WholeOutcome) → IsValid s.node → outcome.sent ≡ [] → IsPlan s.node Expire ms outcome.node
+    → unwrap_or outcome.deadlines s.deadlines ≡ left_without outcome.node.gone s.deadlines → IsTick s ms outcome
+tick_of takes s ms outcome valid sends plan left =
+    let gone : outcome.node.gone ≡ (if is_due s.node.armed ms then added_in s.node.armed else None) = ap (λ (aside : Aside). aside.gone) plan.aside ∙ takes s.node ms valid in
+    let deadlines : unwrap_or outcome.deadlines s.deadlines ≡ (if is_due s.node.armed ms then deadlines_left s.node.armed s.deadlines else s.deadlines) =
+    left ∙ ap (λ (g : Option ℕ). left_without g s.deadlines) gone ∙ left_due (is_due s.node.armed ms) s.node.armed s.deadlines in
+    record {
+      sent = sends;
+      state = λ i. record { node = plan.state i; deadlines = deadlines i };
+      planned = (Expire, (ms, plan));
+    }

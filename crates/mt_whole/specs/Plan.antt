@@ -9,7 +9,7 @@ use Rattle.mt_model.specs.declared.texts.recording.Event.{Event}
 use Rattle.mt_node.specs.Plan.{IsPlan, IsPlanned, applied}
 use Rattle.mt_model.specs.declared.node.action.Action.TheVariants.{Nothing}
 use Rattle.mt_machine.specs.Isolation.{is_deadline_in}
-use Rattle.mt_machine.specs.Lines.{is_built, next, next_for, sent, sent_for, without}
+use Rattle.mt_machine.specs.Lines.{is_built, next, next_for, next_tick, sent, sent_for, without}
 use Rattle.mt_machine.specs.State.{State}
 use Rattle.mt_machine.specs.Step.{asker}
 use Rattle.mt_whole.specs.declared.outcome.WholeOutcome.{WholeOutcome}
@@ -43,6 +43,12 @@ pub record IsQuiet (s : State) (ms : ℕ) (outcome : WholeOutcome) : Type 0 wher
   pub sent : outcome.sent ≡ []
   pub deadlines : outcome.deadlines ≡ None
   pub node : IsPlan s.node Nothing ms outcome.node
+
+-- The outcome is that of a time step.
+pub record IsTick (s : State) (ms : ℕ) (outcome : WholeOutcome) : Type 0 where
+  pub sent : outcome.sent ≡ []
+  pub state : applied_whole outcome s ≡ next_tick s ms
+  pub planned : IsPlanned s.node outcome.node
 
 -- The outcome is that of this event.
 pub record IsWholePlan (s : State) (event : Event) (outcome : WholeOutcome) : Type 0 where

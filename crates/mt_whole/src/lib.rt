@@ -4,6 +4,7 @@
 //! - `whole`: the whole, how it starts, plans and applies;
 //! - `outcome`: what comes of a line;
 //! - `lines`: a line of a plain actor, from its payload to what is sent;
+//! - `ticks`: a time step;
 //! - `deadlines`: until when the next requests of plain actors must come;
 //! - `sending`: the messages of a reply.
 #![tactic(auto)]
@@ -12,6 +13,7 @@ mod deadlines;
 mod lines;
 mod outcome;
 mod sending;
+mod ticks;
 mod whole;
 
 pub use outcome::WholeOutcome;

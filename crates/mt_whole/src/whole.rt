@@ -3,13 +3,16 @@
 ghost use Rattle.std.specs.Prelude.{◌≡◌, IfOk};
 ghost use Rattle.mt_machine.specs.Lines.{is_built_payload};
 ghost use Rattle.mt_machine.specs.Opened.{opened_whole};
+ghost use Rattle.mt_model.specs.declared.texts.recording.Event.TheVariants.{Ask};
 ghost use Rattle.mt_whole.specs.Plan.{IsPlanIf, IsWholePlanned, applied_whole, is_want_of_memory};
 
 use crate::lines::{line_actor, planned_line};
 use crate::outcome::WholeOutcome;
+use crate::ticks::planned_tick;
 use mt_im::{ImFault, decode};
 use mt_model::{Config, Event, PlainDeadlines, Request};
 use mt_node::{Node, is_built_request};
+use mt_tlv::Bytes;
 use std::alloc::{AllocError, Global};
 use std::marker::Model;
 
@@ -51,26 +54,47 @@ impl Whole {
     pub fn plan(&self, event: &Event) -> Result<Option<WholeOutcome>, AllocError>
         ensures { IfOk result (IsPlanIf self.now event.now) }
     {
-        let Event::Ask {
-            ms,
-            fabric,
-            node,
-            cats,
-            opcode,
-            payload,
-        } = event
-        else {
-            return Ok(None);
-        };
-        let actor = line_actor(*fabric, *node, *cats);
-        let asked = decode(self.alloc, *opcode, payload.as_slice());
+        match event {
+            Event::Ask {
+                ms,
+                fabric,
+                node,
+                cats,
+                opcode,
+                payload,
+            } => self.plan_line(*ms, *fabric, *node, *cats, *opcode, payload),
+            Event::Tick { ms } => {
+                let outcome = planned_tick(self, *ms)?;
+                Ok(Some(outcome))
+            },
+            Event::Datagram { .. } => Ok(None),
+            Event::Report { .. } => Ok(None),
+            Event::Resend { .. } => Ok(None),
+            Event::Stop { .. } => Ok(None),
+        }
+    }
+
+    // Plans a line of a plain actor.
+    fn plan_line(
+        &self,
+        ms: u64,
+        fabric: u8,
+        node: u64,
+        cats: [u32; 3],
+        opcode: u8,
+        payload: &Bytes,
+    ) -> Result<Option<WholeOutcome>, AllocError>
+        ensures { IfOk result (IsPlanIf self.now (Ask ms fabric node cats opcode payload.now)) }
+    {
+        let actor = line_actor(fabric, node, cats);
+        let asked = decode(self.alloc, opcode, payload.as_slice());
         if is_want_of_memory(&asked) {
             return Err(AllocError);
         }
         if !is_built_payload(&asked) {
             return Ok(None);
         }
-        let outcome = planned_line(self, *ms, &actor, &asked)?;
+        let outcome = planned_line(self, ms, &actor, &asked)?;
         Ok(Some(outcome))
     }
 
