@@ -1,3 +1,4 @@
 pub mod Places
+pub mod First
 pub mod Forms
 pub mod Steps

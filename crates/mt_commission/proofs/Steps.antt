@@ -1,5 +1,5 @@
 -- The steps of commands whose fields have their form are sound.
-use Rattle.std.proofs.Common.{◌≡◌, ℕ, ◌^◌, ◌==◌, ◌&&◌, ◌||◌, inl, inr, nat_le, nat_lt, Bool, true, false, List, [], ◌∷◌, length, Option, Some, None, Ok, Err, refl, ap, ◌∙◌, arith, if◌then◌else◌}
+use Rattle.std.proofs.Common.{◌≡◌, ℕ, ◌^◌, ◌==◌, ◌&&◌, ◌||◌, inl, inr, nat_le, nat_lt, Bool, true, false, List, [], ◌∷◌, length, Option, Some, None, Ok, Err, refl, sym, ap, ◌∙◌, arith, if◌then◌else◌}
 use Rattle.std.specs.Prelude.{bytes_eq, is_none, is_some, ok_or}
 use Rattle.std.specs.List.{list_all, list_any}
 use Rattle.std.proofs.lemmas.Bool.{and_from, and_parts, cases_Bool}
@@ -32,7 +32,7 @@ use Rattle.mt_failsafe.specs.Calls.{is_armed_by, is_of_context}
 use Rattle.mt_commission.specs.Answers.{set_breadcrumb, set_value}
 use Rattle.mt_commission.specs.Fields.{given_number, number_of, octets_of, text_of}
 use Rattle.mt_commission.specs.GeneralCommissioning.{arm_fail_safe, armed_effect, arming, commissioning_complete, completed_effect, completing, error_effect, failsafe_steps, general_commissioning_effect, regulatory_steps, renewing, seconds_of, set_regulatory_config}
-use Rattle.mt_commission.specs.Laws.{StepsAreSound, is_sound_step, is_there}
+use Rattle.mt_commission.specs.Laws.{StepsAreSound, is_context, is_sound_step, is_there}
 use Rattle.mt_commission.specs.NetworkCommissioning.{Outcome, add_or_update_network, breadcrumb_steps, connect_network, connecting, found_place, if_owner, if_place, if_reachable, last_steps, network_commissioning_effect, network_steps, place_among, put_place, putting, remove_network, reorder_network, status_value}
 use Rattle.mt_commission.specs.declared.codes.CommissioningError.TheVariants as errors
 use Rattle.mt_commission.specs.declared.codes.NetworkStatus.{NetworkStatus}
@@ -100,10 +100,12 @@ module _ (networks : List Network) (armed : Option Armed) (fabric : ℕ) where
   regulatory_sound fields config country breadcrumb =
       and_from _ _ (config_set (number_of 0 fields) config) (and_from _ _ (location_set (text_of 1 fields) country) (and_from _ _ (breadcrumb_set (number_of 2 fields) breadcrumb) refl))
 
-  complete_sound : (command : Place) (actor : Actor) (its : Option Armed) → armed ≡ its → list_all P (completed_effect command (completing actor its)).steps ≡ true
-  complete_sound command actor None is = refl
-  complete_sound command actor (Some its) is = elim (cases_Bool (is_of_context actor its)) [
-    | inl own ↦ rw own (and_from _ _ (ap is_some is) (and_from _ _ (breadcrumb_set 0 refl) refl))
+  complete_sound : (command : Place) (actor : Actor) (its : Option Armed) → actor.fabric ≡ fabric → armed ≡ its → list_all P (completed_effect command (completing actor its)).steps ≡ true
+  complete_sound command actor None asks is = refl
+  complete_sound command actor (Some its) asks is = elim (cases_Bool (is_of_context actor its)) [
+    | inl own ↦
+        let its_context : is_context fabric armed ≡ true = ap (is_context fabric) is ∙ ap (λ n. n == its.context) (sym asks) ∙ (and_parts _ (actor.fabric == its.context) own).1 in
+        rw own (and_from _ _ its_context (and_from _ _ (breadcrumb_set 0 refl) refl))
     | inr other ↦ rw other refl
   ]
 
@@ -230,7 +232,7 @@ module _ (known : Known) (reachable : List (List ℕ)) (actor : Actor) (command 
   general_by false true four h =
       let form = regulatory_form fields h in
       regulatory_by (nat_lt 2 (number_of 0 fields)) (regulatory_sound known.networks known.armed actor.fabric fields form.0 form.1.0 form.1.1)
-  general_by false false true h = complete_sound known.networks known.armed actor.fabric command actor known.armed refl
+  general_by false false true h = complete_sound known.networks known.armed actor.fabric command actor known.armed refl refl
   general_by false false false h = refl
 
   put_passes : fits (given_number 2 fields) ≡ true → passes (add_or_update_network known.networks command fields)

@@ -1,5 +1,5 @@
 -- What holds of the steps of every command whose fields have the form of the table.
-use Rattle.std.specs.Prelude.{◌≡◌, ℕ, ◌==◌, ◌&&◌, ◌||◌, not, nat_le, nat_lt, is_none, is_some, Bool, true, false, IsTrue, List, length, Option, Result, Ok, Err}
+use Rattle.std.specs.Prelude.{◌≡◌, ℕ, ◌==◌, ◌&&◌, ◌||◌, not, nat_le, nat_lt, is_none, is_some, Bool, true, false, IsTrue, List, [], ◌∷◌, length, Option, Some, None, Result, Ok, Err}
 use Rattle.std.specs.List.{list_all}
 use Rattle.mt_tlv.specs.View.{tree}
 use Rattle.mt_tlv.specs.declared.value.Value.{Value}
@@ -31,8 +31,14 @@ is_sound_row stored fabric values (Ok meta) = stored && (not meta.scoped && (fab
 abbrev pub is_there : List Network → List ℕ → Bool
 is_there networks id = is_some (place_among networks id)
 
+-- whether commissioning goes on for this fabric
+abbrev pub is_context : ℕ → Option Armed → Bool
+is_context fabric None = false
+is_context fabric (Some armed) = fabric == armed.context
+
 -- Whether a step may be made for an actor of this fabric, where the networks and the fail-safe are these: a network has the form of
--- one, and there are at most four; the fail-safe is armed once, and only who has armed it renews it and lets it expire.
+-- one, and there are at most four; the fail-safe is armed once, only who has armed it renews it and lets it expire, and only the fabric
+-- for which commissioning goes on completes it.
 abbrev pub is_sound_step : List Network → Option Armed → ℕ → NodeStep → Bool
 is_sound_step networks armed actor (SetRow place fabric values) = is_sound_row (is_stored place) fabric values (find_of place)
 is_sound_step networks armed actor (PutNetwork id secret) = has_up_to 32 id && (nat_le (length secret) 64 && (is_there networks id || nat_lt (length networks) 4))
@@ -42,9 +48,22 @@ is_sound_step networks armed actor (MoveNetwork id index) = is_there networks id
 is_sound_step networks armed actor (Arm owner seconds) = owner == actor && is_none armed
 is_sound_step networks armed actor (Renew seconds) = is_armed_by actor armed
 is_sound_step networks armed actor Expire = is_armed_by actor armed
-is_sound_step networks armed actor Complete = is_some armed
+is_sound_step networks armed actor Complete = is_context actor armed
 is_sound_step networks armed actor step = false
 
 abbrev pub StepsAreSound : Type 0
 StepsAreSound = (known : Known) (reachable : List (List ℕ)) (actor : Actor) (command : Place) (fields : Value) → has_fields (command_fields command.cluster command.leaf) (tree fields) ≡ true
     → IsTrue (list_all (is_sound_step known.networks known.armed actor.fabric) (invoked known reachable actor command fields).steps)
+
+-- Behind its first step a command sets nothing but values of attributes.
+
+abbrev pub sets_value : NodeStep → Bool
+sets_value (SetRow place fabric values) = true
+sets_value step = false
+
+abbrev pub sets_values_behind : List NodeStep → Bool
+sets_values_behind [] = true
+sets_values_behind (step ∷ steps) = list_all sets_value steps
+
+abbrev pub StepsStandFirst : Type 0
+StepsStandFirst = (known : Known) (reachable : List (List ℕ)) (actor : Actor) (command : Place) (fields : Value) → sets_values_behind (invoked known reachable actor command fields).steps ≡ true

@@ -9,11 +9,9 @@ use Rattle.mt_meta.specs.Finding.{find_of}
 use Rattle.mt_meta.specs.Forms.{has_form}
 use Rattle.mt_meta.specs.Stored.{is_stored}
 use Rattle.mt_meta.specs.declared.meta.Meta.{Meta}
-use Rattle.mt_model.specs.texts.Config.{ascend_from, has_identity, is_entry}
-use Rattle.mt_model.specs.rows.Order.{are_ascending, in_order, is_higher, is_lower, is_own}
-use Rattle.mt_model.specs.rows.Seen.{own_entries}
-use Rattle.mt_model.specs.rows.Setting.{with_entries, with_rows}
-use Rattle.mt_model.specs.rows.Setting as setting
+use Rattle.mt_model.specs.texts.Config.{ascend_from, has_identity, is_entry, is_pase}
+use Rattle.mt_model.specs.rows.Order.{fabrics_ascend, in_order, is_higher, is_lower, is_own}
+use Rattle.mt_model.specs.rows.Seen.{Observation, own_entries}
 use Rattle.mt_model.specs.rows.Sight.{seen_by, stands_at}
 use Rattle.mt_model.specs.declared.tables.access.AclEntry.{AclEntry}
 use Rattle.mt_model.specs.declared.tables.access.Actor.{Actor}
@@ -35,20 +33,33 @@ use Rattle.mt_model.specs.declared.node.state.Standing.{Standing}
 use Rattle.mt_model.specs.declared.node.state.Standing.TheVariants.{Waits, Live, Ended}
 use Rattle.mt_write.specs.Laws.{IsSoundSight, LeavesSound, NobodySetsScoped, TouchesItsOwn, are_entries_of, is_entry_of, is_own_step, is_sound_step, is_unscoped_step}
 use Rattle.mt_write.specs.Writing.{fabric_of, is_scoped, own_values, write_answer}
+use Rattle.mt_apps.specs.Commands.{invoked}
+use Rattle.mt_commission.specs.Commands as commission
+use Rattle.mt_commission.specs.Laws.{StepsAreSound, StepsStandFirst}
+use Rattle.mt_commission.specs.Laws as commission_laws
+use Rattle.mt_opcreds.specs.Commands as credentials
+use Rattle.mt_opcreds.specs.Laws as credentials_laws
+use Rattle.mt_model.specs.tables.Known.{bare_armed, bare_network, known_to}
+use Rattle.mt_opcreds.specs.Laws.{KeepsRules, StepsAreWellFormed, StepsFit, is_well_formed}
+use Rattle.mt_opcreds.specs.Moves.{IsMove, StepsAreMoves}
 use Rattle.mt_machine.specs.Changes.{differing}
-use Rattle.mt_machine.specs.Effects.{after_all}
+use Rattle.mt_machine.specs.Commands.{command_effect, nobodys_rows}
+use Rattle.mt_machine.specs.Given.{Given}
+use Rattle.mt_machine.specs.Effects.{after, after_all}
 use Rattle.mt_machine.specs.Observation.{observation}
 use Rattle.mt_machine.specs.Rollback.{is_due}
 use Rattle.mt_machine.specs.State.{IsValid, is_among, is_plain_of, is_row, is_row_at, is_row_of, is_session, rows_of, stands_rightly}
-use Rattle.mt_machine.specs.Step.{after_action, after_steps, asked_steps, asker, asker_of, asker_on, at_time, is_expiry, is_late, live_actor, pase_actor, plain_asker, steps_of, steps_to}
-use Rattle.mt_machine.proofs.Commands.{fitting_command, fitting_events}
-use Rattle.mt_machine.proofs.Good.{in_time, requested}
-use Rattle.mt_machine.proofs.Rolled.{rolled-valid}
-use Rattle.mt_machine.proofs.Writes.{after_all_valid, all-filter, all-kept, all-three, any-weaker, fits, impossible, passes_among, place-same, settled_valid, timed_valid}
+use Rattle.mt_machine.specs.Taking.{fits, may_take_all}
+use Rattle.mt_machine.specs.Step.{after_steps, asked_steps, asker, asker_of, asker_on, at_time, is_late, live_actor, pase_actor, plain_asker, steps_of, steps_to, with_events}
+use Rattle.mt_machine.proofs.Carried.{command_by}
+use Rattle.mt_machine.proofs.Commands.{fitting_events, fitting_invoked, own_invoked}
+use Rattle.mt_machine.proofs.Good.{in_time, own_written, requested, with_its_events}
+use Rattle.mt_machine.proofs.Moving.{all_fit, all_well, moved_taken, sound_taken}
+use Rattle.mt_machine.proofs.Writes.{all-filter, all-kept, all-three, any-weaker, impossible, keeps_fabrics, members_are_positive, passes_among, place-same, settled_valid, timed_valid}
 
 -- Whoever is taken as asking has no fabric, or one of the table.
 
-abbrev is_known : List Fabric → Option Actor → Bool
+abbrev pub is_known : List Fabric → Option Actor → Bool
 is_known fabrics None = true
 is_known fabrics (Some actor) = actor.fabric == 0 || is_among fabrics actor.fabric
 
@@ -239,42 +250,131 @@ module _ (own : TouchesItsOwn) (sound : LeavesSound) (nobody : NobodySetsScoped)
         | inr among ↦ member_fits s.fabrics actor steps its (sound seen actor items timed (member_sight s actor valid among)) among
       ]
 
-  asked_fit : (s : NodeState) (request : Request) (deadline : Option ℕ) (now : ℕ) (asking : Option Actor) → IsValid s → is_known s.fabrics asking ≡ true → list_all (fits s.fabrics) (asked_steps s request deadline now asking) ≡ true
-  asked_fit s request deadline now None valid known = refl
-  asked_fit s request deadline now (Some actor) valid known =
-      let seen_by_it = observation actor.fabric s in
-      in_time (fits s.fabrics) (is_late deadline now) (steps_to seen_by_it actor (is_some deadline) request)
-      (requested (fits s.fabrics) seen_by_it actor (is_some deadline) request (λ items timed. write_fits s actor items timed valid known) (fitting_events s.fabrics actor) (fitting_command s.fabrics actor seen_by_it))
+  pub written_fits : (s : NodeState) (actor : Actor) (items : List WriteItem) (timed : Bool) → IsValid s → is_known s.fabrics (Some actor) ≡ true
+      → list_all (fits s.fabrics) (with_events (observation actor.fabric s) actor (write_answer (observation actor.fabric s).seen actor items timed).rows) ≡ true
+  written_fits s actor items timed valid known =
+      let o = observation actor.fabric s in
+      let steps = (write_answer o.seen actor items timed).rows in
+      with_its_events (fits s.fabrics) o actor steps (write_fits s actor items timed valid known) (fitting_events s.fabrics actor o.seen.entries steps)
 
-  pub action_fits : (s : NodeState) (action : Action) (now : ℕ) → IsValid s → is_expiry action ≡ false → list_all (fits s.fabrics) (steps_of s action now) ≡ true
-  action_fits s (Ask actor request deadline) now valid asks = asked_fit s request deadline now (asker s actor) valid (known_on s actor actor.session valid)
-  action_fits s actions.Expire now valid asks = absurd (cc)
-  action_fits s Nothing now valid asks = refl
+-- Whoever does not ask over PASE is of a fabric.
 
--- An action leaves a valid state valid, by the laws of the model on rows and entries that are set and that stay.
-module _
-    (rows_rise : (rows : List Row) (place : Place) (fabric : ℕ) (values : List Value) → are_ascending rows ≡ true → are_ascending (with_rows place fabric values rows) ≡ true)
-    (entries_rise : (entries new : List AclEntry) (least fabric : ℕ) → least ≤ fabric → ascend_from least entries ≡ true → list_all (setting.is_entry_of fabric) new ≡ true → ascend_from least (with_entries fabric new entries) ≡ true)
-    (rows_stay : (keep : Row → Bool) (rows : List Row) → are_ascending rows ≡ true → are_ascending (filter keep rows) ≡ true)
-    (entries_stay : (keep : AclEntry → Bool) (least : ℕ) (entries : List AclEntry) → ascend_from least entries ≡ true → ascend_from least (filter keep entries) ≡ true)
-    (own : TouchesItsOwn) (sound : LeavesSound) (nobody : NobodySetsScoped) where
-  -- the state before it is valid at its time, and the one behind its steps is
-  behind_valid : (s : NodeState) (asking : Option Actor) (steps : List NodeStep) (now : ℕ) → IsValid s → IsValid (after_all asking steps (at_time now s)) → IsValid (after_steps asking steps (at_time now s))
-  behind_valid s asking steps now valid behind =
+abbrev pub is_asker : Option Actor → Bool
+is_asker None = true
+is_asker (Some actor) = is_pase actor.auth || not (actor.fabric == 0)
+
+some_fabric : (fabrics : List Fabric) (n : ℕ) → fabrics_ascend fabrics ≡ true → is_among fabrics n ≡ true → not (n == 0) ≡ true
+some_fabric fabrics n rise there =
+    let positive : 1 ≤ n = members_are_positive fabrics n rise there in
+    grind arith
+
+identity_among : (fabrics : List Fabric) (session : NodeSession) (fabric : ℕ) → list_any (λ (f : Fabric). f.index == fabric && has_identity session.root_key session.fabric_id f) fabrics ≡ true → is_among fabrics fabric ≡ true
+identity_among fabrics session fabric its = any-weaker (λ (f : Fabric). f.index == fabric && has_identity session.root_key session.fabric_id f) (λ (f : Fabric). f.index == fabric) (λ f both. (and_parts _ _ both).0) fabrics its
+
+live_asks : (fabrics : List Fabric) (session : NodeSession) (auth : Auth) (standing : Standing) → session.auth ≡ auth → fabrics_ascend fabrics ≡ true → stands_rightly fabrics session auth standing ≡ true → is_asker (live_actor session standing) ≡ true
+live_asks fabrics session auth Waits is rise stands = refl
+live_asks fabrics session auth Ended is rise stands = refl
+live_asks fabrics session Pase (Live fabric) is rise stands = or_left _ _ (ap is_pase is)
+live_asks fabrics session Case (Live fabric) is rise stands = or_right _ _ (some_fabric fabrics fabric rise (identity_among fabrics session fabric stands))
+live_asks fabrics session Group (Live fabric) is rise stands = or_right _ _ (some_fabric fabrics fabric rise (identity_among fabrics session fabric stands))
+
+session_asks : (fabrics : List Fabric) (id : ℕ) (sessions : List NodeSession) → fabrics_ascend fabrics ≡ true → list_all (is_session fabrics) sessions ≡ true
+    → is_asker (option_and_then (λ (session : NodeSession). live_actor session session.standing) (find (λ (session : NodeSession). session.session == id) sessions)) ≡ true
+session_asks fabrics id [] rise stand = refl
+session_asks fabrics id (session ∷ sessions) rise stand =
+    let both = and_parts (is_session fabrics session) (list_all (is_session fabrics) sessions) stand in
+    elim (cases_Bool (session.session == id)) [
+      | inl this ↦ rw this (live_asks fabrics session session.auth session.standing refl rise both.0)
+      | inr other ↦ rw other (session_asks fabrics id sessions rise both.1)
+    ]
+
+case_asks : (b : Bool) (fabrics : List Fabric) (actor : Actor) → fabrics_ascend fabrics ≡ true → is_among fabrics actor.fabric ≡ b → is_asker (if b then Some actor else None) ≡ true
+case_asks true fabrics actor rise member = or_right _ _ (some_fabric fabrics actor.fabric rise member)
+case_asks false fabrics actor rise none = refl
+
+pase_asks : (b : Bool) (plain : Option ℕ) → is_asker (if b then option_map pase_actor plain else None) ≡ true
+pase_asks true None = refl
+pase_asks true (Some fabric) = refl
+pase_asks false plain = refl
+
+plain_asks : (s : NodeState) (actor : Actor) (auth : Auth) → IsValid s → is_asker (plain_asker s actor auth) ≡ true
+plain_asks s actor Case valid = case_asks (is_among s.fabrics actor.fabric) s.fabrics actor valid.fabrics_rise refl
+plain_asks s actor Pase valid = pase_asks (actor.fabric == 0 && actor.node == 0) s.plain
+plain_asks s actor Group valid = refl
+
+asks_on : (s : NodeState) (actor : Actor) (session : Option ℕ) → IsValid s → is_asker (asker_on s actor session) ≡ true
+asks_on s actor (Some id) valid = session_asks s.fabrics id s.sessions valid.fabrics_rise valid.sessions_stand
+asks_on s actor None valid = plain_asks s actor actor.auth valid
+
+pub asker_known : (s : NodeState) (actor : Actor) → IsValid s → is_known s.fabrics (asker s actor) ≡ true
+asker_known s actor valid = known_on s actor actor.session valid
+
+pub asker_asks : (s : NodeState) (actor : Actor) → IsValid s → is_asker (asker s actor) ≡ true
+asker_asks s actor valid = asks_on s actor actor.session valid
+
+-- Steps that fit may be taken one after the other: they leave the fabrics as they are.
+pub fitting_taken : (asker : Option Actor) (steps : List NodeStep) (s : NodeState) → list_all (fits s.fabrics) steps ≡ true → may_take_all asker steps s ≡ true
+fitting_taken asker [] s fit = refl
+fitting_taken asker (step ∷ steps) s fit =
+    let both = and_parts (fits s.fabrics step) (list_all (fits s.fabrics) steps) fit in
+    and_from _ _ (or_left _ _ both.0)
+    (fitting_taken asker steps (after asker step s) (subst (λ (fabrics : List Fabric). list_all (fits fabrics) steps ≡ true) (sym (keeps_fabrics asker step s s.fabrics both.0)) both.1))
+
+-- What holds of the steps of each request in a valid state: they set values, the asker's own or nobody's, and fit; or they are those of a
+-- command of commissioning.
+module _ (own : TouchesItsOwn) (sound : LeavesSound) (nobody : NobodySetsScoped) (sound_steps : StepsAreSound) (first_steps : StepsStandFirst) (well : StepsAreWellFormed) (fit : StepsFit) (moves : StepsAreMoves)
+    (given : Given) (keeps : KeepsRules given.judged) where
+  module _ (s : NodeState) (valid : IsValid s) (actor : Actor) (P : List NodeStep → Type 0) (none : P [])
+      (setting : (steps : List NodeStep) → list_all (is_own_step actor) steps ≡ true → list_all (fits s.fabrics) steps ≡ true → P steps)
+      (commissioning : (steps : List NodeStep) → list_all (commission_laws.is_sound_step (map bare_network s.networks) (option_map bare_armed s.armed) actor.fabric) steps ≡ true → commission_laws.sets_values_behind steps ≡ true → P steps)
+      (credential : (steps : List NodeStep) → list_all is_well_formed steps ≡ true → list_all (credentials_laws.fits (known_to actor.fabric s.fabrics s.networks s.armed)) steps ≡ true
+      → IsMove (known_to actor.fabric s.fabrics s.networks s.armed) actor.fabric steps → P steps)
+    where
+      abbrev o : Observation
+      o = observation actor.fabric s
+
+      command_steps : is_asker (Some actor) ≡ true → (is_timed : Bool) (command : Place) (fields : Value) → P (command_effect given o actor is_timed command fields).steps
+      command_steps asks is_timed command fields =
+          command_by given o actor command fields P none
+          (λ form. credential (credentials.invoked given.judged o.known actor command fields).steps
+          (all_well given.judged well fit moves s valid actor keeps asks command fields form) (all_fit given.judged well fit moves s valid actor keeps asks command fields form) (moves given.judged o.known actor command fields))
+          (λ form. commissioning (commission.invoked o.known given.reachable actor command fields).steps (sound_steps o.known given.reachable actor command fields form) (first_steps o.known given.reachable actor command fields))
+          (λ meta there. setting (invoked (nobodys_rows o) actor command).steps (own_invoked actor (nobodys_rows o) command meta there) (fitting_invoked s.fabrics actor (nobodys_rows o) command meta there))
+          is_timed
+
+      pub asked_by : is_known s.fabrics (Some actor) ≡ true → is_asker (Some actor) ≡ true → (request : Request) (deadline : Option ℕ) (now : ℕ) → P (asked_steps given s request deadline now (Some actor))
+      asked_by known asks request deadline now =
+          in_time P (is_late deadline now) (steps_to given o actor (is_some deadline) request) none
+          (requested given P o actor (is_some deadline) request none
+          (λ items is_timed. setting (with_events o actor (write_answer o.seen actor items is_timed).rows) (own_written own o actor items is_timed) (written_fits own sound nobody s actor items is_timed valid known))
+          (command_steps asks))
+
+  -- A valid state takes the steps of every action.
+
+  asked_taken : (s : NodeState) (valid : IsValid s) (request : Request) (deadline : Option ℕ) (now : ℕ) (asking : Option Actor) → is_known s.fabrics asking ≡ true → is_asker asking ≡ true
+      → may_take_all asking (asked_steps given s request deadline now asking) (at_time now s) ≡ true
+  asked_taken s valid request deadline now None known asks = refl
+  asked_taken s valid request deadline now (Some actor) known asks =
       let timed = at_time now s in
-      settled_valid (differing timed (after_all asking steps timed)) timed (after_all asking steps timed) (timed_valid s now valid) behind
+      asked_by s valid actor (λ (steps : List NodeStep). may_take_all (Some actor) steps timed ≡ true) refl
+      (λ steps its fit_all. fitting_taken (Some actor) steps timed fit_all)
+      (λ steps sound_all first. sound_taken (map bare_network s.networks) (option_map bare_armed s.armed) actor.fabric (Some actor) steps timed sound_all)
+      (λ steps good fit_all move. moved_taken timed (timed_valid s now valid) actor.fabric (Some actor) steps good fit_all move)
+      known asks request deadline now
 
-  sets_valid : (s : NodeState) (action : Action) (now : ℕ) → IsValid s → is_expiry action ≡ false → IsValid (after_action s action now)
-  sets_valid s action now valid sets =
-      behind_valid s (asker_of s action) (steps_of s action now) now valid
-      (after_all_valid rows_rise entries_rise (asker_of s action) (steps_of s action now) (at_time now s) (timed_valid s now valid) (action_fits own sound nobody s action now valid sets))
+  due_taken : (s : NodeState) (due : Bool) → may_take_all None (if due then Expire ∷ [] else []) s ≡ true
+  due_taken s true = refl
+  due_taken s false = refl
 
-  expires_valid : (s : NodeState) (now : ℕ) (due : Bool) → IsValid s → IsValid (after_steps None (if due then Expire ∷ [] else []) (at_time now s))
-  expires_valid s now true valid =
-      behind_valid s None (Expire ∷ []) now valid (rolled-valid rows_stay entries_stay rows_rise entries_rise s.armed (at_time now s) refl (timed_valid s now valid))
-  expires_valid s now false valid = behind_valid s None [] now valid (timed_valid s now valid)
+  pub action_taken : (s : NodeState) (action : Action) (now : ℕ) → IsValid s → may_take_all (asker_of s action) (steps_of given s action now) (at_time now s) ≡ true
+  action_taken s (Ask actor request deadline) now valid = asked_taken s valid request deadline now (asker s actor) (asker_known s actor valid) (asker_asks s actor valid)
+  action_taken s actions.Expire now valid = due_taken (at_time now s) (is_due s.armed now)
+  action_taken s Nothing now valid = refl
 
-  pub stays_valid : (s : NodeState) (action : Action) (now : ℕ) → IsValid s → IsValid (after_action s action now)
-  stays_valid s (Ask actor request deadline) now valid = sets_valid s (Ask actor request deadline) now valid refl
-  stays_valid s actions.Expire now valid = expires_valid s now (is_due s.armed now) valid
-  stays_valid s Nothing now valid = sets_valid s Nothing now valid refl
+-- the state before an action is valid at its time, and so is the one behind steps that it takes
+pub stays_valid : ((asker : Option Actor) (steps : List NodeStep) (s : NodeState) → IsValid s → may_take_all asker steps s ≡ true → IsValid (after_all asker steps s))
+    → (asking : Option Actor) (steps : List NodeStep) (s : NodeState) (now : ℕ) → IsValid s → may_take_all asking steps (at_time now s) ≡ true → IsValid (after_steps asking steps (at_time now s))
+stays_valid all_valid asking steps s now valid taken =
+    let timed = at_time now s in
+    let its = timed_valid s now valid in
+    settled_valid (differing timed (after_all asking steps timed)) timed (after_all asking steps timed) its (all_valid asking steps timed its taken)

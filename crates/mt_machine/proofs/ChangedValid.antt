@@ -183,7 +183,7 @@ found_its index old (f ∷ fabrics) found = elim (cases_Bool (f.index == index))
       ap (λ b. (b && has_identity old.root_key old.fabric_id f) || list_any (is_its old.root_key old.fabric_id index) fabrics) other ∙ found_its index old fabrics later
 ]
 
-found_form : (index : ℕ) (old : Credentials) (fabrics : List Fabric) → credentials_at index fabrics ≡ Some old → list_all is_fabric fabrics ≡ true → are_credentials old ≡ true
+pub found_form : (index : ℕ) (old : Credentials) (fabrics : List Fabric) → credentials_at index fabrics ≡ Some old → list_all is_fabric fabrics ≡ true → are_credentials old ≡ true
 found_form index old [] found all = absurd (cc)
 found_form index old (f ∷ fabrics) found all =
     let both = and_parts (is_fabric f) (list_all is_fabric fabrics) all in

@@ -1,6 +1,6 @@
 -- What holds of the steps of commands and of the events of writes: they set the rows of nobody at places that are stored, and tell
 -- the asker's fabric of something.
-use Rattle.std.proofs.Common.{◌≡◌, ℕ, ◌==◌, ◌&&◌, inl, inr, not, Bool, true, false, List, [], ◌∷◌, Option, Some, None, Result, Ok, Err, refl, sym, ap, ◌∙◌, arith, if◌then◌else◌}
+use Rattle.std.proofs.Common.{◌≡◌, ℕ, ◌==◌, inl, inr, not, Bool, true, false, List, [], ◌∷◌, Option, Some, None, Ok, refl, sym, ap, ◌∙◌, arith, if◌then◌else◌}
 use Rattle.std.specs.List.{list_all}
 use Rattle.std.proofs.lemmas.Bool.{and_from, cases_Bool, eqb-true}
 use Rattle.std.proofs.lemmas.List.Folds.{list_all-append}
@@ -15,9 +15,8 @@ use Rattle.mt_meta.specs.declared.meta.CommandMeta.{CommandMeta}
 use Rattle.mt_meta.specs.declared.meta.Kind.TheVariants as kinds
 use Rattle.mt_meta.specs.declared.meta.Meta.{Meta}
 use Rattle.mt_model.specs.rows.Same.{is_same_entry}
-use Rattle.mt_model.specs.rows.Seen.{Observation}
 use Rattle.mt_model.specs.declared.messages.status.Status.{Status}
-use Rattle.mt_model.specs.declared.messages.status.Status.TheVariants.{NeedsTimedInteraction, UnsupportedAccess, UnsupportedCluster, UnsupportedEndpoint}
+use Rattle.mt_model.specs.declared.messages.status.Status.TheVariants.{UnsupportedCluster, UnsupportedEndpoint}
 use Rattle.mt_model.specs.declared.node.action.NodeStep.{NodeStep}
 use Rattle.mt_model.specs.declared.node.action.NodeStep.TheVariants.{SetRow, SetEntries, PutNetwork, RemoveNetwork, ConnectNetwork, MoveNetwork, Arm, Renew, Expire, Complete, AddRoot, Csr, AddFabric, UpdateFabric, RemoveFabric, Label, Emit}
 use Rattle.mt_model.specs.declared.rows.place.Place.{Place}
@@ -30,10 +29,8 @@ use Rattle.mt_apps.specs.Bench.{bench_effect}
 use Rattle.mt_apps.specs.Commands.{invoked}
 use Rattle.mt_apps.specs.EntryEvents.{entry_event, entry_events, events_between, if_changed}
 use Rattle.mt_apps.specs.OnOff.{on_off_at, set_on}
-use Rattle.mt_invoke.specs.Checking.{checked, has_form, if_found, may_invoke}
 use Rattle.mt_write.specs.Laws.{is_own_step}
-use Rattle.mt_machine.specs.Commands.{command_effect, nobodys_rows, unless_refused}
-use Rattle.mt_machine.proofs.Writes.{fits}
+use Rattle.mt_machine.specs.Taking.{fits}
 
 -- On/Off is there where one of its commands is.
 
@@ -110,7 +107,7 @@ module _ (P : NodeStep → Bool) (actor : Actor) (told : (place : Place) (priori
       | inr other ↦ rw other refl
     ]
 
-    invoked_pass : (rows_at : Place → List Row) (command : Place) (meta : CommandMeta) → find_command_of command ≡ Ok meta → list_all P (invoked rows_at actor command).steps ≡ true
+    pub invoked_pass : (rows_at : Place → List Row) (command : Place) (meta : CommandMeta) → find_command_of command ≡ Ok meta → list_all P (invoked rows_at actor command).steps ≡ true
     invoked_pass rows_at command meta there = elim (cases_Bool (command.cluster == on_off.cluster)) [
       | inl is ↦ rw is (set_passes command _ (on_off_is command meta is there))
       | inr other ↦ rw other (elim (cases_Bool (command.cluster == bench.cluster)) [
@@ -118,29 +115,6 @@ module _ (P : NodeStep → Bool) (actor : Actor) (told : (place : Place) (priori
         | inr neither ↦ rw neither refl
       ])
     ]
-
-    form_passes : (o : Observation) (command : Place) (fields : Value) (meta : CommandMeta) → find_command_of command ≡ Ok meta → list_all P (unless_refused o actor command fields (Ok meta)).steps ≡ true
-    form_passes o command fields meta there = elim (cases_Bool (has_form command fields)) [
-      | inl has ↦ rw has (invoked_pass (nobodys_rows o) command meta there)
-      | inr has_not ↦ rw has_not refl
-    ]
-
-    timely_is : (late : Bool) (its : Result CommandMeta Status) (meta : CommandMeta) → (if late then Err NeedsTimedInteraction else its) ≡ Ok meta → its ≡ Ok meta
-    timely_is true its meta is = absurd (cc)
-    timely_is false its meta is = is
-
-    -- a command that may be carried out is there
-    there_is : (may timed : Bool) (there : Result CommandMeta Status) (meta : CommandMeta) → (if may then if_found timed there else Err UnsupportedAccess) ≡ Ok meta → there ≡ Ok meta
-    there_is false timed there meta is = absurd (cc)
-    there_is true timed (Err status) meta is = absurd (cc)
-    there_is true timed (Ok its) meta is = timely_is (its.timed && not timed) (Ok its) meta is
-
-    refused_pass : (o : Observation) (command : Place) (fields : Value) (timed : Bool) (may : Result CommandMeta Status) → checked o.seen actor command timed ≡ may → list_all P (unless_refused o actor command fields may).steps ≡ true
-    refused_pass o command fields timed (Err status) is = refl
-    refused_pass o command fields timed (Ok meta) is = form_passes o command fields meta (there_is (may_invoke o.seen actor command) timed (find_command_of command) meta is)
-
-    pub command_passes : (o : Observation) (timed : Bool) (command : Place) (fields : Value) → list_all P (command_effect o actor timed command fields).steps ≡ true
-    command_passes o timed command fields = refused_pass o command fields timed (checked o.seen actor command timed) refl
 
 -- They are the asker's own, and fit the state.
 
@@ -157,11 +131,11 @@ fitting_set fabrics endpoint on there = rw there refl
 pub own_events : (actor : Actor) (entries : List AclEntry) (steps : List NodeStep) → list_all (is_own_step actor) (entry_events actor entries steps) ≡ true
 own_events actor = events_pass (is_own_step actor) actor (λ place priority value. same_number actor.fabric)
 
-pub own_command : (actor : Actor) (o : Observation) (timed : Bool) (command : Place) (fields : Value) → list_all (is_own_step actor) (command_effect o actor timed command fields).steps ≡ true
-own_command actor = command_passes (is_own_step actor) actor (λ place priority value. same_number actor.fabric) (own_set actor)
+pub own_invoked : (actor : Actor) (rows_at : Place → List Row) (command : Place) (meta : CommandMeta) → find_command_of command ≡ Ok meta → list_all (is_own_step actor) (invoked rows_at actor command).steps ≡ true
+own_invoked actor = invoked_pass (is_own_step actor) actor (λ place priority value. same_number actor.fabric) (own_set actor)
 
 pub fitting_events : (fabrics : List Fabric) (actor : Actor) (entries : List AclEntry) (steps : List NodeStep) → list_all (fits fabrics) (entry_events actor entries steps) ≡ true
 fitting_events fabrics actor = events_pass (fits fabrics) actor (λ place priority value. refl)
 
-pub fitting_command : (fabrics : List Fabric) (actor : Actor) (o : Observation) (timed : Bool) (command : Place) (fields : Value) → list_all (fits fabrics) (command_effect o actor timed command fields).steps ≡ true
-fitting_command fabrics actor = command_passes (fits fabrics) actor (λ place priority value. refl) (fitting_set fabrics)
+pub fitting_invoked : (fabrics : List Fabric) (actor : Actor) (rows_at : Place → List Row) (command : Place) (meta : CommandMeta) → find_command_of command ≡ Ok meta → list_all (fits fabrics) (invoked rows_at actor command).steps ≡ true
+fitting_invoked fabrics actor = invoked_pass (fits fabrics) actor (λ place priority value. refl) (fitting_set fabrics)

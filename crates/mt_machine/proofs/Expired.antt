@@ -12,6 +12,7 @@ use Rattle.mt_model.specs.declared.rows.place.Place.{Place}
 use Rattle.mt_model.specs.declared.rows.place.Row.{Row}
 use Rattle.mt_model.specs.declared.tables.access.AclEntry.{AclEntry}
 use Rattle.mt_model.specs.declared.tables.network.Armed.{Armed}
+use Rattle.mt_machine.specs.Given.{Given}
 use Rattle.mt_machine.specs.Changes.{settled}
 use Rattle.mt_machine.specs.Isolation.{is_deadline_in, own_of_whole}
 use Rattle.mt_machine.specs.Lines.{next_tick}
@@ -75,11 +76,11 @@ ticked s ms due = record {
   deadlines = if due then deadlines_left s.node.armed s.deadlines else s.deadlines;
 }
 
-pub rolls : (s : State) (ms : ℕ) → is_due s.node.armed ms ≡ true → next_tick s ms ≡ record { node = settled (at_time ms s.node) (rollback (at_time ms s.node)); deadlines = deadlines_left s.node.armed s.deadlines }
-rolls s ms due = ap (ticked s ms) due
+pub rolls : (given : Given) (s : State) (ms : ℕ) → is_due s.node.armed ms ≡ true → next_tick given s ms ≡ record { node = settled (at_time ms s.node) (rollback (at_time ms s.node)); deadlines = deadlines_left s.node.armed s.deadlines }
+rolls given s ms due = ap (ticked s ms) due
 
-pub passes : ((t : NodeState) → settled t t ≡ t) → (s : State) (ms : ℕ) → is_due s.node.armed ms ≡ false → next_tick s ms ≡ record s { node = at_time ms s.node }
-passes same s ms due = ap (ticked s ms) due ∙ ap (λ (t : NodeState). record s { node = t }) (same (at_time ms s.node))
+pub passes : ((t : NodeState) → settled t t ≡ t) → (given : Given) (s : State) (ms : ℕ) → is_due s.node.armed ms ≡ false → next_tick given s ms ≡ record s { node = at_time ms s.node }
+passes same given s ms due = ap (ticked s ms) due ∙ ap (λ (t : NodeState). record s { node = t }) (same (at_time ms s.node))
 
 -- What leaves the table is the fabric that was added.
 
@@ -88,7 +89,7 @@ module _ (added updated : Option ℕ) (saved : Option Credentials) where
   behind fs = map (given_back updated saved) (filter (λ (f : Fabric). stays added f.index) fs)
 
   -- a fabric is among those behind where it was there and stays
-  among-behind : (n : ℕ) (fs : List Fabric) → is_among (behind fs) n ≡ (stays added n && is_among fs n)
+  pub among-behind : (n : ℕ) (fs : List Fabric) → is_among (behind fs) n ≡ (stays added n && is_among fs n)
   among-behind n [] = sym (and_false (stays added n))
   among-behind n (f ∷ fs) =
       let rest = among-behind n fs in
@@ -147,8 +148,8 @@ gone_where : (s : NodeState) (now : ℕ) (due : Bool) → keeps_facts s.fabrics 
 gone_where s now true facts = gone_rolled s.armed (at_time now s) facts
 gone_where s now false facts = gone_none s.fabrics
 
-pub gone_by_expiry : (s : NodeState) (now : ℕ) → IsValid s → (aside_of s Expire now).gone ≡ (if is_due s.armed now then added_in s.armed else None)
-gone_by_expiry s now valid = gone_where s now (is_due s.armed now) valid.failsafe_facts
+pub gone_by_expiry : (given : Given) (s : NodeState) (now : ℕ) → IsValid s → (aside_of given s Expire now).gone ≡ (if is_due s.armed now then added_in s.armed else None)
+gone_by_expiry given s now valid = gone_where s now (is_due s.armed now) valid.failsafe_facts
 
 module _
     (rows_stay : (keep : Row → Bool) (rows : List Row) → are_ascending rows ≡ true → are_ascending (filter keep rows) ≡ true)
@@ -165,5 +166,5 @@ module _
   }
   ticked_own s ms false valid some not_added not_updated = refl
 
-  pub ticks_spare : (s : State) (ms : ℕ) → IsValid s.node → fabric ≢ 0 → was_added fabric s.node.armed ≡ false → was_updated fabric s.node.armed ≡ false → own_of_whole fabric (next_tick s ms) ≡ own_of_whole fabric s
-  ticks_spare s ms = ticked_own s ms (is_due s.node.armed ms)
+  pub ticks_spare : (given : Given) (s : State) (ms : ℕ) → IsValid s.node → fabric ≢ 0 → was_added fabric s.node.armed ≡ false → was_updated fabric s.node.armed ≡ false → own_of_whole fabric (next_tick given s ms) ≡ own_of_whole fabric s
+  ticks_spare given s ms = ticked_own s ms (is_due s.node.armed ms)

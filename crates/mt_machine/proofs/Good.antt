@@ -1,5 +1,5 @@
 -- The steps of an action are its asker's own, and fit the state: they set rows and entries of its fabric, or rows of nobody.
-use Rattle.std.proofs.Common.{◌≡◌, ℕ, ◌==◌, ◌&&◌, ◌∙◌, is_ok, Result, Ok, Err, Bool, true, false, List, [], ◌∷◌, refl, arith, if◌then◌else◌}
+use Rattle.std.proofs.Common.{◌≡◌, ℕ, ◌==◌, ◌&&◌, ◌||◌, ◌∙◌, is_ok, Result, Ok, Err, Bool, true, false, List, [], ◌∷◌, refl, arith, if◌then◌else◌}
 use Rattle.std.specs.List.{list_all}
 use Rattle.std.proofs.lemmas.Bool.{and_from, and_parts}
 use Rattle.std.proofs.lemmas.List.Folds.{list_all-append}
@@ -25,39 +25,48 @@ use Rattle.mt_write.specs.Laws.{TouchesItsOwn, is_own_step, is_sound_row}
 use Rattle.mt_write.specs.Laws as writes
 use Rattle.mt_write.specs.Writing.{is_scoped, write_answer}
 use Rattle.mt_machine.specs.Commands.{command_effect}
-use Rattle.mt_machine.specs.Effects.{is_setting_step}
+use Rattle.mt_machine.specs.Effects.{after, is_setting_step, sets_values}
 use Rattle.mt_machine.specs.State.{is_among}
 use Rattle.mt_machine.specs.Step.{is_untimely, steps_to, with_events}
-use Rattle.mt_machine.proofs.Commands.{own_command, own_events}
+use Rattle.mt_machine.specs.Given.{Given}
+use Rattle.mt_machine.proofs.Commands.{own_events}
 use Rattle.mt_machine.proofs.Steps.{is_step_of}
-use Rattle.mt_machine.proofs.Writes.{all-weaker, fits, fits_row}
+use Rattle.mt_machine.proofs.Writes.{all-weaker}
+use Rattle.mt_machine.specs.Laws.{TakenValuesFit}
+use Rattle.mt_machine.specs.Taking.{fits, fits_row, may_take, may_take_all}
+use Rattle.mt_model.specs.declared.node.state.NodeState.{NodeState}
 
-pub in_time : (P : NodeStep → Bool) (late : Bool) (steps : List NodeStep) → list_all P steps ≡ true → list_all P (if late then [] else steps) ≡ true
-in_time P true steps all = refl
-in_time P false steps all = all
+pub in_time : (P : List NodeStep → Type 0) (late : Bool) (steps : List NodeStep) → P [] → P steps → P (if late then [] else steps)
+in_time P true steps none all = none
+in_time P false steps none all = all
 
 -- what holds of the steps of writes, with their events, and of those of commands holds of those of each request: of those that are
 -- built these alone make any
-pub requested : (P : NodeStep → Bool) (o : Observation) (asking : Actor) (stood : Bool) (request : Request)
-    → ((items : List WriteItem) (timed : Bool) → list_all P (write_answer o.seen asking items timed).rows ≡ true)
-    → ((entries : List AclEntry) (steps : List NodeStep) → list_all P (entry_events asking entries steps) ≡ true)
-    → ((timed : Bool) (command : Place) (fields : Value) → list_all P (command_effect o asking timed command fields).steps ≡ true)
-    → list_all P (steps_to o asking stood request) ≡ true
-requested P o asking stood (requests.Status code) each events commands = refl
-requested P o asking stood (requests.Read paths wanted minimum filtered versions) each events commands = refl
-requested P o asking stood (requests.Subscribe keep floor ceiling paths wanted minimum filtered versions) each events commands = refl
-requested P o asking stood (requests.Write suppress timed items) each events commands =
-    let steps = (write_answer o.seen asking items timed).rows in
-    in_time P (is_untimely stood timed) (with_events o asking steps)
-    (list_all-append P steps (entry_events asking o.seen.entries steps) ∙ and_from _ _ (each items timed) (events o.seen.entries steps))
-requested P o asking stood (requests.Invoke suppress timed command fields) each events commands =
-    in_time P (is_untimely stood timed) (command_effect o asking timed command fields).steps (commands timed command fields)
-requested P o asking stood (requests.Timed ms) each events commands = refl
+pub requested : (given : Given) (P : List NodeStep → Type 0) (o : Observation) (asking : Actor) (stood : Bool) (request : Request) → P []
+    → ((items : List WriteItem) (timed : Bool) → P (with_events o asking (write_answer o.seen asking items timed).rows))
+    → ((timed : Bool) (command : Place) (fields : Value) → P (command_effect given o asking timed command fields).steps)
+    → P (steps_to given o asking stood request)
+requested given P o asking stood (requests.Status code) none each commands = none
+requested given P o asking stood (requests.Read paths wanted minimum filtered versions) none each commands = none
+requested given P o asking stood (requests.Subscribe keep floor ceiling paths wanted minimum filtered versions) none each commands = none
+requested given P o asking stood (requests.Write suppress timed items) none each commands = in_time P (is_untimely stood timed) (with_events o asking (write_answer o.seen asking items timed).rows) none (each items timed)
+requested given P o asking stood (requests.Invoke suppress timed command fields) none each commands = in_time P (is_untimely stood timed) (command_effect given o asking timed command fields).steps none (commands timed command fields)
+requested given P o asking stood (requests.Timed ms) none each commands = none
 
-pub own_steps : TouchesItsOwn → (o : Observation) (asking : Actor) (stood : Bool) (request : Request) → list_all (is_own_step asking) (steps_to o asking stood request) ≡ true
-own_steps touches o asking stood request = requested (is_own_step asking) o asking stood request (touches o.seen asking) (own_events asking) (own_command asking o)
+-- what holds of each step of a write and of each event, holds of all of both
+pub with_its_events : (P : NodeStep → Bool) (o : Observation) (asking : Actor) (steps : List NodeStep) → list_all P steps ≡ true → list_all P (entry_events asking o.seen.entries steps) ≡ true → list_all P (with_events o asking steps) ≡ true
+with_its_events P o asking steps all events = list_all-append P steps (entry_events asking o.seen.entries steps) ∙ and_from _ _ all events
+
+pub own_written : TouchesItsOwn → (o : Observation) (asking : Actor) (items : List WriteItem) (timed : Bool) → list_all (is_own_step asking) (with_events o asking (write_answer o.seen asking items timed).rows) ≡ true
+own_written touches o asking items timed =
+    let steps = (write_answer o.seen asking items timed).rows in
+    with_its_events (is_own_step asking) o asking steps (touches o.seen asking items timed) (own_events asking o.seen.entries steps)
 
 -- Steps that fit the state set rows, and entries of the fabric that they name.
+
+or_false : (b : Bool) → (b || false) ≡ true → b ≡ true
+or_false true is = refl
+or_false false is = is
 
 entries_of : (whose : ℕ) (es : List AclEntry) → list_all (writes.is_entry_of whose) es ≡ true → list_all (is_entry_of whose) es ≡ true
 entries_of whose es all = all-weaker (writes.is_entry_of whose) (is_entry_of whose) (λ e its. (and_parts _ (e.fabric == whose) its).1) es all
@@ -89,6 +98,32 @@ module _ (kept : (place : Place) → is_stored_place place ≡ (is_stored place 
   setting_step fabrics (RemoveFabric index) fit = absurd (cc)
   setting_step fabrics (Label index label) fit = absurd (cc)
   setting_step fabrics (Emit place priority whose value) fit = refl
+
+  taken_sets : (s : NodeState) (step : NodeStep) → may_take s step ≡ true → sets_values step ≡ true → is_setting_step step ≡ true
+  taken_sets s (SetRow place whose values) may sets = setting_step s.fabrics (SetRow place whose values) (or_false _ may)
+  taken_sets s (SetEntries whose entries) may sets = setting_step s.fabrics (SetEntries whose entries) (or_false _ may)
+  taken_sets s (PutNetwork id secret) may sets = absurd (cc)
+  taken_sets s (RemoveNetwork id) may sets = absurd (cc)
+  taken_sets s (ConnectNetwork id) may sets = absurd (cc)
+  taken_sets s (MoveNetwork id index) may sets = absurd (cc)
+  taken_sets s (Arm owner seconds) may sets = absurd (cc)
+  taken_sets s (Renew seconds) may sets = absurd (cc)
+  taken_sets s Expire may sets = absurd (cc)
+  taken_sets s Complete may sets = absurd (cc)
+  taken_sets s (AddRoot cert) may sets = absurd (cc)
+  taken_sets s (Csr nonce update) may sets = absurd (cc)
+  taken_sets s (AddFabric joins) may sets = absurd (cc)
+  taken_sets s (UpdateFabric index given) may sets = absurd (cc)
+  taken_sets s (RemoveFabric index) may sets = absurd (cc)
+  taken_sets s (Label index label) may sets = absurd (cc)
+  taken_sets s (Emit place priority whose value) may sets = refl
+
+  pub taken_values_fit : TakenValuesFit
+  taken_values_fit asker [] s may sets = refl
+  taken_values_fit asker (step ∷ steps) s may sets =
+      let both = and_parts (may_take s step) (may_take_all asker steps (after asker step s)) may in
+      let these = and_parts (sets_values step) (list_all sets_values steps) sets in
+      and_from _ _ (taken_sets s step both.0 these.0) (taken_values_fit asker steps (after asker step s) both.1 these.1)
 
   pub setting_steps : (fabrics : List Fabric) (steps : List NodeStep) → list_all (fits fabrics) steps ≡ true → list_all is_setting_step steps ≡ true
   setting_steps fabrics = all-weaker (fits fabrics) is_setting_step (setting_step fabrics)

@@ -33,7 +33,7 @@ or-swap true false c = refl
 or-swap false b c = refl
 
 module _ (x : Fabric) where
-  placed-any : (q : Fabric → Bool) (fs : List Fabric) → list_any q (placed x fs) ≡ (q x || list_any q fs)
+  pub placed-any : (q : Fabric → Bool) (fs : List Fabric) → list_any q (placed x fs) ≡ (q x || list_any q fs)
   placed-any q [] = refl
   placed-any q (f ∷ fs) =
       cond_both (nat_lt f.index x.index) (f ∷ placed x fs) (x ∷ f ∷ fs) (λ (l : List Fabric). list_any q l ≡ (q x || (q f || list_any q fs)))

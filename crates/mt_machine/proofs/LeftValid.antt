@@ -60,7 +60,7 @@ module _ (index : ℕ) where
         ]
   ]
 
-  among-left : (fs : List Fabric) (n : ℕ) → (n == index) ≡ false → is_among fs n ≡ true → is_among (removed index fs) n ≡ true
+  pub among-left : (fs : List Fabric) (n : ℕ) → (n == index) ≡ false → is_among fs n ≡ true → is_among (removed index fs) n ≡ true
   among-left fs n other = any-left (is_indexed n) (λ f at. subst (λ k. (k == index) ≡ false) (sym (eqb-true f.index n at)) other) fs
 
   its-left : (fs : List Fabric) (key : List ℕ) (id n : ℕ) → (n == index) ≡ false → list_any (is_its key id n) fs ≡ true → list_any (is_its key id n) (removed index fs) ≡ true

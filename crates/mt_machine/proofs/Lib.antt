@@ -1,3 +1,4 @@
+pub mod Carried
 pub mod Commands
 pub mod Again
 pub mod Asked
@@ -6,6 +7,10 @@ pub mod Entries
 pub mod Fabrics
 pub mod Good
 pub mod Kept
+pub mod Knowing
+pub mod Moving
+pub mod OnVeil
+pub mod OneGoes
 pub mod Opening
 pub mod Order
 pub mod Rolled
@@ -13,6 +18,7 @@ pub mod Rows
 pub mod Seeing
 pub mod Settled
 pub mod Spared
+pub mod Sparing
 pub mod Steps
 pub mod Times
 pub mod Veiled
@@ -28,3 +34,6 @@ pub mod ChangedValid
 pub mod LeftValid
 pub mod JoinedValid
 pub mod StepsValid
+pub mod AlikeTables
+pub mod AlikeSteps
+pub mod AlikeLeft

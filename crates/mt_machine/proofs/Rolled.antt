@@ -33,7 +33,8 @@ use Rattle.mt_model.specs.declared.tables.fabric.Fabric.{Fabric}
 use Rattle.mt_model.specs.declared.tables.network.Armed.{Armed}
 use Rattle.mt_machine.specs.Rollback.{breadcrumb, ends, fabrics_behind, given_back, rolled_back, session_behind, stays, undone}
 use Rattle.mt_machine.specs.State.{IsValid, are_kept, are_networks, follows, has_entries_up_to, has_index_up_to, has_one_row, have_one_id, is_added, is_among, is_network, is_owned, is_root_of, is_row, is_row_at, is_row_of, is_session, is_unscoped, is_updated, is_used, keeps_facts, saves_identity, saves_rightly, stands_once, stands_rightly}
-use Rattle.mt_machine.proofs.Writes.{all-filter, all-kept, all-weaker, after_all_valid, fits, impossible, members_are_positive, nobodys, place-same}
+use Rattle.mt_machine.proofs.Writes.{all-filter, all-kept, all-weaker, after_step, impossible, members_are_positive, nobodys, place-same}
+use Rattle.mt_machine.specs.Taking.{fits}
 
 -- Lists of which some stay.
 
@@ -515,11 +516,11 @@ module _
     (rows_rise : (rows : List Row) (place : Place) (fabric : ℕ) (vs : List Value) → are_ascending rows ≡ true → are_ascending (with_rows place fabric vs rows) ≡ true)
     (entries_rise : (entries new : List AclEntry) (least fabric : ℕ) → least ≤ fabric → ascend_from least entries ≡ true → list_all (is_entry_of fabric) new ≡ true → ascend_from least (with_entries fabric new entries) ≡ true)
   where
-    fits_breadcrumb : (fabrics : List Fabric) → list_all (fits fabrics) (SetRow breadcrumb 0 (values.Uint 0 ∷ []) ∷ []) ≡ true
+    fits_breadcrumb : (fabrics : List Fabric) → fits fabrics (SetRow breadcrumb 0 (values.Uint 0 ∷ [])) ≡ true
     unfolding endpoints clusters_of attributes_of globals extensions_of is_stored
     fits_breadcrumb fabrics = refl
 
     pub rolled-valid : (armed : Option Armed) (s : NodeState) → s.armed ≡ armed → IsValid s → IsValid (rolled_back armed s)
     rolled-valid None s is valid = valid
     rolled-valid (Some armed) s is valid =
-        after_all_valid rows_rise entries_rise None (SetRow breadcrumb 0 (values.Uint 0 ∷ []) ∷ []) (undone armed s) (undone-valid rows_stay entries_stay s valid armed is) (fits_breadcrumb (undone armed s).fabrics)
+        after_step rows_rise entries_rise None (SetRow breadcrumb 0 (values.Uint 0 ∷ [])) (undone armed s) (undone-valid rows_stay entries_stay s valid armed is) (fits_breadcrumb (undone armed s).fabrics)

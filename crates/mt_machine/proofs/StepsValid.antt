@@ -1,5 +1,6 @@
 -- Each step of commissioning leaves a valid state valid.
-use Rattle.std.proofs.Common.{◌≡◌, ℕ, ◌≤◌, Bool, true, List, Option, None, refl, filter, map}
+use Rattle.std.proofs.lemmas.Bool.{and_parts, or_cases}
+use Rattle.std.proofs.Common.{◌≡◌, ℕ, ◌≤◌, inl, inr, Bool, true, List, [], ◌∷◌, Option, None, refl, filter, map}
 use Rattle.std.specs.List.{list_all}
 use Rattle.mt_tlv.specs.declared.value.Value.{Value}
 use Rattle.mt_fabrics.specs.Table.{IsLeastUnused, IsTable, add_refusal, added, label_refusal, labelled, least_unused, removed, update_refusal, updated}
@@ -15,7 +16,8 @@ use Rattle.mt_model.specs.declared.tables.access.AclEntry.{AclEntry}
 use Rattle.mt_model.specs.declared.tables.access.Actor.{Actor}
 use Rattle.mt_model.specs.declared.tables.fabric.Credentials.{Credentials}
 use Rattle.mt_model.specs.declared.tables.fabric.Fabric.{Fabric}
-use Rattle.mt_machine.specs.Effects.{after, connected_to, is_sound_step, moved_to, others_than, with_network}
+use Rattle.mt_machine.specs.Taking.{fits, may_take, may_take_all}
+use Rattle.mt_machine.specs.Effects.{after, after_all, connected_to, is_sound_step, moved_to, others_than, with_network}
 use Rattle.mt_machine.specs.State.{IsValid}
 use Rattle.mt_machine.proofs.ArmedValid.{arm-valid, completes-valid, renew-valid, request-valid, root-valid}
 use Rattle.mt_machine.proofs.ChangedValid.{label-valid, update-valid}
@@ -24,7 +26,7 @@ use Rattle.mt_machine.proofs.LeftValid.{leave-valid}
 use Rattle.mt_machine.proofs.NetworksValid.{connected_hold, moved_hold, networks-valid, others_hold, put_hold}
 use Rattle.mt_machine.proofs.Rolled.{rolled-valid}
 use Rattle.mt_machine.proofs.ValidParts.{its_networks}
-use Rattle.mt_machine.proofs.Writes.{impossible}
+use Rattle.mt_machine.proofs.Writes.{after_step, impossible}
 
 -- by the laws of the model on rows and entries, and those of the fabric table
 module _
@@ -38,7 +40,7 @@ module _
     (table_removed : (index : ℕ) (fabrics : List Fabric) → IsTable fabrics → IsTable (removed index fabrics))
     (table_labelled : (index : ℕ) (label : List ℕ) (fabrics : List Fabric) → IsTable fabrics → label_refusal index label fabrics ≡ None → IsTable (labelled index label fabrics))
   where
-    pub step-valid : (asker : Option Actor) (step : NodeStep) (s : NodeState) → IsValid s → is_sound_step step ≡ true → IsValid (after asker step s)
+    step-valid : (asker : Option Actor) (step : NodeStep) (s : NodeState) → IsValid s → is_sound_step step ≡ true → IsValid (after asker step s)
     step-valid asker (SetRow place fabric values) s valid sound = impossible sound
     step-valid asker (SetEntries fabric new) s valid sound = impossible sound
     step-valid asker (PutNetwork id secret) s valid sound = networks-valid s valid (with_network id secret s.networks) (put_hold id secret sound s.networks (its_networks s valid))
@@ -56,3 +58,16 @@ module _
     step-valid asker (RemoveFabric index) s valid sound = leave-valid rows_stay entries_stay table_removed s valid index
     step-valid asker (Label index label) s valid sound = label-valid table_labelled s valid index label sound
     step-valid asker (Emit place priority fabric value) s valid sound = valid
+
+    -- a step that sets values and fits does so too
+    pub taken-valid : (asker : Option Actor) (step : NodeStep) (s : NodeState) → IsValid s → may_take s step ≡ true → IsValid (after asker step s)
+    taken-valid asker step s valid may = elim (or_cases (fits s.fabrics step) (is_sound_step step) may) [
+      | inl fit ↦ after_step rows_rise entries_rise asker step s valid fit
+      | inr sound ↦ step-valid asker step s valid sound
+    ]
+
+    pub all-taken-valid : (asker : Option Actor) (steps : List NodeStep) (s : NodeState) → IsValid s → may_take_all asker steps s ≡ true → IsValid (after_all asker steps s)
+    all-taken-valid asker [] s valid may = valid
+    all-taken-valid asker (step ∷ steps) s valid may =
+        let both = and_parts (may_take s step) (may_take_all asker steps (after asker step s)) may in
+        all-taken-valid asker steps (after asker step s) (taken-valid asker step s valid both.0) both.1

@@ -16,6 +16,7 @@ use Rattle.mt_model.specs.declared.tables.access.AclEntry.{AclEntry}
 use Rattle.mt_model.specs.declared.tables.fabric.Credentials.{Credentials}
 use Rattle.mt_model.specs.declared.tables.fabric.Fabric.{Fabric}
 use Rattle.mt_model.specs.declared.tables.network.Armed.{Armed}
+use Rattle.mt_machine.specs.Given.{Given}
 use Rattle.mt_machine.specs.Isolation.{Own, has_fabric, is_deadline_in, is_live_for, own, own_of_whole, owns, saved_for, veil, veil_of_whole, with_saved}
 use Rattle.mt_machine.specs.Lines.{next_tick}
 use Rattle.mt_machine.specs.Rollback.{breadcrumb, deadlines_left, ends, given_back, is_due, rolled_back, session_behind, stays, undone}
@@ -26,7 +27,7 @@ use Rattle.mt_machine.proofs.Rolled.{given-index}
 use Rattle.mt_machine.proofs.Steps.{own-alike}
 
 -- two filters give the same in either order
-swap : {X : Type 0} (p q : X → Bool) (xs : List X) → filter p (filter q xs) ≡ filter q (filter p xs)
+pub swap : {X : Type 0} (p q : X → Bool) (xs : List X) → filter p (filter q xs) ≡ filter q (filter p xs)
 swap p q [] = refl
 swap p q (x ∷ xs) = grind (arith, swap p q xs)
 
@@ -132,7 +133,7 @@ module _ (fabric : ℕ) where
   }
 
   -- The whole rollback, which sets Breadcrumb besides.
-  rolled_alike : (armed : Option Armed) (s t : NodeState) → own fabric t ≡ own fabric s → own fabric (rolled_back (option_map (with_saved (saved_for fabric armed)) (option_map bare_armed armed)) t) ≡ own fabric (rolled_back armed s)
+  pub rolled_alike : (armed : Option Armed) (s t : NodeState) → own fabric t ≡ own fabric s → own fabric (rolled_back (option_map (with_saved (saved_for fabric armed)) (option_map bare_armed armed)) t) ≡ own fabric (rolled_back armed s)
   rolled_alike None s t same = same
   rolled_alike (Some armed) s t same =
       own-alike fabric None None (SetRow breadcrumb 0 (values.Uint 0 ∷ []) ∷ []) (undone (veiled_armed armed) t) (undone armed s) refl
@@ -147,8 +148,8 @@ module _ (fabric : ℕ) where
   expired_alike s ms valid true = rolled_alike s.armed (at_time ms s) (at_time ms (veil fabric s)) (own-again fabric s valid.fabrics_rise)
   expired_alike s ms valid false = own-again fabric s valid.fabrics_rise
 
-  node_alike : (s : NodeState) (ms : ℕ) → IsValid s → own fabric (after_action (veil fabric s) Expire ms) ≡ own fabric (after_action s Expire ms)
-  node_alike s ms valid =
+  node_alike : (given : Given) (s : NodeState) (ms : ℕ) → IsValid s → own fabric (after_action given (veil fabric s) Expire ms) ≡ own fabric (after_action given s Expire ms)
+  node_alike given s ms valid =
       ap (λ (due : Bool). own fabric (after_steps None (if due then steps.Expire ∷ [] else []) (at_time ms (veil fabric s)))) (due_alike s.armed (saved_for fabric s.armed) ms)
       ∙ expired_alike s ms valid (is_due s.armed ms)
 
@@ -167,9 +168,9 @@ module _ (fabric : ℕ) where
   deadlines_alike true armed saved ds = left_alike armed saved ds
   deadlines_alike false armed saved ds = twice (is_deadline_in fabric) ds
 
-  pub ticks_on_veil : (s : State) (ms : ℕ) → IsValid s.node → own_of_whole fabric (next_tick (veil_of_whole fabric s) ms) ≡ own_of_whole fabric (next_tick s ms)
-  ticks_on_veil s ms valid = λ i. record {
-    node = node_alike s.node ms valid i;
+  pub ticks_on_veil : (given : Given) (s : State) (ms : ℕ) → IsValid s.node → own_of_whole fabric (next_tick given (veil_of_whole fabric s) ms) ≡ own_of_whole fabric (next_tick given s ms)
+  ticks_on_veil given s ms valid = λ i. record {
+    node = node_alike given s.node ms valid i;
     deadlines = (ap (λ (due : Bool). mine_of (if due then deadlines_left (veil fabric s.node).armed (mine_of s.deadlines) else mine_of s.deadlines)) (due_alike s.node.armed (saved_for fabric s.node.armed) ms)
         ∙ deadlines_alike (is_due s.node.armed ms) s.node.armed (saved_for fabric s.node.armed) s.deadlines) i;
   }

@@ -14,14 +14,15 @@ use Rattle.mt_model.specs.declared.node.state.NodeSession.{NodeSession}
 use Rattle.mt_model.specs.declared.node.state.NodeState.{NodeState}
 use Rattle.mt_model.specs.declared.node.state.Standing.{Standing}
 use Rattle.mt_model.specs.declared.node.state.Standing.TheVariants.{Waits, Live, Ended}
+use Rattle.mt_machine.specs.Given.{Given}
 use Rattle.mt_machine.specs.Effects.{after, after_all, is_setting_step}
 use Rattle.mt_machine.specs.Settings.{setting_cases}
 use Rattle.mt_machine.specs.State.{is_among, is_indexed}
-use Rattle.mt_machine.specs.Step.{after_action, after_steps, aside_of, asker_of, at_time, closed_between, gone_between, is_live, session_asking, steps_of}
+use Rattle.mt_machine.specs.Step.{after_action, after_steps, aside_between, asker_of, at_time, closed_between, gone_between, is_live, steps_of}
 use Rattle.mt_machine.proofs.Settled.{settled-same}
 
-pub sets_time : ((rows others : List Row) → (are_same_rows rows others ≡ true) ↔ (rows ≡ others)) → (s : NodeState) (action : Action) (now : ℕ) → steps_of s action now ≡ [] → after_action s action now ≡ record s { clock = now }
-sets_time same s action now none =
+pub sets_time : ((rows others : List Row) → (are_same_rows rows others ≡ true) ↔ (rows ≡ others)) → (given : Given) (s : NodeState) (action : Action) (now : ℕ) → steps_of given s action now ≡ [] → after_action given s action now ≡ record s { clock = now }
+sets_time same given s action now none =
     ap (λ (steps : List NodeStep). after_steps (asker_of s action) steps (at_time now s)) none ∙ settled-same same (at_time now s)
 
 -- Nothing ends where nothing changes.
@@ -68,15 +69,16 @@ sessions-stay asker (step ∷ steps) s sets =
     let both = and_parts (is_setting_step step) (list_all is_setting_step steps) sets in
     sessions-stay asker steps (after asker step s) both.1 ∙ ap (λ (t : NodeState). t.sessions) (set_alone asker step s both.0)
 
-fabrics-stay : (asker : Option Actor) (steps : List NodeStep) (s : NodeState) → list_all is_setting_step steps ≡ true → (after_all asker steps s).fabrics ≡ s.fabrics
+pub fabrics-stay : (asker : Option Actor) (steps : List NodeStep) (s : NodeState) → list_all is_setting_step steps ≡ true → (after_all asker steps s).fabrics ≡ s.fabrics
 fabrics-stay asker [] s sets = refl
 fabrics-stay asker (step ∷ steps) s sets =
     let both = and_parts (is_setting_step step) (list_all is_setting_step steps) sets in
     fabrics-stay asker steps (after asker step s) both.1 ∙ ap (λ (t : NodeState). t.fabrics) (set_alone asker step s both.0)
 
-pub ends_nothing : (s : NodeState) (action : Action) (now : ℕ) → list_all is_setting_step (steps_of s action now) ≡ true → aside_of s action now ≡ record { session = session_asking s action; closed = []; gone = None }
-ends_nothing s action now sets = λ i. record {
-  session = session_asking s action;
-  closed = (ap (closed_between s.sessions) (sessions-stay (asker_of s action) (steps_of s action now) (at_time now s) sets) ∙ closed_none s.sessions) i;
-  gone = (ap (gone_between s.fabrics) (fabrics-stay (asker_of s action) (steps_of s action now) (at_time now s) sets) ∙ gone_none s.fabrics) i;
+pub ends_nothing : (session : Option ℕ) (asker : Option Actor) (steps : List NodeStep) (s : NodeState) (now : ℕ) → list_all is_setting_step steps ≡ true
+    → aside_between session s (after_steps asker steps (at_time now s)) ≡ record { session = session; closed = []; gone = None }
+ends_nothing session asker steps s now sets = λ i. record {
+  session = session;
+  closed = (ap (closed_between s.sessions) (sessions-stay asker steps (at_time now s) sets) ∙ closed_none s.sessions) i;
+  gone = (ap (gone_between s.fabrics) (fabrics-stay asker steps (at_time now s) sets) ∙ gone_none s.fabrics) i;
 }

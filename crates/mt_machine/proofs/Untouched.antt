@@ -74,11 +74,11 @@ none-has fabric (Some n) none = impossible none
 
 -- What is saved.
 
-armed-saves : (fabric owner now seconds : ℕ) (networks : List Network) (armed : Option Armed) → saved_for fabric (armed_behind owner now seconds networks armed) ≡ saved_for fabric armed
+pub armed-saves : (fabric owner now seconds : ℕ) (networks : List Network) (armed : Option Armed) → saved_for fabric (armed_behind owner now seconds networks armed) ≡ saved_for fabric armed
 armed-saves fabric owner now seconds networks None = refl
 armed-saves fabric owner now seconds networks (Some armed) = refl
 
-renewed-saves : (fabric now seconds : ℕ) (armed : Option Armed) → saved_for fabric (option_map (renewed now seconds) armed) ≡ saved_for fabric armed
+pub renewed-saves : (fabric now seconds : ℕ) (armed : Option Armed) → saved_for fabric (option_map (renewed now seconds) armed) ≡ saved_for fabric armed
 renewed-saves fabric now seconds None = refl
 renewed-saves fabric now seconds (Some armed) = refl
 
@@ -90,32 +90,25 @@ csr-saves : (fabric : ℕ) (nonce : List ℕ) (update : Bool) (armed : Option Ar
 csr-saves fabric nonce update None = refl
 csr-saves fabric nonce update (Some armed) = refl
 
-added-saves : (fabric index : ℕ) (pase : Bool) (armed : Option Armed) → saved_for fabric (option_map (notes.with_added index pase) armed) ≡ saved_for fabric armed
+pub added-saves : (fabric index : ℕ) (pase : Bool) (armed : Option Armed) → saved_for fabric (option_map (notes.with_added index pase) armed) ≡ saved_for fabric armed
 added-saves fabric index pase None = refl
 added-saves fabric index pase (Some armed) = refl
 
-trusting-own : (fabric : ℕ) (cert : List ℕ) (s : NodeState) → own fabric (trusting cert s) ≡ own fabric s
+pub trusting-own : (fabric : ℕ) (cert : List ℕ) (s : NodeState) → own fabric (trusting cert s) ≡ own fabric s
 trusting-own fabric cert s = elim (cases_Bool (notes.may_note_root s.armed)) [
   | inl may ↦ rw may (ap (λ (c : Option Credentials). record (own fabric s) { saved = c }) (root-saves fabric cert s.armed))
   | inr not_now ↦ rw not_now refl
 ]
 
-request-own : (fabric : ℕ) (nonce : List ℕ) (update : Bool) (s : NodeState) → own fabric (with_request nonce update s) ≡ own fabric s
+pub request-own : (fabric : ℕ) (nonce : List ℕ) (update : Bool) (s : NodeState) → own fabric (with_request nonce update s) ≡ own fabric s
 request-own fabric nonce update s = elim (cases_Bool (notes.may_note_csr update s.armed)) [
   | inl may ↦ rw may (ap (λ (c : Option Credentials). record (own fabric s) { saved = c }) (csr-saves fabric nonce update s.armed))
   | inr not_now ↦ rw not_now refl
 ]
 
--- Commissioning is complete, for another fabric.
-module _ (fabric context : ℕ) (apart : (context == fabric) ≡ false) where
-  completed-stays : (auth : Auth) (standing : Standing) → is_live_for fabric standing ≡ true → standing_completed context auth standing ≡ standing
-  completed-stays Pase Waits live = impossible live
-  completed-stays Pase (Live other) live = rw (apart-from other context fabric live apart) refl
-  completed-stays Pase Ended live = impossible live
-  completed-stays Case standing live = refl
-  completed-stays Group standing live = refl
-
-  completed-none : (auth : Auth) (standing : Standing) → is_live_for fabric standing ≡ false → is_live_for fabric (standing_completed context auth standing) ≡ false
+-- Commissioning is complete.
+module _ (fabric context : ℕ) where
+  pub completed-none : (auth : Auth) (standing : Standing) → is_live_for fabric standing ≡ false → is_live_for fabric (standing_completed context auth standing) ≡ false
   completed-none Pase Waits not_live = refl
   completed-none Pase (Live other) not_live = elim (cases_Bool (other == context)) [
     | inl over ↦ rw over refl
@@ -125,10 +118,19 @@ module _ (fabric context : ℕ) (apart : (context == fabric) ≡ false) where
   completed-none Case standing not_live = not_live
   completed-none Group standing not_live = not_live
 
+-- For another fabric.
+module _ (fabric context : ℕ) (apart : (context == fabric) ≡ false) where
+  completed-stays : (auth : Auth) (standing : Standing) → is_live_for fabric standing ≡ true → standing_completed context auth standing ≡ standing
+  completed-stays Pase Waits live = impossible live
+  completed-stays Pase (Live other) live = rw (apart-from other context fabric live apart) refl
+  completed-stays Pase Ended live = impossible live
+  completed-stays Case standing live = refl
+  completed-stays Group standing live = refl
+
   completed-sessions : (sessions : List NodeSession) → filter (λ (session : NodeSession). is_live_for fabric session.standing) (map (session_completed context) sessions) ≡ filter (λ (session : NodeSession). is_live_for fabric session.standing) sessions
   completed-sessions sessions = mine-stay (λ (session : NodeSession). is_live_for fabric session.standing) (λ (session : NodeSession). true) (session_completed context)
       (λ session good live. ap (λ (standing : Standing). record session { standing = standing }) (completed-stays session.auth session.standing live))
-      (λ session good not_live. completed-none session.auth session.standing not_live)
+      (λ session good not_live. completed-none fabric context session.auth session.standing not_live)
       sessions (all-any sessions)
 
   without-plain : (plain : Option ℕ) → has_fabric fabric (plain_without context plain) ≡ has_fabric fabric plain
@@ -161,20 +163,42 @@ completed-own fabric s (Some armed) is facts apart =
       is_plain = without-plain fabric armed.context apart s.plain i;
     }
 
--- Another fabric joins, under an index that nobody has.
-module _ (fabric index : ℕ) (some : (fabric == 0) ≡ false) (apart : (index == fabric) ≡ false) where
-  placed-mine : (f : Fabric) → (f.index == fabric) ≡ false → (fabrics : List Fabric) → filter (is_indexed fabric) (placed f fabrics) ≡ filter (is_indexed fabric) fabrics
-  placed-mine f other [] = rw other refl
-  placed-mine f other (g ∷ fabrics) = elim (cases_Bool (nat_lt g.index f.index)) [
-    | inl below ↦
-        let rest = placed-mine f other fabrics in
-        elim (cases_Bool (g.index == fabric)) [
-          | inl mine ↦ rw (below, mine) (ap (λ (l : List Fabric). g ∷ l) rest)
-          | inr not_mine ↦ rw (below, not_mine) rest
-        ]
-    | inr above ↦ rw (above, other) refl
-  ]
+-- Another fabric joins.
 
+pub placed-mine : (fabric : ℕ) (f : Fabric) → (f.index == fabric) ≡ false → (fabrics : List Fabric) → filter (is_indexed fabric) (placed f fabrics) ≡ filter (is_indexed fabric) fabrics
+placed-mine fabric f other [] = rw other refl
+placed-mine fabric f other (g ∷ fabrics) = elim (cases_Bool (nat_lt g.index f.index)) [
+  | inl below ↦
+      let rest = placed-mine fabric f other fabrics in
+      elim (cases_Bool (g.index == fabric)) [
+        | inl mine ↦ rw (below, mine) (ap (λ (l : List Fabric). g ∷ l) rest)
+        | inr not_mine ↦ rw (below, not_mine) rest
+      ]
+  | inr above ↦ rw (above, other) refl
+]
+
+module _ (fabric index : ℕ) (apart : (index == fabric) ≡ false) where
+  pub joined-none : (asks fits : Bool) (auth : Auth) (standing : Standing) → is_live_for fabric standing ≡ false → is_live_for fabric (standing_joined asks index fits auth standing) ≡ false
+  joined-none asks true Pase Waits not_live = apart
+  joined-none asks false Pase Waits not_live = refl
+  joined-none asks true Case Waits not_live = apart
+  joined-none asks false Case Waits not_live = refl
+  joined-none asks true Group Waits not_live = apart
+  joined-none asks false Group Waits not_live = refl
+  joined-none true fits Pase (Live other) not_live = apart
+  joined-none false fits Pase (Live other) not_live = not_live
+  joined-none asks fits Case (Live other) not_live = not_live
+  joined-none asks fits Group (Live other) not_live = not_live
+  joined-none asks fits Pase Ended not_live = refl
+  joined-none asks fits Case Ended not_live = refl
+  joined-none asks fits Group Ended not_live = refl
+
+  pub index-apart : (plain : Option ℕ) → has_fabric fabric (option_map (λ (other : ℕ). index) plain) ≡ false
+  index-apart None = refl
+  index-apart (Some other) = apart
+
+-- Under an index that nobody has.
+module _ (fabric index : ℕ) (some : (fabric == 0) ≡ false) (apart : (index == fabric) ≡ false) where
   nobodys-apart : (n : ℕ) → (n == 0) ≡ true → (n == fabric) ≡ true → false ≡ true
   nobodys-apart n zero is = sym some ∙ subst (λ (m : ℕ). (m == 0) ≡ true) (eqb-true n fabric is) zero
 
@@ -197,26 +221,11 @@ module _ (fabric index : ℕ) (some : (fabric == 0) ≡ false) (apart : (index =
     joined-stays asks fits Group (Live other) follow live = refl
     joined-stays asks fits Group Ended follow live = impossible live
 
-    joined-none : (asks fits : Bool) (auth : Auth) (standing : Standing) → is_live_for fabric standing ≡ false → is_live_for fabric (standing_joined asks index fits auth standing) ≡ false
-    joined-none asks true Pase Waits not_live = apart
-    joined-none asks false Pase Waits not_live = refl
-    joined-none asks true Case Waits not_live = apart
-    joined-none asks false Case Waits not_live = refl
-    joined-none asks true Group Waits not_live = apart
-    joined-none asks false Group Waits not_live = refl
-    joined-none true fits Pase (Live other) not_live = apart
-    joined-none false fits Pase (Live other) not_live = not_live
-    joined-none asks fits Case (Live other) not_live = not_live
-    joined-none asks fits Group (Live other) not_live = not_live
-    joined-none asks fits Pase Ended not_live = refl
-    joined-none asks fits Case Ended not_live = refl
-    joined-none asks fits Group Ended not_live = refl
-
     joined-sessions : (asker : Option Actor) (joins : Fabric) (sessions : List NodeSession) → list_all (λ (session : NodeSession). follows armed session.auth session.standing) sessions ≡ true
         → filter (λ (session : NodeSession). is_live_for fabric session.standing) (map (session_joined asker index joins) sessions) ≡ filter (λ (session : NodeSession). is_live_for fabric session.standing) sessions
     joined-sessions asker joins = mine-stay (λ (session : NodeSession). is_live_for fabric session.standing) (λ (session : NodeSession). follows armed session.auth session.standing) (session_joined asker index joins)
         (λ session follow live. ap (λ (standing : Standing). record session { standing = standing }) (joined-stays (is_on asker session) (has_identity session.root_key session.fabric_id joins) session.auth session.standing follow live))
-        (λ session follow not_live. joined-none (is_on asker session) (has_identity session.root_key session.fabric_id joins) session.auth session.standing not_live)
+        (λ session follow not_live. joined-none fabric index apart (is_on asker session) (has_identity session.root_key session.fabric_id joins) session.auth session.standing not_live)
 
     plain-nobodys : (plain : Option ℕ) → plain_follows armed plain ≡ true → has_fabric fabric plain ≡ false
     plain-nobodys None follow = refl
@@ -225,13 +234,9 @@ module _ (fabric index : ℕ) (some : (fabric == 0) ≡ false) (apart : (index =
       | inr not_mine ↦ not_mine
     ]
 
-    index-apart : (plain : Option ℕ) → has_fabric fabric (option_map (λ (other : ℕ). index) plain) ≡ false
-    index-apart None = refl
-    index-apart (Some other) = apart
-
     joined-plain : (asker : Option Actor) (plain : Option ℕ) → plain_follows armed plain ≡ true → has_fabric fabric (plain_joined asker index plain) ≡ has_fabric fabric plain
     joined-plain asker plain follow = elim (cases_Bool (is_plain asker)) [
-      | inl its ↦ rw its (index-apart plain ∙ sym (plain-nobodys plain follow))
+      | inl its ↦ rw its (index-apart fabric index apart plain ∙ sym (plain-nobodys plain follow))
       | inr not_its ↦ rw not_its refl
     ]
 
@@ -239,7 +244,7 @@ module _ (fabric index : ℕ) (some : (fabric == 0) ≡ false) (apart : (index =
   joined-as-own asker joins s valid unused is = λ i. record {
     rows = filter (owns fabric) s.rows;
     entries = own_entries fabric s.entries;
-    fabrics = placed-mine (with_index (least_unused s.fabrics) joins) (subst (λ (n : ℕ). (n == fabric) ≡ false) is apart) s.fabrics i;
+    fabrics = placed-mine fabric (with_index (least_unused s.fabrics) joins) (subst (λ (n : ℕ). (n == fabric) ≡ false) is apart) s.fabrics i;
     saved = added-saves fabric index (is_pase asker) s.armed i;
     sessions = joined-sessions s.armed unused asker joins s.sessions valid.sessions_follow i;
     is_plain = joined-plain s.armed unused asker s.plain valid.plain_follow i;
@@ -304,7 +309,7 @@ saves-old : (index : ℕ) (armed : Armed) (old : Option Credentials) → is_arme
 saves-old index armed None by unused = rw (none-has index armed.updated unused) refl
 saves-old index armed (Some old) by unused = rw by refl
 
-saves-what : (index : ℕ) (armed : Option Armed) (old : Option Credentials) → notes.may_note_updated armed ≡ true → is_armed_by index armed ≡ true → saved_for index (option_map (with_saved_credentials old) armed) ≡ old
+pub saves-what : (index : ℕ) (armed : Option Armed) (old : Option Credentials) → notes.may_note_updated armed ≡ true → is_armed_by index armed ≡ true → saved_for index (option_map (with_saved_credentials old) armed) ≡ old
 saves-what index None old may by = impossible may
 saves-what index (Some armed) old may by = saves-old index armed old by (and_parts (is_none armed.added) (is_none armed.updated) (and_parts (notes.is_unused armed) _ may).0).1
 
@@ -314,7 +319,15 @@ saved-before index given s may =
     let by = (and_parts (is_armed_by index s.armed) _ parts.1).0 in
     rw may (saves-what index s.armed (credentials_at index s.fabrics) parts.0 by)
 
--- Another fabric leaves.
+-- A fabric leaves.
+module _ (fabric index : ℕ) where
+  pub session-none : (session : NodeSession) → is_live_for fabric session.standing ≡ false → is_live_for fabric (session_without index session).standing ≡ false
+  session-none session not_live = elim (cases_Bool (is_live_for index session.standing)) [
+    | inl over ↦ rw over refl
+    | inr lives ↦ rw lives not_live
+  ]
+
+-- Another one.
 module _ (fabric index : ℕ) (apart : (index == fabric) ≡ false) where
   left-rows : (rows : List Row) → filter (owns fabric) (filter (λ (row : Row). stays (Some index) row.fabric) rows) ≡ filter (owns fabric) rows
   left-rows = both-filters (owns fabric) (λ (row : Row). stays (Some index) row.fabric) (λ row mine. stays-other (Some index) fabric row.fabric apart (and_parts (row.fabric == fabric) (not (row.fabric == 0)) mine).0)
@@ -333,15 +346,9 @@ module _ (fabric index : ℕ) (apart : (index == fabric) ≡ false) where
   session-stays : (session : NodeSession) → is_live_for fabric session.standing ≡ true → session_without index session ≡ session
   session-stays session live = rw (left-stays session.standing live) refl
 
-  session-none : (session : NodeSession) → is_live_for fabric session.standing ≡ false → is_live_for fabric (session_without index session).standing ≡ false
-  session-none session not_live = elim (cases_Bool (is_live_for index session.standing)) [
-    | inl over ↦ rw over refl
-    | inr lives ↦ rw lives not_live
-  ]
-
   left-sessions : (sessions : List NodeSession) → filter (λ (session : NodeSession). is_live_for fabric session.standing) (map (session_without index) sessions) ≡ filter (λ (session : NodeSession). is_live_for fabric session.standing) sessions
   left-sessions sessions = mine-stay (λ (session : NodeSession). is_live_for fabric session.standing) (λ (session : NodeSession). true) (session_without index)
-      (λ session good live. session-stays session live) (λ session good not_live. session-none session not_live) sessions (all-any sessions)
+      (λ session good live. session-stays session live) (λ session good not_live. session-none fabric index session not_live) sessions (all-any sessions)
 
   left-own : (s : NodeState) → own fabric (without_fabric index s) ≡ own fabric s
   left-own s = elim (cases_Bool (may_leave index s)) [

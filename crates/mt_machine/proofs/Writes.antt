@@ -29,9 +29,9 @@ use Rattle.mt_model.specs.declared.node.state.NodeState.{NodeState}
 use Rattle.mt_model.specs.declared.node.state.Version.{Version}
 use Rattle.mt_model.specs.declared.messages.status.Status.{Status}
 use Rattle.mt_write.specs.Laws.{are_entries_of, is_entry_of, is_sound_row}
-use Rattle.mt_write.specs.Writing.{is_scoped}
 use Rattle.mt_machine.specs.Changes.{change_after, changed_at, count_after, next_change, version_after}
-use Rattle.mt_machine.specs.Effects.{after, after_all}
+use Rattle.mt_machine.specs.Effects.{after}
+use Rattle.mt_machine.specs.Taking.{fits, fits_row}
 use Rattle.mt_machine.specs.State.{IsValid, has_entries_up_to, has_one_row, is_among, is_change_up_to, is_indexed, is_owned, is_row, is_row_at, is_row_of, is_unscoped, stands_once}
 
 -- Lists.
@@ -387,14 +387,25 @@ module _ (s : NodeState) (valid : IsValid s) (fabric : ℕ) (new : List AclEntry
 
 -- Steps that a state with these fabrics can take.
 
-abbrev pub fits_row : List Fabric → ℕ → Bool → List Value → Result Meta Status → Bool
-fits_row fabrics fabric stored values found = is_sound_row stored values found && is_row_of fabrics (is_scoped found) fabric
-
-abbrev pub fits : List Fabric → NodeStep → Bool
-fits fabrics (SetRow place fabric values) = fits_row fabrics fabric (is_stored place) values (find_of place)
-fits fabrics (SetEntries fabric entries) = are_entries_of fabric entries && is_among fabrics fabric
-fits fabrics (Emit place priority fabric value) = true
-fits fabrics step = false
+-- they leave the fabrics as they are
+pub keeps_fabrics : (asker : Option Actor) (step : NodeStep) (s : NodeState) (fabrics : List Fabric) → fits fabrics step ≡ true → (after asker step s).fabrics ≡ s.fabrics
+keeps_fabrics asker (SetRow place fabric values) s fabrics fit = refl
+keeps_fabrics asker (SetEntries fabric new) s fabrics fit = refl
+keeps_fabrics asker (PutNetwork id secret) s fabrics fit = impossible fit
+keeps_fabrics asker (RemoveNetwork id) s fabrics fit = impossible fit
+keeps_fabrics asker (ConnectNetwork id) s fabrics fit = impossible fit
+keeps_fabrics asker (MoveNetwork id index) s fabrics fit = impossible fit
+keeps_fabrics asker (Arm owner seconds) s fabrics fit = impossible fit
+keeps_fabrics asker (Renew seconds) s fabrics fit = impossible fit
+keeps_fabrics asker Expire s fabrics fit = impossible fit
+keeps_fabrics asker Complete s fabrics fit = impossible fit
+keeps_fabrics asker (AddRoot cert) s fabrics fit = impossible fit
+keeps_fabrics asker (Csr nonce update) s fabrics fit = impossible fit
+keeps_fabrics asker (AddFabric joins) s fabrics fit = impossible fit
+keeps_fabrics asker (UpdateFabric index given) s fabrics fit = impossible fit
+keeps_fabrics asker (RemoveFabric index) s fabrics fit = impossible fit
+keeps_fabrics asker (Label index label) s fabrics fit = impossible fit
+keeps_fabrics asker (Emit place priority fabric value) s fabrics fit = refl
 
 module _
     (rows_rise : (rows : List Row) (place : Place) (fabric : ℕ) (values : List Value) → are_ascending rows ≡ true → are_ascending (with_rows place fabric values rows) ≡ true)
@@ -416,7 +427,7 @@ module _
         set_entries s valid fabric new both.0 both.1
         (entries_rise s.entries new 1 fabric (members_are_positive s.fabrics fabric valid.fabrics_rise both.1) valid.entries_rise own)
 
-    after_step : (asker : Option Actor) (step : NodeStep) (s : NodeState) → IsValid s → fits s.fabrics step ≡ true → IsValid (after asker step s)
+    pub after_step : (asker : Option Actor) (step : NodeStep) (s : NodeState) → IsValid s → fits s.fabrics step ≡ true → IsValid (after asker step s)
     after_step asker (SetRow place fabric values) s valid fit =
         renewed s (with_rows place fabric values s.rows) s.entries s.versions s.changes s.changed s.clock valid (row_set s valid place fabric values (find_of place) refl fit) (same_entries s valid) (same_changes s valid)
     after_step asker (SetEntries fabric new) s valid fit =
@@ -436,32 +447,6 @@ module _
     after_step asker (RemoveFabric index) s valid fit = impossible fit
     after_step asker (Label index label) s valid fit = impossible fit
     after_step asker (Emit place priority fabric value) s valid fit = valid
-
-    keeps_fabrics : (asker : Option Actor) (step : NodeStep) (s : NodeState) (fabrics : List Fabric) → fits fabrics step ≡ true → (after asker step s).fabrics ≡ s.fabrics
-    keeps_fabrics asker (SetRow place fabric values) s fabrics fit = refl
-    keeps_fabrics asker (SetEntries fabric new) s fabrics fit = refl
-    keeps_fabrics asker (PutNetwork id secret) s fabrics fit = impossible fit
-    keeps_fabrics asker (RemoveNetwork id) s fabrics fit = impossible fit
-    keeps_fabrics asker (ConnectNetwork id) s fabrics fit = impossible fit
-    keeps_fabrics asker (MoveNetwork id index) s fabrics fit = impossible fit
-    keeps_fabrics asker (Arm owner seconds) s fabrics fit = impossible fit
-    keeps_fabrics asker (Renew seconds) s fabrics fit = impossible fit
-    keeps_fabrics asker Expire s fabrics fit = impossible fit
-    keeps_fabrics asker Complete s fabrics fit = impossible fit
-    keeps_fabrics asker (AddRoot cert) s fabrics fit = impossible fit
-    keeps_fabrics asker (Csr nonce update) s fabrics fit = impossible fit
-    keeps_fabrics asker (AddFabric joins) s fabrics fit = impossible fit
-    keeps_fabrics asker (UpdateFabric index given) s fabrics fit = impossible fit
-    keeps_fabrics asker (RemoveFabric index) s fabrics fit = impossible fit
-    keeps_fabrics asker (Label index label) s fabrics fit = impossible fit
-    keeps_fabrics asker (Emit place priority fabric value) s fabrics fit = refl
-
-    pub after_all_valid : (asker : Option Actor) (steps : List NodeStep) (s : NodeState) → IsValid s → list_all (fits s.fabrics) steps ≡ true → IsValid (after_all asker steps s)
-    after_all_valid asker [] s valid fit = valid
-    after_all_valid asker (step ∷ steps) s valid fit =
-        let both = and_parts (fits s.fabrics step) (list_all (fits s.fabrics) steps) fit in
-        after_all_valid asker steps (after asker step s) (after_step asker step s valid both.0)
-        (subst (λ (fabrics : List Fabric). list_all (fits fabrics) steps ≡ true) (sym (keeps_fabrics asker step s s.fabrics both.0)) both.1)
 
 -- Versions, change numbers and the time that follow.
 

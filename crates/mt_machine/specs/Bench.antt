@@ -12,6 +12,8 @@ use Rattle.mt_model.specs.declared.texts.config.JoinRow.{JoinRow}
 use Rattle.mt_model.specs.declared.texts.config.RootRow.{RootRow}
 use Rattle.mt_model.specs.declared.texts.config.SessionRow.{SessionRow}
 use Rattle.mt_model.specs.declared.tables.fabric.Fabric.{Fabric}
+use Rattle.mt_opcreds.specs.Judged.{judged_by}
+use Rattle.mt_machine.specs.Given.{Given}
 
 -- a public key that is 4 and then one byte throughout
 abbrev pub public_key : ℕ → List ℕ
@@ -161,3 +163,7 @@ bench_of = record {
   joins_are_valid = joins_hold;
   reachable_are_valid = reachable_hold;
 }
+
+-- no certificate was judged, and no network is within reach
+abbrev pub bench_given : Given
+bench_given = record { judged = judged_by [] [] []; reachable = [] }

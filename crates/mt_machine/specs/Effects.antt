@@ -219,6 +219,13 @@ is_setting_step (SetEntries fabric entries) = list_all (is_entry_of fabric) entr
 is_setting_step (Emit place priority fabric value) = true
 is_setting_step step = false
 
+-- a step that sets rows or entries, or tells of an event, whatever they are
+abbrev pub sets_values : NodeStep → Bool
+sets_values (SetRow place fabric values) = true
+sets_values (SetEntries fabric entries) = true
+sets_values (Emit place priority fabric value) = true
+sets_values step = false
+
 -- A step on networks, the fail-safe or the fabric table, whose values have their form.
 abbrev pub is_sound_step : NodeStep → Bool
 is_sound_step (SetRow place fabric values) = false

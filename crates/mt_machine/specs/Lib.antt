@@ -2,9 +2,11 @@ pub mod Bench
 pub mod Changes
 pub mod Commands
 pub mod Effects
+pub mod Given
 pub mod Isolation
 pub mod Joins
 pub mod Laws
+pub mod Leaving
 pub mod Lines
 pub mod Observation
 pub mod Opened
@@ -13,4 +15,5 @@ pub mod Samples
 pub mod Settings
 pub mod State
 pub mod Step
+pub mod Taking
 pub mod Touching

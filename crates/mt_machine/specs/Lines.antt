@@ -21,8 +21,10 @@ use Rattle.mt_model.specs.declared.texts.recording.Sent.{Sent}
 use Rattle.mt_model.specs.declared.texts.recording.To.TheVariants.{Plain}
 use Rattle.mt_model.specs.declared.node.state.NodeState.{NodeState}
 use Rattle.mt_model.specs.declared.messages.status.Status.TheVariants.{Busy, InvalidAction, PathsExhausted}
+use Rattle.mt_machine.specs.Given.{Given}
 use Rattle.mt_machine.specs.Isolation.{is_deadline_in}
 use Rattle.mt_machine.specs.Rollback.{deadlines_left, is_due}
+use Rattle.mt_machine.specs.Leaving.{has_left}
 use Rattle.mt_machine.specs.State.{State}
 use Rattle.mt_machine.specs.Step.{after_action, asker, case_actor, is_built_request, is_late, pase_actor, refusal, reply_of}
 
@@ -95,11 +97,11 @@ is_refused actor deadlines ms request = is_timed request && (not (has_room actor
 
 -- What a line is replied where this actor is taken as asking. A payload that is no request is refused, whatever
 -- deadline stood.
-abbrev pub line_reply : State → Actor → Actor → ℕ → Result Request ImFault → Reply
-line_reply s actor asker ms (Ok request) =
+abbrev pub line_reply : Given → State → Actor → Actor → ℕ → Result Request ImFault → Reply
+line_reply given s actor asker ms (Ok request) =
     if is_refused asker s.deadlines ms request then refusal (code_of Busy)
-    else reply_of s.node (action_of actor (deadline_of asker s.deadlines) (Ok request)) ms
-line_reply s actor asker ms (Err fault) = fault_reply fault
+    else reply_of given s.node (action_of actor (deadline_of asker s.deadlines) (Ok request)) ms
+line_reply given s actor asker ms (Err fault) = fault_reply fault
 
 -- The deadlines behind a line. Whatever the actor sends takes its deadline away; what sets a time, in time and with room,
 -- sets the next one.
@@ -114,6 +116,11 @@ abbrev pub deadlines_after : Option Actor → List PlainDeadline → ℕ → Res
 deadlines_after None deadlines ms asked = deadlines
 deadlines_after (Some asker) deadlines ms asked = with_deadline asker deadlines ms asked
 
+-- The deadlines of a fabric that leaves the table go with it.
+
+abbrev pub deadlines_of_those_left : NodeState → NodeState → List PlainDeadline → List PlainDeadline
+deadlines_of_those_left before now deadlines = filter (λ (deadline : PlainDeadline). not (has_left before now deadline.fabric)) deadlines
+
 -- What is sent.
 
 -- a payload to a plain actor
@@ -125,54 +132,54 @@ abbrev pub sent_as : ℕ → ℕ → Reply → List Sent
 sent_as ms fabric reply = map (sent_plain ms fabric) (chunks_of reply)
 
 -- to whoever is taken as asking; nothing where nobody is
-abbrev pub sent_to : State → Actor → ℕ → Result Request ImFault → Option Actor → List Sent
-sent_to s actor ms asked None = []
-sent_to s actor ms asked (Some asker) = sent_as ms asker.fabric (line_reply s actor asker ms asked)
+abbrev pub sent_to : Given → State → Actor → ℕ → Result Request ImFault → Option Actor → List Sent
+sent_to given s actor ms asked None = []
+sent_to given s actor ms asked (Some asker) = sent_as ms asker.fabric (line_reply given s actor asker ms asked)
 
 -- what a line of a plain actor sends, whose payload comes to this
-abbrev pub sent_for : State → Actor → ℕ → Result Request ImFault → List Sent
-sent_for s actor ms asked = sent_to s actor ms asked (asker s.node actor)
+abbrev pub sent_for : Given → State → Actor → ℕ → Result Request ImFault → List Sent
+sent_for given s actor ms asked = sent_to given s actor ms asked (asker s.node actor)
 
 -- until when the request of an actor must come, where somebody is taken as asking
 abbrev pub deadline_for : State → Option Actor → Option ℕ
 deadline_for s None = None
 deadline_for s (Some asker) = deadline_of asker s.deadlines
 
-abbrev pub next_for : State → Actor → ℕ → Result Request ImFault → State
-next_for s actor ms asked = record {
-  node = after_action s.node (action_of actor (deadline_for s (asker s.node actor)) asked) ms;
-  deadlines = deadlines_after (asker s.node actor) s.deadlines ms asked;
+abbrev pub next_for : Given → State → Actor → ℕ → Result Request ImFault → State
+next_for given s actor ms asked = record {
+  node = after_action given s.node (action_of actor (deadline_for s (asker s.node actor)) asked) ms;
+  deadlines = deadlines_of_those_left s.node (after_action given s.node (action_of actor (deadline_for s (asker s.node actor)) asked) ms) (deadlines_after (asker s.node actor) s.deadlines ms asked);
 }
 
 -- A time step lets the fail-safe expire where it is time: then the deadlines of the fabric that goes, go with it.
-abbrev pub next_tick : State → ℕ → State
-next_tick s ms = record {
-  node = after_action s.node actions.Expire ms;
+abbrev pub next_tick : Given → State → ℕ → State
+next_tick given s ms = record {
+  node = after_action given s.node actions.Expire ms;
   deadlines = if is_due s.node.armed ms then deadlines_left s.node.armed s.deadlines else s.deadlines;
 }
 
 -- what an event sends; a time step sends nothing; other events than these and lines of plain actors are not built
-abbrev pub sent : State → Event → List Sent
-sent s (events.Ask ms fabric node cats opcode payload) = sent_for s (line_actor fabric node cats) ms (request_in opcode payload)
-sent s (events.Datagram ms peer bytes) = []
-sent s (events.Tick ms) = []
-sent s (events.Report ms fabric subscription) = []
-sent s (events.Resend ms session) = []
-sent s (events.Stop calls fate) = []
+abbrev pub sent : Given → State → Event → List Sent
+sent given s (events.Ask ms fabric node cats opcode payload) = sent_for given s (line_actor fabric node cats) ms (request_in opcode payload)
+sent given s (events.Datagram ms peer bytes) = []
+sent given s (events.Tick ms) = []
+sent given s (events.Report ms fabric subscription) = []
+sent given s (events.Resend ms session) = []
+sent given s (events.Stop calls fate) = []
 
 -- the state behind an event
-abbrev pub next : State → Event → State
-next s (events.Ask ms fabric node cats opcode payload) = next_for s (line_actor fabric node cats) ms (request_in opcode payload)
-next s (events.Datagram ms peer bytes) = s
-next s (events.Tick ms) = next_tick s ms
-next s (events.Report ms fabric subscription) = s
-next s (events.Resend ms session) = s
-next s (events.Stop calls fate) = s
+abbrev pub next : Given → State → Event → State
+next given s (events.Ask ms fabric node cats opcode payload) = next_for given s (line_actor fabric node cats) ms (request_in opcode payload)
+next given s (events.Datagram ms peer bytes) = s
+next given s (events.Tick ms) = next_tick given s ms
+next given s (events.Report ms fabric subscription) = s
+next given s (events.Resend ms session) = s
+next given s (events.Stop calls fate) = s
 
 -- all that a list of events sends
-abbrev pub run : State → List Event → List Sent
-run s [] = []
-run s (event ∷ events) = sent s event ++ run (next s event) events
+abbrev pub run : Given → State → List Event → List Sent
+run given s [] = []
+run given s (event ∷ events) = sent given s event ++ run given (next given s event) events
 
 -- Which events are built: payloads that are no request, and requests that are built.
 

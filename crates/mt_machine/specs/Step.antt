@@ -32,8 +32,9 @@ use Rattle.mt_model.specs.declared.messages.status.Status.TheVariants.{InvalidAc
 use Rattle.mt_read.specs.Reading.{read_answer}
 use Rattle.mt_write.specs.Writing.{write_answer}
 use Rattle.mt_apps.specs.EntryEvents.{entry_events}
+use Rattle.mt_machine.specs.Given.{Given}
 use Rattle.mt_machine.specs.Changes.{settled}
-use Rattle.mt_machine.specs.Commands.{command_effect, is_commissioning}
+use Rattle.mt_machine.specs.Commands.{command_effect}
 use Rattle.mt_machine.specs.Effects.{after_all}
 use Rattle.mt_machine.specs.Observation.{observation}
 use Rattle.mt_machine.specs.Rollback.{is_due}
@@ -120,32 +121,32 @@ abbrev pub write_steps : Observation → Actor → Bool → Bool → List WriteI
 write_steps o actor stood timed items = if is_untimely stood timed then [] else with_events o actor (write_answer o.seen actor items timed).rows
 
 -- A command is answered with its response or its status, unless it asks for no answer. It is carried out all the same.
-abbrev pub invoke_reply : Observation → Actor → Bool → Bool → Bool → Place → Value → Reply
-invoke_reply o actor stood suppress timed command fields =
+abbrev pub invoke_reply : Given → Observation → Actor → Bool → Bool → Bool → Place → Value → Reply
+invoke_reply given o actor stood suppress timed command fields =
     if is_untimely stood timed then refusal (code_of TimedRequestMismatch)
-    else unless_suppressed suppress (command_effect o actor timed command fields).reply
+    else unless_suppressed suppress (command_effect given o actor timed command fields).reply
 
-abbrev pub invoke_steps : Observation → Actor → Bool → Bool → Place → Value → List NodeStep
-invoke_steps o actor stood timed command fields = if is_untimely stood timed then [] else (command_effect o actor timed command fields).steps
+abbrev pub invoke_steps : Given → Observation → Actor → Bool → Bool → Place → Value → List NodeStep
+invoke_steps given o actor stood timed command fields = if is_untimely stood timed then [] else (command_effect given o actor timed command fields).steps
 
 -- The reply to a request, made of what the asker's fabric observes and of whether a deadline stood for the request. A
 -- status is no request; what sets a time is answered with success. Subscriptions are not built.
-abbrev pub reply_to : Observation → Actor → Bool → Request → Reply
-reply_to o actor stood (requests.Status code) = refusal (code_of InvalidAction)
-reply_to o actor stood (requests.Read paths wanted minimum filtered versions) = read_reply o actor paths filtered versions
-reply_to o actor stood (requests.Subscribe keep floor ceiling paths wanted minimum filtered versions) = replies.Nothing
-reply_to o actor stood (requests.Write suppress timed items) = write_reply o actor stood suppress timed items
-reply_to o actor stood (requests.Invoke suppress timed command fields) = invoke_reply o actor stood suppress timed command fields
-reply_to o actor stood (requests.Timed ms) = refusal (code_of Success)
+abbrev pub reply_to : Given → Observation → Actor → Bool → Request → Reply
+reply_to given o actor stood (requests.Status code) = refusal (code_of InvalidAction)
+reply_to given o actor stood (requests.Read paths wanted minimum filtered versions) = read_reply o actor paths filtered versions
+reply_to given o actor stood (requests.Subscribe keep floor ceiling paths wanted minimum filtered versions) = replies.Nothing
+reply_to given o actor stood (requests.Write suppress timed items) = write_reply o actor stood suppress timed items
+reply_to given o actor stood (requests.Invoke suppress timed command fields) = invoke_reply given o actor stood suppress timed command fields
+reply_to given o actor stood (requests.Timed ms) = refusal (code_of Success)
 
 -- what a reply makes of the state: of the requests that are built writes and commands alone change anything
-abbrev pub steps_to : Observation → Actor → Bool → Request → List NodeStep
-steps_to o actor stood (requests.Status code) = []
-steps_to o actor stood (requests.Read paths wanted minimum filtered versions) = []
-steps_to o actor stood (requests.Subscribe keep floor ceiling paths wanted minimum filtered versions) = []
-steps_to o actor stood (requests.Write suppress timed items) = write_steps o actor stood timed items
-steps_to o actor stood (requests.Invoke suppress timed command fields) = invoke_steps o actor stood timed command fields
-steps_to o actor stood (requests.Timed ms) = []
+abbrev pub steps_to : Given → Observation → Actor → Bool → Request → List NodeStep
+steps_to given o actor stood (requests.Status code) = []
+steps_to given o actor stood (requests.Read paths wanted minimum filtered versions) = []
+steps_to given o actor stood (requests.Subscribe keep floor ceiling paths wanted minimum filtered versions) = []
+steps_to given o actor stood (requests.Write suppress timed items) = write_steps o actor stood timed items
+steps_to given o actor stood (requests.Invoke suppress timed command fields) = invoke_steps given o actor stood timed command fields
+steps_to given o actor stood (requests.Timed ms) = []
 
 -- whether the deadline has passed
 abbrev pub is_late : Option ℕ → ℕ → Bool
@@ -154,21 +155,21 @@ is_late (Some deadline) now = nat_lt deadline now
 
 -- A request later than its deadline is refused, whatever it asks, and makes nothing of the state.
 
-abbrev pub reply_in_time : NodeState → Actor → Request → Option ℕ → ℕ → Reply
-reply_in_time s asker request deadline now = if is_late deadline now then refusal (code_of Timeout) else reply_to (observation asker.fabric s) asker (is_some deadline) request
+abbrev pub reply_in_time : Given → NodeState → Actor → Request → Option ℕ → ℕ → Reply
+reply_in_time given s asker request deadline now = if is_late deadline now then refusal (code_of Timeout) else reply_to given (observation asker.fabric s) asker (is_some deadline) request
 
-abbrev pub steps_in_time : NodeState → Actor → Request → Option ℕ → ℕ → List NodeStep
-steps_in_time s asker request deadline now = if is_late deadline now then [] else steps_to (observation asker.fabric s) asker (is_some deadline) request
+abbrev pub steps_in_time : Given → NodeState → Actor → Request → Option ℕ → ℕ → List NodeStep
+steps_in_time given s asker request deadline now = if is_late deadline now then [] else steps_to given (observation asker.fabric s) asker (is_some deadline) request
 
 -- Nothing is replied where nobody is taken as asking.
 
-abbrev pub asked_reply : NodeState → Request → Option ℕ → ℕ → Option Actor → Reply
-asked_reply s request deadline now None = replies.Nothing
-asked_reply s request deadline now (Some asker) = reply_in_time s asker request deadline now
+abbrev pub asked_reply : Given → NodeState → Request → Option ℕ → ℕ → Option Actor → Reply
+asked_reply given s request deadline now None = replies.Nothing
+asked_reply given s request deadline now (Some asker) = reply_in_time given s asker request deadline now
 
-abbrev pub asked_steps : NodeState → Request → Option ℕ → ℕ → Option Actor → List NodeStep
-asked_steps s request deadline now None = []
-asked_steps s request deadline now (Some asker) = steps_in_time s asker request deadline now
+abbrev pub asked_steps : Given → NodeState → Request → Option ℕ → ℕ → Option Actor → List NodeStep
+asked_steps given s request deadline now None = []
+asked_steps given s request deadline now (Some asker) = steps_in_time given s asker request deadline now
 
 -- An action at a time.
 
@@ -184,15 +185,15 @@ asker_of s (Ask actor request deadline) = asker s actor
 asker_of s Expire = None
 asker_of s Nothing = None
 
-abbrev pub reply_of : NodeState → Action → ℕ → Reply
-reply_of s (Ask actor request deadline) now = asked_reply s request deadline now (asker s actor)
-reply_of s Expire now = replies.Nothing
-reply_of s Nothing now = replies.Nothing
+abbrev pub reply_of : Given → NodeState → Action → ℕ → Reply
+reply_of given s (Ask actor request deadline) now = asked_reply given s request deadline now (asker s actor)
+reply_of given s Expire now = replies.Nothing
+reply_of given s Nothing now = replies.Nothing
 
-abbrev pub steps_of : NodeState → Action → ℕ → List NodeStep
-steps_of s (Ask actor request deadline) now = asked_steps s request deadline now (asker s actor)
-steps_of s Expire now = if is_due s.armed now then steps.Expire ∷ [] else []
-steps_of s Nothing now = []
+abbrev pub steps_of : Given → NodeState → Action → ℕ → List NodeStep
+steps_of given s (Ask actor request deadline) now = asked_steps given s request deadline now (asker s actor)
+steps_of given s Expire now = if is_due s.armed now then steps.Expire ∷ [] else []
+steps_of given s Nothing now = []
 
 -- the state behind its steps, with the versions and change numbers that follow
 abbrev pub after_steps : Option Actor → List NodeStep → NodeState → NodeState
@@ -202,8 +203,8 @@ abbrev pub at_time : ℕ → NodeState → NodeState
 at_time now s = record s { clock = now }
 
 -- the state behind it: it is this time, and its steps are made
-abbrev pub after_action : NodeState → Action → ℕ → NodeState
-after_action s action now = after_steps (asker_of s action) (steps_of s action now) (at_time now s)
+abbrev pub after_action : Given → NodeState → Action → ℕ → NodeState
+after_action given s action now = after_steps (asker_of s action) (steps_of given s action now) (at_time now s)
 
 -- What else an action does: on whose session it was asked, which sessions end, which fabric leaves the table.
 
@@ -232,15 +233,17 @@ pub record Aside : Type 0 where
   pub closed : List ℕ
   pub gone : Option ℕ
 
-abbrev pub aside_of : NodeState → Action → ℕ → Aside
-aside_of s action now = record {
-  session = session_asking s action;
-  closed = closed_between s.sessions (after_action s action now).sessions;
-  gone = gone_between s.fabrics (after_action s action now).fabrics;
+abbrev pub aside_between : Option ℕ → NodeState → NodeState → Aside
+aside_between session before now = record {
+  session = session;
+  closed = closed_between before.sessions now.sessions;
+  gone = gone_between before.fabrics now.fabrics;
 }
 
--- Which actions are built: statuses, reads without event paths, writes, commands but for those of the clusters by which
--- fabrics join, and what sets a time.
+abbrev pub aside_of : Given → NodeState → Action → ℕ → Aside
+aside_of given s action now = aside_between (session_asking s action) s (after_action given s action now)
+
+-- Which actions are built: statuses, reads without event paths, writes, commands, and what sets a time.
 
 abbrev pub is_nil : List Path → Bool
 is_nil [] = true
@@ -251,7 +254,7 @@ is_built_request (requests.Status code) = true
 is_built_request (requests.Read paths wanted minimum filtered versions) = is_nil wanted
 is_built_request (requests.Subscribe keep floor ceiling paths wanted minimum filtered versions) = false
 is_built_request (requests.Write suppress timed items) = true
-is_built_request (requests.Invoke suppress timed command fields) = not (is_commissioning command.cluster)
+is_built_request (requests.Invoke suppress timed command fields) = true
 is_built_request (requests.Timed ms) = true
 
 abbrev pub is_built_action : Action → Bool

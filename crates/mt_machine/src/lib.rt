@@ -12,7 +12,9 @@
 //! - `Lines`: one line of a recording: its action, what is sent, the state behind it;
 //! - `Rollback`: what an expiry of the fail-safe takes back;
 //! - `Opened`: the state in which a new node begins;
-//! - `Touching`: which steps of commissioning may change what is a fabric's own;
+//! - `Taking`: which steps a state takes, so that it stays valid;
+//! - `Touching`: which steps of commissioning may change what is a fabric's own, and which a fabric makes;
+//! - `Leaving`: which fabrics leave the table between two states;
 //! - `Settings`: of what kinds the steps are that set values;
 //! - `Joins`: what steps of commissioning and an expiry make of a bench node;
 //! - `Laws`: the laws.
@@ -24,10 +26,11 @@ ghost use Rattle.mt_model.specs.declared.node.state.Standing.TheVariants.{Live, 
 ghost use Rattle.mt_machine.specs.Bench.{bench_entries};
 ghost use Rattle.mt_machine.specs.Effects.{after_all};
 ghost use Rattle.mt_machine.specs.Joins.{end_of, first_administrator, indexes, joined_again, joined_by, labels, left_by_owner, nocs, node_label, number_row, owner_and_context, plain_pase, renewed_late, rows_at, session_pase, standings, ticked, updated_node};
-ghost use Rattle.mt_machine.specs.Laws.{ChangesNowhere, EndsNothing, ExpiresWhereDue, HidesWhatIsSaved, KeepsItsOwnPart, KeepsItsPublicView, KeepsTheOwn, LeavesItsOwnByItsView, LeavesTheOwnOnTheVeil, OpensValid, PassesOtherwise, RollsBackValid, SeesItsViewAlone, SavesWhatItHad, SeesTheVeil, SendsOnTheVeil, SetsTheTime, SetsValues, SparesOthers, StandsInOrder, StaysSettled, StaysValid, StepsSpareOthers, StepsStayValid, TakesTheAddedAway, TicksOnTheVeil, TicksSeeTheMarkAlone, TicksSpareOthers};
+ghost use Rattle.mt_machine.specs.Laws.{AllStayValid, ChangesNowhere, EndsNothing, ExpiresWhereDue, HidesWhatIsSaved, KeepsItsOwnPart, KeepsItsPublicView, KeepsTheOwn, LeavesItsOwnByItsView, LeavesTheOwnOnTheVeil, LeftIsGone, LeftIsGoneBehindAnExpiry, OneLeaves, OpensValid, PassesOtherwise, RemovalsSeeTheVeil, RollsBackValid, SavesWhatItHad, SeesItsViewAlone, SeesTheVeil, SendsOnTheVeil, SetsTheTime, SparesOthers, StandsInOrder, StaysSettled, StaysValid, StepsSeeTheVeil, StepsSpareOthers, StepsStayValid, TakenValuesFit, TakesItsSteps, TakesTheAddedAway, TicksOnTheVeil, TicksSeeTheMarkAlone, TicksSpareOthers, TimesStayValid};
 ghost use Rattle.mt_machine.specs.Rollback.{breadcrumb};
 ghost use Rattle.mt_machine.specs.Samples.{acl_report, data_report, denial_report, empty_report, hidden_report, invalid_action, no_cluster_report, no_endpoint_report, read_acl, read_acl_anywhere, read_cluster_99, read_endpoint_7, read_on_off, sent_to_reader, too_deep};
 
+use mt_commission::{steps_are_sound, steps_stand_first};
 use mt_fabrics::{the_index_is_the_least, valid_tables_stay_valid};
 use mt_meta::stored_places_are_those_of_the_model;
 use mt_model::{
@@ -35,6 +38,7 @@ use mt_model::{
     rows_of_a_place_are_in_order, set_entries_stand_in_order, set_rows_stand_in_order,
     what_is_told_the_same_is, what_stays_stands_in_order,
 };
+use mt_opcreds::{steps_are_moves, steps_are_well_formed, steps_fit};
 use mt_write::{nobody_writes_scoped, writes_keep_forms, writes_touch_their_own};
 
 /// What a fabric observes of a state is what it observes of the veil, which is made of its own part and
@@ -69,6 +73,13 @@ pub fn leaves_the_own_on_the_veil()
     writes_keep_forms();
     nobody_writes_scoped();
     stored_places_are_those_of_the_model();
+    steps_are_sound();
+    steps_stand_first();
+    steps_are_well_formed();
+    steps_fit();
+    steps_are_moves();
+    the_index_is_the_least();
+    steps_see_the_veil();
 }
 
 /// The own part that an event leaves to its fabric is determined by that part and by what is public to it, as
@@ -80,9 +91,17 @@ pub fn leaves_its_own_by_its_view()
     writes_keep_forms();
     nobody_writes_scoped();
     stored_places_are_those_of_the_model();
+    steps_are_sound();
+    steps_stand_first();
+    steps_are_well_formed();
+    steps_fit();
+    steps_are_moves();
+    the_index_is_the_least();
+    steps_see_the_veil();
 }
 
-/// An event that is no time step changes nothing that is another fabric's own.
+/// An event that is no time step changes nothing that is the own of another fabric, unless that enters the table or
+/// leaves it.
 pub fn keeps_the_own()
     ensures { KeepsTheOwn }
 {
@@ -91,20 +110,38 @@ pub fn keeps_the_own()
     writes_touch_their_own();
     writes_keep_forms();
     nobody_writes_scoped();
+    what_stays_stands_in_order();
+    steps_are_sound();
+    steps_stand_first();
+    steps_are_well_formed();
+    steps_fit();
+    steps_are_moves();
+    the_index_is_the_least();
+    steps_leave_states_valid();
 }
 
-/// The state of a new node is valid, and actions leave it so.
+/// The state of a new node is valid. A valid state takes the steps of each action one after the other, and each
+/// action leaves it valid.
 pub fn states_are_valid()
     ensures opens { OpensValid }
+    ensures takes { TakesItsSteps }
+    ensures times { TimesStayValid }
     ensures stays { StaysValid }
 {
     numbered_fabrics_ascend();
+    valid_tables_stay_valid();
+    the_index_is_the_least();
+    steps_are_sound();
+    steps_are_well_formed();
+    steps_fit();
+    steps_are_moves();
     set_rows_stand_in_order();
     set_entries_stand_in_order();
     writes_touch_their_own();
     writes_keep_forms();
     nobody_writes_scoped();
     what_stays_stands_in_order();
+    steps_stand_first();
 }
 
 /// A time step lets the fail-safe expire exactly where it is armed and its end has come, and then makes the
@@ -135,10 +172,11 @@ pub fn expiries_spare_others()
     what_stays_stands_in_order();
 }
 
-/// Each step of commissioning, which is on networks, the fail-safe or the fabric table, leaves a valid state
-/// valid: the limits hold, and the facts of the fail-safe.
+/// Each step that a valid state takes leaves it valid, whether it sets values or is on networks, the fail-safe or
+/// the fabric table: the limits hold, and the facts of the fail-safe. So do all that it takes one after the other.
 pub fn steps_leave_states_valid()
-    ensures { StepsStayValid }
+    ensures each { StepsStayValid }
+    ensures all { AllStayValid }
 {
     set_rows_stand_in_order();
     set_entries_stand_in_order();
@@ -158,20 +196,43 @@ pub fn steps_spare_others()
     what_stays_stands_in_order();
 }
 
+/// On the veil of the fabric that makes it, a step of commissioning leaves the same own part as on the state, and
+/// so does a removal behind an expiry, by which a fabric leaves for which commissioning goes on.
+pub fn steps_see_the_veil()
+    ensures each { StepsSeeTheVeil }
+    ensures removal { RemovalsSeeTheVeil }
+{}
+
+/// By a step at most one fabric leaves the table: the first that is not there any more. So it is with a removal
+/// behind an expiry that takes no fabric away, and so with every action.
+pub fn one_leaves()
+    ensures each { LeftIsGone }
+    ensures removal { LeftIsGoneBehindAnExpiry }
+    ensures action { OneLeaves }
+{
+    writes_touch_their_own();
+    writes_keep_forms();
+    nobody_writes_scoped();
+    stored_places_are_those_of_the_model();
+    steps_are_sound();
+    steps_stand_first();
+    steps_are_well_formed();
+    steps_fit();
+    steps_are_moves();
+}
+
 /// An action that makes no step sets the time, and nothing else of the state: no version moves, since none does
-/// where nothing differs. The steps that requests make set rows of stored places and access control entries, or tell
-/// of events, and such steps end no session and take no fabric away.
+/// where nothing differs. The steps that a state takes and that set values set rows of stored places and entries of the
+/// fabric that they name, or tell of events. Steps that set rows of stored places and access control entries, or tell of events, end no
+/// session and take no fabric away.
 pub fn actions_set_values()
     ensures time { SetsTheTime }
     ensures settled { StaysSettled }
     ensures nowhere { ChangesNowhere }
-    ensures values { SetsValues }
+    ensures taken { TakenValuesFit }
     ensures nothing_ends { EndsNothing }
 {
     what_is_told_the_same_is();
-    writes_touch_their_own();
-    writes_keep_forms();
-    nobody_writes_scoped();
     stored_places_are_those_of_the_model();
 }
 

@@ -1,5 +1,6 @@
 pub mod Choices
 pub mod Forms
+pub mod Moves
 pub mod Others
 pub mod Steps
 pub mod Taken

@@ -5,6 +5,7 @@ pub mod CsrRequest
 pub mod Fields
 pub mod Judged
 pub mod Laws
+pub mod Moves
 pub mod Owner
 pub mod RemoveFabric
 pub mod Responses

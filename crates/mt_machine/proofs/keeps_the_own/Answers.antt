@@ -5,6 +5,8 @@ use Rattle.mt_machine.proofs.keeps_the_own.Goals as goal
 pub returns : goal.returns
 returns c =
     keeps_own
+    c.writes_touch_their_own.ensures c.writes_keep_forms.ensures c.nobody_writes_scoped.ensures c.steps_are_sound.ensures c.steps_stand_first.ensures c.steps_are_well_formed.ensures c.steps_fit.ensures c.steps_are_moves.ensures
+    c.what_stays_stands_in_order.ensures.rows c.what_stays_stands_in_order.ensures.entries
     c.set_rows_stand_in_order.ensures.ascending c.set_rows_stand_in_order.ensures.others
     (λ es new whose. c.set_entries_stand_in_order.ensures.ascending es new 0 whose (omega arith)) c.set_entries_stand_in_order.ensures.others
-    c.writes_touch_their_own.ensures c.writes_keep_forms.ensures c.nobody_writes_scoped.ensures
+    c.the_index_is_the_least.ensures c.steps_leave_states_valid.ensures.each

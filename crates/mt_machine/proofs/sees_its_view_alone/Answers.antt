@@ -5,7 +5,7 @@ use Rattle.mt_machine.proofs.Veiled.{sends_on_veil}
 use Rattle.mt_machine.proofs.sees_its_view_alone.Goals as goal
 
 pub returns : goal.returns
-returns c = λ s t e valid_s valid_t fabric own public.
-    sym (sends_on_veil s e valid_s)
-    ∙ (λ i. sent (whole_of (fabric i) (own i) (public i)) e)
-    ∙ sends_on_veil t e valid_t
+returns c = λ given s t e valid_s valid_t fabric own public.
+    sym (sends_on_veil given s e valid_s)
+    ∙ (λ i. sent given (whole_of (fabric i) (own i) (public i)) e)
+    ∙ sends_on_veil given t e valid_t

@@ -1,0 +1,107 @@
+-- By an action at most one fabric leaves the table, which is the one that is told as gone.
+use Rattle.std.proofs.Common.{◌≡◌, ℕ, ◌==◌, ◌&&◌, not, Bool, true, false, List, [], ◌∷◌, Option, Some, None, option_map, refl, sym, ap, ◌∙◌, subst, is_ok, if◌then◌else◌}
+use Rattle.std.proofs.lemmas.Bool.{and_parts, eqb-true}
+use Rattle.mt_commission.specs.Laws as commission
+use Rattle.mt_commission.specs.Laws.{StepsAreSound, StepsStandFirst}
+use Rattle.mt_meta.specs.Finding.{find_of}
+use Rattle.mt_meta.specs.Stored.{is_stored}
+use Rattle.mt_model.specs.rows.Stored.{is_stored_place}
+use Rattle.mt_model.specs.tables.Known.{bare_armed, known_to}
+use Rattle.mt_model.specs.declared.messages.message.Request.{Request}
+use Rattle.mt_model.specs.declared.node.action.Action.{Action}
+use Rattle.mt_model.specs.declared.node.action.Action.TheVariants as actions
+use Rattle.mt_model.specs.declared.node.action.NodeStep.{NodeStep}
+use Rattle.mt_model.specs.declared.node.action.NodeStep.TheVariants.{RemoveNetwork, Expire, AddRoot, Csr, AddFabric, UpdateFabric, RemoveFabric, Label}
+use Rattle.mt_model.specs.declared.node.state.NodeState.{NodeState}
+use Rattle.mt_model.specs.declared.rows.place.Place.{Place}
+use Rattle.mt_model.specs.declared.tables.access.Actor.{Actor}
+use Rattle.mt_model.specs.declared.tables.fabric.Fabric.{Fabric}
+use Rattle.mt_model.specs.declared.tables.network.Armed.{Armed}
+use Rattle.mt_opcreds.specs.Laws.{KeepsRules, StepsAreWellFormed, StepsFit}
+use Rattle.mt_opcreds.specs.Moves.{IsMove, StepsAreMoves, expires, expires_and_leaves, joins, leaves, names, nothing, renews, requests, trusts}
+use Rattle.mt_opcreds.specs.RemoveFabric as removal
+use Rattle.mt_write.specs.Laws.{LeavesSound, NobodySetsScoped, TouchesItsOwn}
+use Rattle.mt_machine.specs.Effects.{after, after_all}
+use Rattle.mt_machine.specs.Given.{Given}
+use Rattle.mt_machine.specs.Isolation.{has_fabric}
+use Rattle.mt_machine.specs.Leaving.{has_left}
+use Rattle.mt_machine.specs.Rollback.{added_in, is_due}
+use Rattle.mt_machine.specs.State.{IsValid, is_added, is_among, is_updated, keeps_facts}
+use Rattle.mt_machine.specs.Step.{after_action, aside_of, asked_steps, asker, at_time, gone_between}
+use Rattle.mt_machine.proofs.AlikeLeft.{left_behind_expiry, left_is_gone}
+use Rattle.mt_machine.proofs.Asked.{asked_by, asker_asks, asker_known, is_asker, is_known}
+use Rattle.mt_machine.proofs.Good.{setting_steps}
+use Rattle.mt_machine.proofs.Sparing.{left_alone}
+use Rattle.mt_machine.proofs.Times.{fabrics-stay}
+use Rattle.mt_machine.proofs.Writes.{impossible, timed_valid}
+
+abbrev LeftOne : NodeState → NodeState → Type 0
+LeftOne s t = (fabric : ℕ) → has_left s t fabric ≡ has_fabric fabric (gone_between s.fabrics t.fabrics)
+
+-- the fabrics alone say so
+same_one : (s t u : NodeState) → u.fabrics ≡ t.fabrics → LeftOne s t → LeftOne s u
+same_one s t u same one fabric =
+    ap (λ (fs : List Fabric). is_among s.fabrics fabric && not (is_among fs fabric)) same ∙ one fabric ∙ ap (λ (fs : List Fabric). has_fabric fabric (gone_between s.fabrics fs)) (sym same)
+
+none_leaves : (s : NodeState) → LeftOne s s
+none_leaves s fabric = left_is_gone fabric None (RemoveNetwork []) s
+
+by_step : (asker : Option Actor) (step : NodeStep) (s : NodeState) → LeftOne s (after asker step s)
+by_step asker step s fabric = left_is_gone fabric asker step s
+
+-- where commissioning goes on for a fabric that was not added, none was
+none_added : (s : NodeState) → IsValid s → (index : ℕ) (armed : Option Armed) → s.armed ≡ armed → removal.is_context index (option_map bare_armed armed) ≡ true → removal.was_added index (option_map bare_armed armed) ≡ false → added_in armed ≡ None
+none_added s valid index None is context not_added = refl
+none_added s valid index (Some armed) is context not_added = by_added armed.added facts not_added
+  where
+    facts : is_added s.fabrics armed armed.added ≡ true
+    facts = (and_parts (is_added s.fabrics armed armed.added) (is_updated s.fabrics armed armed.added armed.updated) (subst (λ (a : Option Armed). keeps_facts s.fabrics a ≡ true) is valid.failsafe_facts)).0
+
+    by_added : (added : Option ℕ) → is_added s.fabrics armed added ≡ true → removal.is_it index added ≡ false → added ≡ None
+    by_added None its not_it = refl
+    by_added (Some added) its not_it =
+        let same : armed.context ≡ added = eqb-true armed.context added (and_parts (armed.context == added) (is_among s.fabrics added) its).0 in
+        impossible (sym not_it ∙ subst (λ n. (n == index) ≡ true) same context)
+
+module _ (touches : TouchesItsOwn) (sound : LeavesSound) (nobody : NobodySetsScoped) (sound_steps : StepsAreSound) (first_steps : StepsStandFirst) (well : StepsAreWellFormed) (fit : StepsFit) (moves : StepsAreMoves)
+    (kept : (place : Place) → is_stored_place place ≡ (is_stored place && is_ok (find_of place))) (given : Given) (keeps : KeepsRules given.judged) where
+  module _ (t : NodeState) (asking : Actor) where
+    abbrev One : List NodeStep → Type 0
+    One steps = LeftOne t (after_all (Some asking) steps t)
+
+    commission_one : (steps : List NodeStep) → commission.sets_values_behind steps ≡ true → One steps
+    commission_one [] behind = none_leaves t
+    commission_one (step ∷ steps) behind = same_one t (after (Some asking) step t) (after_all (Some asking) (step ∷ steps) t) (left_alone (Some asking) steps (after (Some asking) step t) behind).fabrics (by_step (Some asking) step t)
+
+  moved_one : (s : NodeState) (valid : IsValid s) (writer : ℕ) (asker : Option Actor) (steps : List NodeStep) → IsMove (known_to writer s.fabrics s.networks s.armed) writer steps → LeftOne s (after_all asker steps s)
+  moved_one s valid writer asker steps (nothing is) = subst (λ l. LeftOne s (after_all asker l s)) (sym is) (none_leaves s)
+  moved_one s valid writer asker steps (requests nonce update is) = subst (λ l. LeftOne s (after_all asker l s)) (sym is) (by_step asker (Csr nonce update) s)
+  moved_one s valid writer asker steps (trusts cert is) = subst (λ l. LeftOne s (after_all asker l s)) (sym is) (by_step asker (AddRoot cert) s)
+  moved_one s valid writer asker steps (joins new entries own is) = subst (λ l. LeftOne s (after_all asker l s)) (sym is) (by_step asker (AddFabric new) s)
+  moved_one s valid writer asker steps (renews its is) = subst (λ l. LeftOne s (after_all asker l s)) (sym is) (by_step asker (UpdateFabric writer its) s)
+  moved_one s valid writer asker steps (names label is) = subst (λ l. LeftOne s (after_all asker l s)) (sym is) (by_step asker (Label writer label) s)
+  moved_one s valid writer asker steps (leaves index free is) = subst (λ l. LeftOne s (after_all asker l s)) (sym is) (by_step asker (RemoveFabric index) s)
+  moved_one s valid writer asker steps (expires index context was is) = subst (λ l. LeftOne s (after_all asker l s)) (sym is) (by_step asker Expire s)
+  moved_one s valid writer asker steps (expires_and_leaves index context was_not is) =
+      subst (λ l. LeftOne s (after_all asker l s)) (sym is) (λ fabric. left_behind_expiry fabric asker index s (none_added s valid index s.armed refl context was_not))
+
+  asked_one : (s : NodeState) (valid : IsValid s) (request : Request) (deadline : Option ℕ) (now : ℕ) (asking : Option Actor) → is_known s.fabrics asking ≡ true → is_asker asking ≡ true
+      → LeftOne s (after_all asking (asked_steps given s request deadline now asking) (at_time now s))
+  asked_one s valid request deadline now None known asks = none_leaves s
+  asked_one s valid request deadline now (Some actor) known asks =
+      let t = at_time now s in
+      asked_by touches sound nobody sound_steps first_steps well fit moves given keeps s valid actor (λ (steps : List NodeStep). LeftOne s (after_all (Some actor) steps t))
+      (none_leaves s)
+      (λ steps its fit_all. same_one s s (after_all (Some actor) steps t) (fabrics-stay (Some actor) steps t (setting_steps kept s.fabrics steps fit_all)) (none_leaves s))
+      (λ steps sound_all first. commission_one t actor steps first)
+      (λ steps good fit_all move. moved_one t (timed_valid s now valid) actor.fabric (Some actor) steps move)
+      known asks request deadline now
+
+  due_one : (s : NodeState) (now : ℕ) (due : Bool) → LeftOne s (after_all None (if due then Expire ∷ [] else []) (at_time now s))
+  due_one s now true = by_step None Expire (at_time now s)
+  due_one s now false = none_leaves s
+
+  pub action_one : (s : NodeState) (action : Action) (now fabric : ℕ) → IsValid s → has_left s (after_action given s action now) fabric ≡ has_fabric fabric (aside_of given s action now).gone
+  action_one s (actions.Ask actor request deadline) now fabric valid = asked_one s valid request deadline now (asker s actor) (asker_known s actor valid) (asker_asks s actor valid) fabric
+  action_one s actions.Expire now fabric valid = due_one s now (is_due s.armed now) fabric
+  action_one s actions.Nothing now fabric valid = none_leaves s fabric
