@@ -1,0 +1,2 @@
+pub mod Expired
+pub mod Table
