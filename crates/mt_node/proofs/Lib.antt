@@ -2,13 +2,13 @@ pub mod Ample
 pub mod Applied
 pub mod Observed
 pub mod Closed
+pub mod Counts
 pub mod Differ
 pub mod EntriesBehind
-pub mod Expiring
 pub mod Filters
-pub mod Given
 pub mod Orderly
 pub mod Plans
+pub mod Rules
 pub mod RowsBehind
 pub mod Same
 pub mod Sessions

@@ -1,6 +1,5 @@
 pub mod Answered
 pub mod Differences
-pub mod Expired
 pub mod Kept
 pub mod Plan
 pub mod Sessions

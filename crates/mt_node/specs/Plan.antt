@@ -7,16 +7,18 @@ use Rattle.mt_model.specs.rows.Setting.{is_other_at, with_rows}
 use Rattle.mt_model.specs.rows.Sight.{same_place}
 use Rattle.mt_model.specs.declared.tables.access.Actor.{Actor}
 use Rattle.mt_model.specs.declared.node.action.Action.{Action}
-use Rattle.mt_model.specs.declared.node.action.Action.TheVariants.{Ask}
 use Rattle.mt_model.specs.declared.node.action.NodeStep.{NodeStep}
 use Rattle.mt_model.specs.declared.node.action.NodeStep.TheVariants.{SetRow, SetEntries}
 use Rattle.mt_model.specs.declared.rows.place.Place.{Place}
 use Rattle.mt_model.specs.declared.rows.place.Row.{Row}
-use Rattle.mt_model.specs.declared.messages.message.Request.{Request}
 use Rattle.mt_model.specs.declared.node.state.NodeState.{NodeState}
 use Rattle.mt_machine.specs.Changes.{changed_at}
 use Rattle.mt_machine.specs.Effects.{after_all, is_setting_step}
-use Rattle.mt_machine.specs.Step.{Aside, after_action, after_steps, aside_of, asker, at_time, reply_of}
+use Rattle.mt_machine.specs.Given.{Given}
+use Rattle.mt_machine.specs.Isolation.{has_fabric}
+use Rattle.mt_machine.specs.Leaving.{has_left}
+use Rattle.mt_machine.specs.State.{IsValid}
+use Rattle.mt_machine.specs.Step.{Aside, after_action, after_steps, aside_between, aside_of, at_time, reply_of, steps_of}
 use Rattle.mt_model.specs.declared.node.action.Effect.{Effect}
 use Rattle.mt_node.specs.declared.outcome.Outcome.{Outcome}
 
@@ -92,26 +94,30 @@ IsReadyAs (Some behind) s outcome = ⊤
 abbrev pub IsReady : NodeState → Outcome → Type 0
 IsReady s outcome = IsReadyAs outcome.behind s outcome
 
+-- An outcome that brings no state makes these steps as it is put in place.
+abbrev pub MakesSteps : Option NodeState → Outcome → List NodeStep → Type 0
+MakesSteps None outcome steps = outcome.steps ≡ steps
+MakesSteps (Some behind) outcome steps = ⊤
+
 -- The outcome is that of an answer to whoever is taken as asking, at this time, whose steps it makes.
 pub record IsMade (s : NodeState) (asking : Option Actor) (answered : Effect) (now : ℕ) (outcome : Outcome) : Type 0 where
   pub reply : outcome.reply ≡ answered.reply
-  pub aside : aside_in outcome ≡ record { session = option_and_then (λ (actor : Actor). actor.session) asking; closed = []; gone = None }
-  pub steps : outcome.steps ≡ answered.steps
-  pub behind : outcome.behind ≡ None
-  pub state : list_all is_setting_step answered.steps ≡ true → made_by outcome (at_time outcome.clock s) ≡ after_steps asking answered.steps (at_time now s)
-  pub room : HasRoom s outcome
-
--- The outcome is that of this action at this time.
-pub record IsPlan (s : NodeState) (action : Action) (now : ℕ) (outcome : Outcome) : Type 0 where
-  pub reply : outcome.reply ≡ reply_of s action now
-  pub aside : aside_in outcome ≡ aside_of s action now
-  pub state : applied outcome s ≡ after_action s action now
+  pub steps : MakesSteps outcome.behind outcome answered.steps
+  pub aside : aside_in outcome ≡ aside_between (option_and_then (λ (actor : Actor). actor.session) asking) s (after_steps asking answered.steps (at_time now s))
+  pub state : applied outcome s ≡ after_steps asking answered.steps (at_time now s)
   pub ready : IsReady s outcome
+
+-- The outcome is that of this action at this time, where this is given. The state behind it is valid, and the fabric that leaves the table,
+-- where one does, is the one that is gone.
+pub record IsPlan (given : Given) (s : NodeState) (action : Action) (now : ℕ) (outcome : Outcome) : Type 0 where
+  pub reply : outcome.reply ≡ reply_of given s action now
+  pub steps : MakesSteps outcome.behind outcome (steps_of given s action now)
+  pub aside : aside_in outcome ≡ aside_of given s action now
+  pub state : applied outcome s ≡ after_action given s action now
+  pub ready : IsReady s outcome
+  pub valid : IsValid (applied outcome s)
+  pub leaves : (fabric : ℕ) → has_left s (applied outcome s) fabric ≡ has_fabric fabric outcome.gone
 
 -- the outcome was made on this state
 abbrev pub IsPlanned : NodeState → Outcome → Type 0
-IsPlanned s outcome = (action : Action) × ((now : ℕ) × IsPlan s action now outcome)
-
--- The outcome is that of a request, whoever asked it that is taken as this asker.
-abbrev pub IsPlanFor : NodeState → Actor → Request → ℕ → Option ℕ → Outcome → Type 0
-IsPlanFor s asking request now timed outcome = (actor : Actor) → asker s actor ≡ Some asking → IsPlan s (Ask actor request timed) now outcome
+IsPlanned s outcome = (given : Given) × ((action : Action) × ((now : ℕ) × IsPlan given s action now outcome))

@@ -9,9 +9,12 @@ ghost use Rattle.mt_model.specs.texts.Config.{ascend_from};
 ghost use Rattle.mt_model.specs.declared.tables.access.Actor.{Actor};
 ghost use Rattle.mt_model.specs.declared.node.state.NodeState.{NodeState};
 ghost use Rattle.mt_machine.specs.Changes.{change_after, count_after, is_within, next_change, version_after};
-ghost use Rattle.mt_machine.specs.Effects.{after, after_all, is_setting_step};
+ghost use Rattle.mt_machine.specs.Effects.{after, after_all, is_setting_step, sets_values};
+ghost use Rattle.mt_machine.specs.Step.{at_time};
+ghost use Rattle.mt_machine.specs.Taking.{may_take_all};
 ghost use Rattle.mt_node.specs.Plan.{HaveRoom, IsMade, IsReady, IsRoomFor, applied, entries_in, needed, rows_behind};
 
+use crate::behind::made_whole;
 use crate::differences::differing;
 use crate::node::Node;
 use crate::outcome::Outcome;
@@ -25,7 +28,8 @@ use mt_model::{
 use std::alloc::{AllocError, Global};
 use std::mem::replace;
 
-/// The outcome of an answer to whoever is taken as asking. One that makes no step takes no memory.
+/// The outcome of an answer to whoever is taken as asking, whose steps the state takes. One that makes no step takes
+/// no memory, and steps that set values are made in place; for others the state behind is made whole.
 pub(crate) fn outcome(
     alloc: Global,
     node: &Node,
@@ -33,11 +37,49 @@ pub(crate) fn outcome(
     answered: Effect,
     now: u64,
 ) -> Result<Outcome, AllocError>
+    requires { may_take_all asking answered.steps (at_time now node.now.state) ≡ true }
     ensures { IfOk result (IsMade node.now.state asking answered now) }
 {
+    actions_set_values();
     if answered.steps.is_empty() {
         return Ok(unchanged(alloc, asking, answered, now));
     }
+    if set_values(answered.steps.as_slice()) {
+        return made_in_place(alloc, node, asking, answered, now);
+    }
+    made_whole(node, asking, answered, now)
+}
+
+// Whether steps do no more than set values.
+fn set_values(steps: &[NodeStep]) -> bool
+    ensures { result ≡ list_all sets_values steps.now }
+{
+    steps.iter().all(|step| sets_values(step))
+}
+
+fn sets_values(step: &NodeStep) -> bool
+    ensures { result ≡ sets_values step.now }
+{
+    match step {
+        NodeStep::SetRow { .. } => true,
+        NodeStep::SetEntries { .. } => true,
+        NodeStep::Emit { .. } => true,
+        _ => false,
+    }
+}
+
+// The outcome of steps that set values: they are made as the outcome is put in place, in room that it brings.
+fn made_in_place(
+    alloc: Global,
+    node: &Node,
+    asking: Option<Actor>,
+    answered: Effect,
+    now: u64,
+) -> Result<Outcome, AllocError>
+    requires { list_all is_setting_step answered.steps ≡ true }
+    ensures { IfOk result (IsMade node.now.state asking answered now) }
+{
+    actions_set_values();
     let steps = answered.steps.as_slice();
     let places = differing(alloc, node, steps)?;
     let rows_rooms = rooms(alloc, &node.state.rows, steps)?;

@@ -7,7 +7,7 @@
 //! - `requests`: the table of requests, and which area answers each;
 //! - `reads`, `writes`, `commands`: the areas;
 //! - `differences`: which attributes differ behind the steps of an answer;
-//! - `expiry`: what an expiry of the fail-safe makes of the state;
+//! - `behind`: the state behind steps that do more than set values;
 //! - `between`: what differs between two states;
 //! - `effects`: what the steps of an answer make of the state;
 //! - `rooms`: the room for the rows that the steps set;
@@ -16,11 +16,11 @@
 #![tactic(auto)]
 
 mod actors;
+mod behind;
 mod between;
 mod commands;
 mod differences;
 mod effects;
-mod expiry;
 mod node;
 mod opening;
 mod outcome;

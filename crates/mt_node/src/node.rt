@@ -1,22 +1,29 @@
 //! The node.
 
-ghost use Rattle.std.specs.Prelude.{◌≡◌, ◌↔◌, None, true, false, IfOk};
+ghost use Rattle.std.specs.Prelude.{◌≡◌, ◌↔◌, ◌∷◌, [], None, Some, true, false, IfOk, if◌then◌else◌};
+ghost use Rattle.mt_model.specs.declared.node.action.NodeStep.TheVariants.{Expire};
+ghost use Rattle.mt_machine.specs.Given.{Given};
 ghost use Rattle.mt_machine.specs.Rollback.{is_due};
 ghost use Rattle.mt_machine.specs.State.{IsValid};
 ghost use Rattle.mt_machine.specs.Step.{asker, is_built_action, is_built_request, is_late, session_actor};
-ghost use Rattle.mt_node.specs.Answered.{IsAnswerInTime};
-ghost use Rattle.mt_node.specs.Kept.{in_state, started};
-ghost use Rattle.mt_node.specs.Plan.{IsPlan, IsPlanFor, IsPlanned, applied};
+ghost use Rattle.mt_node.specs.Answered.{IsAnswerInTime, is_of_credentials};
+ghost use Rattle.mt_node.specs.Kept.{given_to, in_state, started};
+ghost use Rattle.mt_node.specs.Plan.{IsPlan, IsPlanned, applied};
+ghost use Rattle.mt_opcreds.specs.Judged.{judged_by};
+ghost use Rattle.mt_opcreds.specs.Laws.{KeepsRules};
 ghost use Rattle.mt_node.specs.Sessions.{is_live_session};
 
 use crate::effects::{outcome, unchanged};
-use crate::expiry::expired;
 use crate::opening::opened;
 use crate::outcome::Outcome;
 use crate::requests::{answered, nothing, refused};
 use crate::{actors, effects};
-use mt_machine::{actions_set_values, states_are_valid};
-use mt_model::{Action, Actor, Armed, Config, Effect, ExactCopy, NodeState, Request, Status};
+use mt_machine::{one_leaves, states_are_valid};
+use mt_meta::clusters::OPERATIONAL_CREDENTIALS;
+use mt_model::{
+    Action, Actor, Armed, Config, Effect, ExactCopy, NodeState, NodeStep, Reply, Request, Roots,
+    Status, Steps, Verdicts,
+};
 use std::alloc::{AllocError, Global};
 use std::marker::Model;
 
@@ -59,11 +66,18 @@ impl Node {
         })
     }
 
-    /// Plans an action, at this time in ms. It changes nothing, and takes all the memory: what is answered, and
-    /// room for the rows and entries that there will be.
-    pub fn plan(&self, action: &Action, now: u64) -> Result<Outcome, AllocError>
+    /// Plans an action, at this time in ms, by the verdicts on certificates that are handed in. It changes nothing, and
+    /// takes all the memory: what is answered, and room for the rows and entries that there will be, or the state
+    /// behind it.
+    pub fn plan<V: Verdicts>(
+        &self,
+        action: &Action,
+        now: u64,
+        verdicts: &V,
+    ) -> Result<Outcome, AllocError>
         requires { is_built_action action.now ≡ true }
-        ensures { IfOk result (IsPlan self.now.state action.now now) }
+        ensures { let given = given_to self.now (V.roots verdicts.now) (V.csrs verdicts.now) (V.joins verdicts.now) in
+            IfOk result (IsPlan given self.now.state action.now now) }
     {
         match action {
             Action::Ask {
@@ -71,7 +85,7 @@ impl Node {
                 request,
                 timed,
             } => match self.asker(actor) {
-                Some(asking) => self.plan_asked(&asking, request, *timed, now),
+                Some(asking) => self.plan_asked(actor, &asking, request, *timed, now, verdicts),
                 None => Ok(self.quiet(now)),
             },
             Action::Expire => self.plan_expiry(now),
@@ -79,56 +93,67 @@ impl Node {
         }
     }
 
-    // Plans an expiry, where it is time for one.
-    fn plan_expiry(&self, now: u64) -> Result<Outcome, AllocError>
-        ensures { IfOk result (IsPlan self.now.state Action.Expire now) }
-    {
-        if is_due(&self.state.armed, now) {
-            return expired(self, now);
-        }
-        actions_set_values();
-        let outcome = unchanged(self.alloc, None, nothing(self.alloc), now);
-        Ok(outcome)
-    }
-
-    /// Plans to answer a request of whoever is taken as asking, as `asker` tells, at this time in ms.
-    pub fn plan_asked(
+    /// Plans to answer a request of an actor that is taken as `asking`, as `asker` tells, at this time in ms.
+    pub fn plan_asked<V: Verdicts>(
         &self,
+        actor: &Actor,
         asking: &Actor,
         request: &Request,
         timed: Option<u64>,
         now: u64,
+        verdicts: &V,
     ) -> Result<Outcome, AllocError>
-        requires { is_built_request request.now ≡ true }
-        ensures { IfOk result (IsPlanFor self.now.state asking.now request.now now timed) }
+        requires asks { asker self.now.state actor.now ≡ Some asking.now }
+        requires built { is_built_request request.now ≡ true }
+        ensures { let given = given_to self.now (V.roots verdicts.now) (V.csrs verdicts.now) (V.joins verdicts.now) in
+            IfOk result (IsPlan given self.now.state (Action.Ask actor.now request.now timed) now) }
     {
-        let answered = self.answered_in_time(asking, request, timed, now)?;
-        actions_set_values();
+        let answered = self.answered_in_time(asking, request, timed, now, verdicts)?;
+        states_are_valid();
+        one_leaves();
+        rules_hold_where_asked(request, verdicts);
         outcome(self.alloc, self, Some(*asking), answered, now)
     }
 
     // What a request is answered that must have come until a time.
-    fn answered_in_time(
+    fn answered_in_time<V: Verdicts>(
         &self,
         asking: &Actor,
         request: &Request,
         timed: Option<u64>,
         now: u64,
+        verdicts: &V,
     ) -> Result<Effect, AllocError>
         requires { is_built_request request.now ≡ true }
-        ensures { IfOk result (IsAnswerInTime self.now.state asking.now request.now timed now) }
+        ensures { let given = given_to self.now (V.roots verdicts.now) (V.csrs verdicts.now) (V.joins verdicts.now) in
+            IfOk result (IsAnswerInTime given self.now.state asking.now request.now timed now) }
     {
         if is_late(timed, now) {
             return Ok(refused(self.alloc, Status::Timeout));
         }
-        answered(self, asking, timed.is_some(), request)
+        answered(self, asking, timed.is_some(), request, verdicts)
+    }
+
+    // Plans an expiry, where it is time for one.
+    fn plan_expiry(&self, now: u64) -> Result<Outcome, AllocError>
+        ensures { (given : Given) → IfOk result (IsPlan given self.now.state Action.Expire now) }
+    {
+        states_are_valid();
+        one_leaves();
+        let steps = expiry(self.alloc, is_due(&self.state.armed, now))?;
+        let answered = Effect {
+            reply: Reply::Nothing,
+            steps,
+        };
+        outcome(self.alloc, self, None, answered, now)
     }
 
     // The outcome of what nobody asks.
     fn quiet(&self, now: u64) -> Outcome
-        ensures { IsPlan self.now.state Action.Nothing now result }
+        ensures { (given : Given) → IsPlan given self.now.state Action.Nothing now result }
     {
-        actions_set_values();
+        states_are_valid();
+        one_leaves();
         unchanged(self.alloc, None, nothing(self.alloc), now)
     }
 
@@ -137,9 +162,14 @@ impl Node {
         requires { IsPlanned self.old.state outcome }
         ensures { self.new ≡ in_state (applied outcome self.old.state) self.old }
     {
-        actions_set_values();
-        states_are_valid();
         effects::apply(self.alloc, &mut self.state, outcome);
+    }
+
+    // The ids of the networks that are within reach.
+    pub(crate) fn reachable(&self) -> &Roots
+        ensures { result.now ≡ self.now.config.reachable }
+    {
+        &self.config.reachable
     }
 
     /// The state of a node is valid at every time. It does nothing.
@@ -167,6 +197,17 @@ impl Node {
     }
 }
 
+// The steps of an expiry, where one is due.
+fn expiry(alloc: Global, due: bool) -> Result<Steps, AllocError>
+    ensures { IfOk result (λ steps. steps ≡ (if due then Expire ∷ [] else [])) }
+{
+    let mut steps = Steps::new(alloc);
+    if due {
+        steps.push(NodeStep::Expire)?;
+    }
+    Ok(steps)
+}
+
 // Whether it is time that the fail-safe expires.
 fn is_due(armed: &Option<Armed>, now: u64) -> bool
     ensures { result ≡ is_due armed.now now }
@@ -183,5 +224,26 @@ fn is_late(timed: Option<u64>, now: u64) -> bool
     match timed {
         Some(deadline) => deadline < now,
         None => false,
+    }
+}
+
+// The rows of verdicts keep the rules of their kinds, as each of their calls says. It is asked for where a command may
+// need them.
+fn rules_hold_where_asked<V: Verdicts>(request: &Request, verdicts: &V)
+    ensures { is_of_credentials request.now ≡ true → KeepsRules (judged_by (V.roots verdicts.now) (V.csrs verdicts.now) (V.joins verdicts.now)) }
+{
+    if is_of_credentials(request) {
+        let _ = verdicts.root(&[]);
+        let _ = verdicts.csr(&[]);
+        let _ = verdicts.join(&[], &[], &[]);
+    }
+}
+
+fn is_of_credentials(request: &Request) -> bool
+    ensures { result ≡ is_of_credentials request.now }
+{
+    match request {
+        Request::Invoke { command, .. } => command.cluster == OPERATIONAL_CREDENTIALS,
+        _ => false,
     }
 }

@@ -3,18 +3,17 @@
 ghost use Rattle.std.specs.Prelude.{◌≡◌, [], true, IfOk};
 ghost use Rattle.mt_model.specs.messages.Status.{code_of};
 ghost use Rattle.mt_model.specs.declared.messages.message.Reply.TheVariants.{Nothing};
-ghost use Rattle.mt_machine.specs.Commands.{is_commissioning};
 ghost use Rattle.mt_machine.specs.Step.{is_built_request, is_untimely, refusal, unless_suppressed};
 ghost use Rattle.mt_node.specs.Answered.{IsAnswer};
+ghost use Rattle.mt_node.specs.Kept.{given_to};
 
 use crate::node::Node;
 use crate::{commands, reads, writes};
-use mt_meta::clusters::{GENERAL_COMMISSIONING, NETWORK_COMMISSIONING, OPERATIONAL_CREDENTIALS};
-use mt_model::{Actor, Effect, Reply, Request, Status, Steps};
+use mt_model::{Actor, Effect, Reply, Request, Status, Steps, Verdicts};
 use std::alloc::{AllocError, Global};
 
 /// Whether a request is one of those that are built so far: statuses, reads that ask for no events, writes,
-/// commands but for those of the clusters by which fabrics join, and requests that set a time.
+/// commands, and requests that set a time.
 pub fn is_built_request(request: &Request) -> bool
     ensures { result ≡ is_built_request request.now }
 {
@@ -23,29 +22,22 @@ pub fn is_built_request(request: &Request) -> bool
         Request::Read { events, .. } => events.as_slice().is_empty(),
         Request::Subscribe { .. } => false,
         Request::Write { .. } => true,
-        Request::Invoke { command, .. } => !is_commissioning(command.cluster),
+        Request::Invoke { .. } => true,
         Request::Timed { .. } => true,
     }
 }
 
-// The clusters by which fabrics join.
-fn is_commissioning(cluster: u32) -> bool
-    ensures { result ≡ is_commissioning cluster }
-{
-    cluster == GENERAL_COMMISSIONING
-        || cluster == NETWORK_COMMISSIONING
-        || cluster == OPERATIONAL_CREDENTIALS
-}
-
 /// What a request of whoever is taken as asking is answered, where a deadline stood for it or none did.
-pub(crate) fn answered(
+pub(crate) fn answered<V: Verdicts>(
     node: &Node,
     asking: &Actor,
     stood: bool,
     request: &Request,
+    verdicts: &V,
 ) -> Result<Effect, AllocError>
     requires { is_built_request request.now ≡ true }
-    ensures { IfOk result (IsAnswer node.now.state asking.now stood request.now) }
+    ensures { let given = given_to node.now (V.roots verdicts.now) (V.csrs verdicts.now) (V.joins verdicts.now) in
+        IfOk result (IsAnswer given node.now.state asking.now stood request.now) }
 {
     match request {
         Request::Status { .. } => Ok(refused(node.alloc, Status::InvalidAction)),
@@ -66,7 +58,9 @@ pub(crate) fn answered(
             timed,
             command,
             fields,
-        } => commands::answered(node, asking, stood, *suppress, *timed, command, fields),
+        } => commands::answered(
+            node, asking, stood, *suppress, *timed, command, fields, verdicts,
+        ),
         Request::Timed { .. } => Ok(refused(node.alloc, Status::Success)),
     }
 }

@@ -1,6 +1,6 @@
 //! What of the node answers are made of.
 
-ghost use Rattle.std.specs.Prelude.{◌≡◌, IfOk, IsTrue};
+ghost use Rattle.std.specs.Prelude.{◌≡◌, IfOk, IsTrue, option_copied};
 ghost use Rattle.mt_model.specs.rows.Order.{are_ascending, fabrics_ascend};
 ghost use Rattle.mt_model.specs.texts.Config.{ascend_from};
 ghost use Rattle.mt_model.specs.rows.Sight.{stands_at, version_in};
@@ -79,6 +79,7 @@ fn copied(alloc: Global, rows: &[Row]) -> Result<Rows, AllocError>
 pub(crate) fn view(node: &Node) -> View<'_>
     ensures parts { parts_in result ≡ parts node.now.state }
     ensures rows { result.rows.now ≡ node.now.state.rows }
+    ensures armed { option_copied result.armed ≡ node.now.state.armed }
 {
     view_of(&node.state)
 }
@@ -89,6 +90,7 @@ pub(crate) fn view_of(state: &NodeState) -> View<'_>
     requires fabrics { IsTrue (fabrics_ascend state.now.fabrics) }
     ensures parts { parts_in result ≡ parts state.now }
     ensures rows { result.rows.now ≡ state.now.rows }
+    ensures armed { option_copied result.armed ≡ state.now.armed }
 {
     View {
         rows: &state.rows,

@@ -8,14 +8,14 @@ use Rattle.mt_model.specs.declared.texts.recording.Event.{Event}
 use Rattle.mt_model.specs.declared.texts.recording.Sent.{Sent}
 use Rattle.mt_files.specs.Lines.{ended}
 use Rattle.mt_files.specs.Output.{output_text, sent_line}
-use Rattle.mt_machine.specs.Lines.{built_events, is_built, next, run, sent}
-use Rattle.mt_machine.specs.State.{State}
+use Rattle.mt_machine.specs.Lines.{built_events, is_built, run}
+use Rattle.mt_top.specs.Begun.{Begun, behind, sent_by}
 use Rattle.mt_top.specs.declared.fault.Fault.TheVariants.{Unbuilt}
 use Rattle.mt_top.specs.Endings.{unbuilt_from}
 
 -- what is sent for events, up to the first that is not built
-abbrev pub sent_of : State → List Event → List Sent
-sent_of s events = run s (built_events events)
+abbrev pub sent_of : Begun → List Event → List Sent
+sent_of s events = run s.given s.state (built_events events)
 
 pub output-append : (xs ys : List Sent) → output_text (xs ++ ys) ≡ output_text xs ++ output_text ys
 output-append [] ys = refl
@@ -26,11 +26,11 @@ pub output-one : (xs : List Sent) (x : Sent) → output_text (xs ++ x ∷ []) �
 output-one xs x = output-append xs (x ∷ []) ∙ ap (λ (w : List ℕ). output_text xs ++ w) (append-nil (ended (sent_line x)))
 
 -- an event that is built
-sent_built : (s : State) (event : Event) (events : List Event) → is_built event ≡ true → sent_of s (event ∷ events) ≡ sent s event ++ sent_of (next s event) events
-sent_built s event events built = ap (run s) (take_while-cons is_built event events) ∙ ap (λ t. run s (cond t (event ∷ built_events events) [])) built
+sent_built : (s : Begun) (event : Event) (events : List Event) → is_built event ≡ true → sent_of s (event ∷ events) ≡ sent_by s event ++ sent_of (behind s event) events
+sent_built s event events built = ap (run s.given s.state) (take_while-cons is_built event events) ∙ ap (λ t. run s.given s.state (cond t (event ∷ built_events events) [])) built
 
-sent_unbuilt : (s : State) (event : Event) (events : List Event) → is_built event ≡ false → sent_of s (event ∷ events) ≡ []
-sent_unbuilt s event events not = ap (run s) (take_while-cons is_built event events) ∙ ap (λ t. run s (cond t (event ∷ built_events events) [])) not
+sent_unbuilt : (s : Begun) (event : Event) (events : List Event) → is_built event ≡ false → sent_of s (event ∷ events) ≡ []
+sent_unbuilt s event events not = ap (run s.given s.state) (take_while-cons is_built event events) ∙ ap (λ t. run s.given s.state (cond t (event ∷ built_events events) [])) not
 
 unbuilt_built : (line : ℕ) (event : Event) (events : List Event) → is_built event ≡ true → unbuilt_from line (event ∷ events) ≡ unbuilt_from (line + 1) events
 unbuilt_built line event events built = ap (λ t. cond t (unbuilt_from (line + 1) events) (Some (Unbuilt line))) built
@@ -42,24 +42,24 @@ unbuilt_here line event events not = ap (λ t. cond t (unbuilt_from (line + 1) e
 pub drop_event : (all : List Event) (i : ℕ) (event : Event) → i < length all → event ≡ get_or all i event → drop i all ≡ event ∷ drop (i + 1) all
 drop_event all i event lt is = drop_more all i event lt ∙ ap (λ e. e ∷ drop (i + 1) all) (sym is)
 
-pub sent-step : (s new : State) (all : List Event) (i : ℕ) (event : Event) → i < length all → event ≡ get_or all i event → is_built event ≡ true → new ≡ next s event → sent_of s (drop i all) ≡ sent s event ++ sent_of new (drop (i + 1) all)
+pub sent-step : (s new : Begun) (all : List Event) (i : ℕ) (event : Event) → i < length all → event ≡ get_or all i event → is_built event ≡ true → new ≡ behind s event → sent_of s (drop i all) ≡ sent_by s event ++ sent_of new (drop (i + 1) all)
 sent-step s new all i event lt is built step =
     ap (sent_of s) (drop_event all i event lt is)
     ∙ sent_built s event (drop (i + 1) all) built
-    ∙ ap (λ x. sent s event ++ sent_of x (drop (i + 1) all)) (sym step)
+    ∙ ap (λ x. sent_by s event ++ sent_of x (drop (i + 1) all)) (sym step)
 
 pub unbuilt-step : (line : ℕ) (all : List Event) (i : ℕ) (event : Event) → i < length all → event ≡ get_or all i event → is_built event ≡ true → unbuilt_from line (drop i all) ≡ unbuilt_from (line + 1) (drop (i + 1) all)
 unbuilt-step line all i event lt is built = ap (unbuilt_from line) (drop_event all i event lt is) ∙ unbuilt_built line event (drop (i + 1) all) built
 
 -- the event at this place is not built
-pub sent-stop : (s : State) (all : List Event) (i : ℕ) (event : Event) → i < length all → event ≡ get_or all i event → is_built event ≡ false → sent_of s (drop i all) ≡ []
+pub sent-stop : (s : Begun) (all : List Event) (i : ℕ) (event : Event) → i < length all → event ≡ get_or all i event → is_built event ≡ false → sent_of s (drop i all) ≡ []
 sent-stop s all i event lt is not = ap (sent_of s) (drop_event all i event lt is) ∙ sent_unbuilt s event (drop (i + 1) all) not
 
 pub unbuilt-stop : (line : ℕ) (all : List Event) (i : ℕ) (event : Event) → i < length all → event ≡ get_or all i event → is_built event ≡ false → unbuilt_from line (drop i all) ≡ Some (Unbuilt line)
 unbuilt-stop line all i event lt is not = ap (unbuilt_from line) (drop_event all i event lt is) ∙ unbuilt_here line event (drop (i + 1) all) not
 
 -- no more events
-pub sent-end : (s : State) (all : List Event) (i : ℕ) → length all ≤ i → sent_of s (drop i all) ≡ []
+pub sent-end : (s : Begun) (all : List Event) (i : ℕ) → length all ≤ i → sent_of s (drop i all) ≡ []
 sent-end s all i le = ap (sent_of s) (drop_all i all le)
 
 pub unbuilt-end : (line : ℕ) (all : List Event) (i : ℕ) → length all ≤ i → unbuilt_from line (drop i all) ≡ None

@@ -17,8 +17,9 @@ use Rattle.mt_config.specs.declared.configuration.ConfigField.TheVariants.{Size}
 use Rattle.mt_files.specs.declared.line_fault.LineFault.{LineFault}
 use Rattle.mt_files.specs.declared.line_fault.LineFault.TheVariants as lines
 use Rattle.mt_machine.specs.Lines.{is_built}
-use Rattle.mt_machine.specs.Opened.{opened_whole}
-use Rattle.mt_machine.specs.State.{State}
+use Rattle.mt_top.specs.Begun.{begun_with}
+use Rattle.mt_model.specs.texts.Contents.{contents_of}
+use Rattle.mt_top.specs.Begun.{Begun}
 use Rattle.mt_top.specs.declared.fault.Fault.{Fault}
 use Rattle.mt_top.specs.declared.fault.Fault.TheVariants.{BadWords, BadConfig, BadRecord, ReadFault, WriteFault, Memory, TooLong, Unbuilt}
 use Rattle.mt_top.specs.Faults.{fault_line, fault_of, status_of}
@@ -88,7 +89,7 @@ unbuilt_is_no_bad_config : (line : ℕ) (events : List Event) → is_bad_config 
 unbuilt_is_no_bad_config line [] = refl
 unbuilt_is_no_bad_config line (event ∷ events) = unbuilt_else line events (is_built event) (unbuilt_is_no_bad_config (line + 1) events)
 
-recorded_is_no_bad_config : (s : State) (read : Result (List Event) LineFault) → is_bad_config (recorded s read).fault ≡ false
+recorded_is_no_bad_config : (s : Begun) (read : Result (List Event) LineFault) → is_bad_config (recorded s read).fault ≡ false
 recorded_is_no_bad_config s (Ok events) = unbuilt_is_no_bad_config 2 events
 recorded_is_no_bad_config s (Err (lines.Line line kind)) = refl
 recorded_is_no_bad_config s (Err lines.TooLong) = refl
@@ -110,7 +111,7 @@ hand_read : HasRead CONFIGURATION_BYTES in_hand in_hand []
 hand_read = to_end (refl, refl) (omega arith)
 
 -- the recording was read, for a configuration in hand
-pub reads_in_hand : (s : State) (old new : Moment) (bytes : List ℕ) → old.config ≡ in_hand → new.config ≡ in_hand → HasRead RECORDING_BYTES old.first new.first bytes → Reads (replayed_from s) old new [] bytes
+pub reads_in_hand : (s : Begun) (old new : Moment) (bytes : List ℕ) → old.config ≡ in_hand → new.config ≡ in_hand → HasRead RECORDING_BYTES old.first new.first bytes → Reads (replayed_from s) old new [] bytes
 reads_in_hand s old new bytes o n h = record {
   config_read = subst (λ i. HasRead CONFIGURATION_BYTES i new.config []) (sym o) (subst (λ i. HasRead CONFIGURATION_BYTES in_hand i []) (sym n) hand_read);
   first_read = reads_first (recorded s (recording_of bytes)).fault old.first new.first bytes (recorded_is_no_bad_config s (recording_of bytes)) h;
@@ -418,7 +419,7 @@ module _ (laws : StreamLaws) where
   -- A run with a configuration in hand, as the end of the run that read it.
   module _ (config : Config) (bytes : List ℕ) (is : IsConfiguration bytes config) (read_old read_new first_old first_new : Input) (before after : Option (List ℕ)) (old_faults new_faults : ℕ) (read : HasRead CONFIGURATION_BYTES read_old read_new bytes) (read_calm : read_new.faults ≡ read_old.faults) where
     abbrev held : List ℕ → List ℕ → Ending
-    held = replayed_from (opened_whole config)
+    held = replayed_from (begun_with (contents_of config))
 
     abbrev old_hand : Moment
     old_hand = moment in_hand first_old before old_faults
@@ -495,7 +496,7 @@ module _ (laws : StreamLaws) where
   played_calmly fault first_old first_new before after old_faults new_faults same sink = stops_calmly fault (moment in_hand first_old before old_faults) (moment in_hand first_new after new_faults) (λ quiet. record { config = refl; first = same }) sink
 
   -- A replay with a configuration in hand, where a state, its recording's source and the sink stand so.
-  module _ (s : State) (first_old first_new : Input) (before after : Option (List ℕ)) (old_faults new_faults : ℕ) where
+  module _ (s : Begun) (first_old first_new : Input) (before after : Option (List ℕ)) (old_faults new_faults : ℕ) where
     abbrev from_hand : Moment
     from_hand = moment in_hand first_old before old_faults
 

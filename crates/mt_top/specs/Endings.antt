@@ -10,8 +10,7 @@ use Rattle.mt_files.specs.Recording.{recording_of}
 use Rattle.mt_config.specs.declared.configuration.ConfigField.{ConfigField}
 use Rattle.mt_files.specs.declared.line_fault.LineFault.{LineFault}
 use Rattle.mt_machine.specs.Lines.{built_events, is_built, run}
-use Rattle.mt_machine.specs.Opened.{whole_with}
-use Rattle.mt_machine.specs.State.{State}
+use Rattle.mt_top.specs.Begun.{Begun, begun_with}
 use Rattle.mt_top.specs.declared.fault.Fault.{Fault}
 use Rattle.mt_top.specs.declared.fault.Fault.TheVariants.{BadConfig, Unbuilt}
 use Rattle.mt_top.specs.Faults.{fault_line, fault_of, status_of}
@@ -44,17 +43,17 @@ unbuilt_from line [] = None
 unbuilt_from line (event ∷ events) = if is_built event then unbuilt_from (line + 1) events else Some (Unbuilt line)
 
 -- Events are played up to the first that is not built. The first stands in line 2.
-abbrev pub played : State → List Event → Ending
-played s events = record { sent = run s (built_events events); fault = unbuilt_from 2 events }
+abbrev pub played : Begun → List Event → Ending
+played begun events = record { sent = run begun.given begun.state (built_events events); fault = unbuilt_from 2 events }
 
 -- a recording is checked whole before it is played
-abbrev pub recorded : State → Result (List Event) LineFault → Ending
-recorded s (Ok events) = played s events
-recorded s (Err fault) = refused (fault_of fault)
+abbrev pub recorded : Begun → Result (List Event) LineFault → Ending
+recorded begun (Ok events) = played begun events
+recorded begun (Err fault) = refused (fault_of fault)
 
 -- a configuration comes before the recording
 abbrev pub configured : Result Contents ConfigField → List ℕ → Ending
-configured (Ok contents) recording = recorded (whole_with contents.fabrics contents.entries contents.sessions) (recording_of recording)
+configured (Ok contents) recording = recorded (begun_with contents) (recording_of recording)
 configured (Err field) recording = refused (BadConfig field)
 
 -- what `replay CONFIG RECORDING` comes to, by the bytes of the two files
@@ -62,8 +61,8 @@ abbrev pub replayed : List ℕ → List ℕ → Ending
 replayed config recording = configured (configuration config) recording
 
 -- the same with a configuration in hand, where no file is read for it
-abbrev pub replayed_from : State → List ℕ → List ℕ → Ending
-replayed_from s config recording = recorded s (recording_of recording)
+abbrev pub replayed_from : Begun → List ℕ → List ℕ → Ending
+replayed_from begun config recording = recorded begun (recording_of recording)
 
 -- what the words ask for
 abbrev pub asked_of : List (List ℕ) → Option (List ℕ → List ℕ → Ending)

@@ -9,8 +9,8 @@ use Rattle.mt_model.specs.declared.texts.recording.Sent.{Sent}
 use Rattle.mt_config.specs.Configuration.{IsConfiguration, configuration}
 use Rattle.mt_files.specs.Output.{output_text}
 use Rattle.mt_files.specs.Recording.{recording_of}
-use Rattle.mt_machine.specs.Lines.{is_built, next, sent}
-use Rattle.mt_machine.specs.State.{State}
+use Rattle.mt_machine.specs.Lines.{is_built}
+use Rattle.mt_top.specs.Begun.{Begun, behind, sent_by}
 use Rattle.mt_files.specs.declared.line_fault.LineFault.{LineFault}
 use Rattle.mt_top.specs.declared.fault.Fault.{Fault}
 use Rattle.mt_top.specs.declared.fault.Fault.TheVariants.{BadWords, BadConfig, ReadFault, WriteFault, Memory, Unbuilt}
@@ -52,11 +52,11 @@ abbrev pub PlayedTo : Ending → Option (List ℕ) → Option (List ℕ) → Typ
 PlayedTo ending before after = (ending.fault ≡ None) × Took before after (output_text ending.sent)
 
 -- the text is that of what an event sends, and the new state the one behind it
-abbrev pub Steps : List ℕ → State → State → Event → Type 0
-Steps text old new event = (text ≡ output_text (sent old event)) × (new ≡ next old event)
+abbrev pub Steps : List ℕ → Begun → Begun → Event → Type 0
+Steps text old new event = (text ≡ output_text (sent_by old event)) × (new ≡ behind old event)
 
 -- a step gives such a text where the event is built, and none otherwise
-abbrev pub StepsIf : State → State → Event → Option (Vec ℕ) → Type 0
+abbrev pub StepsIf : Begun → Begun → Event → Option (Vec ℕ) → Type 0
 StepsIf old new event None = is_built event ≡ false
 StepsIf old new event (Some text) = (is_built event ≡ true) × Steps text.items old new event
 

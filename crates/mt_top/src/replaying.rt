@@ -1,7 +1,8 @@
 //! Replaying a recording, and what a caller is told of how it ended.
 
 ghost use Rattle.std.specs.Prelude.{◌≡◌, ◌≢◌, ◌≤◌, false, Some, Err, IfErr, IfOk, OnOk};
-ghost use Rattle.mt_machine.specs.Opened.{opened_whole};
+ghost use Rattle.mt_model.specs.texts.Contents.{contents_of};
+ghost use Rattle.mt_top.specs.Begun.{begun_with};
 ghost use Rattle.mt_top.specs.declared.fault.Fault.TheVariants.{Memory};
 ghost use Rattle.mt_top.specs.Faults.{fault_line};
 ghost use Rattle.mt_top.specs.Endings.{asked_of, played, replayed_from};
@@ -11,13 +12,12 @@ ghost use Rattle.mt_top.specs.Run.{Ends};
 ghost use Rattle.mt_top.specs.Words.{words_of};
 
 use crate::fault::Fault;
-use crate::playing::step;
+use crate::playing::Player;
 use crate::words::files_of;
 use mt_files::{ConfigFault, ConfigField, config as configuration, events};
 use mt_model::limits::{CONFIGURATION_BYTES, RECORDING_BYTES};
 use mt_model::{Config, Events};
 use mt_outside::{ReadFault, Sink, Source, read_all, write_all, writings_add_up};
-use mt_whole::Whole;
 use std::alloc::Global;
 
 /// Does what the words say: `replay CONFIG RECORDING` starts a node with the configuration that
@@ -57,7 +57,7 @@ pub fn replay_with<A: Source, W: Sink>(
     first: &mut A,
     out: &mut W,
 ) -> u8
-    ensures { Ends result (Some (replayed_from (opened_whole config.now)))
+    ensures { Ends result (Some (replayed_from (begun_with (contents_of config.now))))
         (moment in_hand (input (A.left first.old) (A.faults first.old)) (W.written out.old) (W.faults out.old))
         (moment in_hand (input (A.left first.new) (A.faults first.new)) (W.written out.new) (W.faults out.new)) }
 {
@@ -94,10 +94,10 @@ fn replay<A: Source, W: Sink>(
     first: &mut A,
     out: &mut W,
 ) -> Result<(), Fault>
-    ensures ok { OnOk result (Done (replayed_from (opened_whole config.now))
+    ensures ok { OnOk result (Done (replayed_from (begun_with (contents_of config.now)))
         (moment in_hand (input (A.left first.old) (A.faults first.old)) (W.written out.old) (W.faults out.old))
         (moment in_hand (input (A.left first.new) (A.faults first.new)) (W.written out.new) (W.faults out.new))) }
-    ensures err { IfErr result (λ fault. Stops fault (replayed_from (opened_whole config.now))
+    ensures err { IfErr result (λ fault. Stops fault (replayed_from (begun_with (contents_of config.now)))
         (moment in_hand (input (A.left first.old) (A.faults first.old)) (W.written out.old) (W.faults out.old))
         (moment in_hand (input (A.left first.new) (A.faults first.new)) (W.written out.new) (W.faults out.new))) }
     ensures calm { IfErr result (λ fault. StopsCalmly fault
@@ -105,11 +105,11 @@ fn replay<A: Source, W: Sink>(
         (moment in_hand (input (A.left first.new) (A.faults first.new)) (W.written out.new) (W.faults out.new))) }
 {
     writings_add_up();
-    let Ok(whole) = Whole::start(alloc, config) else {
+    let Ok(player) = Player::start(alloc, config) else {
         return Err(Fault::Memory);
     };
     match recorded(alloc, first) {
-        Ok(events) => play(alloc, whole, &events, out),
+        Ok(events) => play(player, &events, out),
         Err(fault) => Err(fault),
     }
 }
@@ -133,15 +133,15 @@ fn recorded<A: Source>(alloc: Global, first: &mut A) -> Result<Events, Fault>
 }
 
 // Writes what the node sends over the events, up to the first that is not built.
-fn play<W: Sink>(alloc: Global, mut whole: Whole, events: &Events, out: &mut W) -> Result<(), Fault>
-    ensures ok { OnOk result (PlayedTo (played whole events.now) (W.written out.old) (W.written out.new)) }
-    ensures err { IfErr result (λ fault. StopsPlaying fault (played whole events.now) (W.written out.old) (W.written out.new) (W.faults out.old) (W.faults out.new)) }
+fn play<W: Sink>(mut player: Player, events: &Events, out: &mut W) -> Result<(), Fault>
+    ensures ok { OnOk result (PlayedTo (played player events.now) (W.written out.old) (W.written out.new)) }
+    ensures err { IfErr result (λ fault. StopsPlaying fault (played player events.now) (W.written out.old) (W.written out.new) (W.faults out.old) (W.faults out.new)) }
     ensures calm { result ≢ Err Fault.WriteFault → W.faults out.new ≡ W.faults out.old }
 {
     writings_add_up();
     let mut line = 2u64;
     for event in events.as_slice() {
-        let Ok(answer) = step(alloc, &mut whole, event) else {
+        let Ok(answer) = player.step(event) else {
             return Err(Fault::Memory);
         };
         let Some(text) = answer else {

@@ -1,5 +1,5 @@
 -- The outcome of a line, from the plan of the node's action.
-use Rattle.std.proofs.Common.{◌≡◌, ℕ, not, ◌||◌, Bool, true, false, List, [], ◌∷◌, Option, None, Some, Result, Ok, Err, IfOk, filter, refl, sym, ap, ◌∙◌, if◌then◌else◌, unwrap_or}
+use Rattle.std.proofs.Common.{◌≡◌, ℕ, not, ◌==◌, ◌&&◌, ◌||◌, inl, inr, Bool, true, false, List, [], ◌∷◌, Option, None, Some, Result, Ok, Err, IfOk, filter, refl, sym, ap, ◌∙◌, if◌then◌else◌, unwrap_or}
 use Rattle.std.specs.List.{list_any}
 use Rattle.mt_im.specs.Reading.{Gives, request_in}
 use Rattle.mt_im.specs.declared.fault.ImFault.{ImFault}
@@ -10,17 +10,23 @@ use Rattle.mt_model.specs.declared.node.action.Action.TheVariants.{Ask, Expire, 
 use Rattle.mt_model.specs.declared.node.action.PlainDeadline.{PlainDeadline}
 use Rattle.mt_model.specs.declared.messages.message.Reply.{Reply}
 use Rattle.mt_model.specs.declared.messages.message.Request.{Request}
-use Rattle.mt_model.specs.declared.texts.recording.Event.TheVariants as events
 use Rattle.mt_model.specs.declared.messages.status.Status.TheVariants.{Busy}
-use Rattle.mt_machine.specs.Lines.{action_of, deadline_for, deadline_of, deadlines_after, fault_reply, is_built, is_built_payload, is_deadline_of, is_refused, line_actor, next, next_for, sent_as, sent_for, sent_to, with_deadline, without}
-use Rattle.mt_machine.specs.State.{State}
+use Rattle.mt_machine.specs.Lines.{action_of, deadline_for, deadline_of, deadlines_after, deadlines_of_those_left, fault_reply, is_deadline_of, is_refused, line_actor, next_for, sent_as, sent_for, sent_to, with_deadline, without}
+use Rattle.mt_machine.specs.State.{State, is_among}
 use Rattle.mt_machine.specs.Step.{after_action, after_steps, asked_steps, asker, at_time, refusal}
 use Rattle.mt_machine.specs.Rollback.{added_in, deadlines_left, is_due, stays}
 use Rattle.mt_machine.specs.Laws.{TakesTheAddedAway}
 use Rattle.mt_model.specs.declared.tables.network.Armed.{Armed}
 use Rattle.mt_machine.specs.State.{IsValid}
-use Rattle.mt_node.specs.Plan.{IsPlan, IsPlanFor, applied}
-use Rattle.mt_whole.specs.Plan.{IsLine, IsLineFor, IsQuiet, IsTick, IsWholePlan, is_want_of_memory}
+use Rattle.mt_machine.specs.Given.{Given}
+use Rattle.mt_machine.specs.Isolation.{has_fabric}
+use Rattle.mt_machine.specs.Leaving.{has_left}
+use Rattle.mt_node.specs.Plan.{IsPlan, applied}
+use Rattle.mt_model.specs.declared.node.state.NodeState.{NodeState}
+use Rattle.mt_model.specs.declared.tables.fabric.Fabric.{Fabric}
+use Rattle.std.proofs.lemmas.Bool.{cases_Bool}
+use Rattle.mt_model.specs.declared.texts.recording.Event.TheVariants as events
+use Rattle.mt_whole.specs.Plan.{IsLine, IsLineIf, IsPlanIf, IsQuiet, IsTick, is_want_of_memory, left_without}
 use Rattle.mt_machine.specs.Step.{Aside}
 use Rattle.mt_whole.specs.declared.outcome.WholeOutcome.{WholeOutcome}
 
@@ -39,37 +45,68 @@ none_taken asking (d ∷ ds) none =
     let both = or_false (is_deadline_of asking d) (list_any (is_deadline_of asking) ds) none in
     step d ds (without asking ds) (is_deadline_of asking d) (λ _. none_taken asking ds both.1) both.0
 
+-- The deadlines of a fabric that leaves the table, told by that fabric.
+
+-- the fabric that goes is the one that has left
+left_is_gone : (before now : NodeState) (gone : Option ℕ) → ((fabric : ℕ) → has_left before now fabric ≡ has_fabric fabric gone) → (ds : List PlainDeadline) → left_without gone ds ≡ deadlines_of_those_left before now ds
+left_is_gone before now None leaves [] = refl
+left_is_gone before now (Some fabric) leaves [] = refl
+left_is_gone before now None leaves (d ∷ ds) =
+    let rest = left_is_gone before now None leaves ds in
+    rw (leaves d.fabric) (ap (λ (l : List PlainDeadline). d ∷ l) rest)
+left_is_gone before now (Some fabric) leaves (d ∷ ds) =
+    let rest = left_is_gone before now (Some fabric) leaves ds in
+    let same : not (has_left before now d.fabric) ≡ not (fabric == d.fabric) = ap not (leaves d.fabric) in
+    elim (cases_Bool (fabric == d.fabric)) [
+      | inl its ↦ rw (same, its) rest
+      | inr other ↦ rw (same, other) (ap (λ (l : List PlainDeadline). d ∷ l) rest)
+    ]
+
+-- nobody leaves where the fabrics are the same
+and_not : (b : Bool) → (b && not b) ≡ false
+and_not true = refl
+and_not false = refl
+
+none_left : (s t : NodeState) → t.fabrics ≡ s.fabrics → (fabric : ℕ) → has_left s t fabric ≡ has_fabric fabric None
+none_left s t same fabric = ap (λ (fs : List Fabric). is_among s.fabrics fabric && not (is_among fs fabric)) same ∙ and_not (is_among s.fabrics fabric)
+
+all_left : (s t : NodeState) → t.fabrics ≡ s.fabrics → (ds : List PlainDeadline) → ds ≡ deadlines_of_those_left s t ds
+all_left s t same ds = left_is_gone s t None (none_left s t same) ds
+
 -- a request of whoever is taken as asking
-pub request_line : (s : State) (ms : ℕ) (asking : Actor) (request : Request) (outcome : WholeOutcome)
-    → IsPlanFor s.node asking request ms (deadline_of asking s.deadlines) outcome.node
+pub request_line : (given : Given) (s : State) (ms : ℕ) (actor asking : Actor) (request : Request) (outcome : WholeOutcome) → asker s.node actor ≡ Some asking
+    → IsPlan given s.node (Ask actor request (deadline_of asking s.deadlines)) ms outcome.node
     → outcome.sent ≡ sent_as ms asking.fabric (if is_refused asking s.deadlines ms request then refusal (code_of Busy) else outcome.node.reply)
-    → unwrap_or outcome.deadlines s.deadlines ≡ with_deadline asking s.deadlines ms (Ok request)
-    → IsLineFor s ms asking (Ok request) outcome
-request_line s ms asking request outcome plan sends next = λ actor asks.
-    let p = plan actor asks in
-    let timed = deadline_of asking s.deadlines in
-    let node : applied outcome.node s.node ≡ after_action s.node (action_of actor (deadline_for s (asker s.node actor)) (Ok request)) ms = p.state ∙ ap (λ (a : Option Actor). after_action s.node (action_of actor (deadline_for s a) (Ok request)) ms) (sym asks) in
-    let deadlines : unwrap_or outcome.deadlines s.deadlines ≡ deadlines_after (asker s.node actor) s.deadlines ms (Ok request) = next ∙ ap (λ (a : Option Actor). deadlines_after a s.deadlines ms (Ok request)) (sym asks) in
+    → unwrap_or outcome.deadlines s.deadlines ≡ left_without outcome.node.gone (with_deadline asking s.deadlines ms (Ok request))
+    → IsLine given s ms actor (Ok request) outcome
+request_line given s ms actor asking request outcome asks p sends next =
+    let behind : NodeState = after_action given s.node (action_of actor (deadline_for s (asker s.node actor)) (Ok request)) ms in
+    let node : applied outcome.node s.node ≡ behind = p.state ∙ ap (λ (a : Option Actor). after_action given s.node (action_of actor (deadline_for s a) (Ok request)) ms) (sym asks) in
+    let deadlines : unwrap_or outcome.deadlines s.deadlines ≡ deadlines_of_those_left s.node behind (deadlines_after (asker s.node actor) s.deadlines ms (Ok request)) =
+    next ∙ left_is_gone s.node (applied outcome.node s.node) outcome.node.gone p.leaves (with_deadline asking s.deadlines ms (Ok request))
+    ∙ (λ i. deadlines_of_those_left s.node (node i) (deadlines_after (sym asks i) s.deadlines ms (Ok request))) in
     record {
       sent = sends
           ∙ ap (λ (reply : Reply). sent_as ms asking.fabric (if is_refused asking s.deadlines ms request then refusal (code_of Busy) else reply)) p.reply
-          ∙ sym (ap (sent_to s actor ms (Ok request)) asks);
+          ∙ sym (ap (sent_to given s actor ms (Ok request)) asks);
       state = λ i. record { node = node i; deadlines = deadlines i };
-      planned = (Ask actor request timed, (ms, p));
+      planned = (given, (Ask actor request (deadline_of asking s.deadlines), (ms, p)));
     }
 
 -- a payload that is no request, of whoever is taken as asking
-pub refused_line : (s : State) (ms : ℕ) (asking : Actor) (fault : ImFault) (outcome : WholeOutcome)
-    → IsPlan s.node Nothing ms outcome.node
+pub refused_line : (given : Given) (s : State) (ms : ℕ) (actor asking : Actor) (fault : ImFault) (outcome : WholeOutcome) → asker s.node actor ≡ Some asking
+    → IsPlan given s.node Nothing ms outcome.node
     → outcome.sent ≡ sent_as ms asking.fabric (fault_reply fault)
     → unwrap_or outcome.deadlines s.deadlines ≡ with_deadline asking s.deadlines ms (Err fault)
-    → IsLineFor s ms asking (Err fault) outcome
-refused_line s ms asking fault outcome p sends next = λ actor asks.
-    let deadlines : unwrap_or outcome.deadlines s.deadlines ≡ deadlines_after (asker s.node actor) s.deadlines ms (Err fault) = next ∙ ap (λ (a : Option Actor). deadlines_after a s.deadlines ms (Err fault)) (sym asks) in
+    → IsLine given s ms actor (Err fault) outcome
+refused_line given s ms actor asking fault outcome asks p sends next =
+    let deadlines : unwrap_or outcome.deadlines s.deadlines ≡ deadlines_of_those_left s.node (after_action given s.node Nothing ms) (deadlines_after (asker s.node actor) s.deadlines ms (Err fault)) =
+    next ∙ ap (λ (a : Option Actor). deadlines_after a s.deadlines ms (Err fault)) (sym asks)
+    ∙ all_left s.node (after_action given s.node Nothing ms) refl (deadlines_after (asker s.node actor) s.deadlines ms (Err fault)) in
     record {
-      sent = sends ∙ sym (ap (sent_to s actor ms (Err fault)) asks);
+      sent = sends ∙ sym (ap (sent_to given s actor ms (Err fault)) asks);
       state = λ i. record { node = p.state i; deadlines = deadlines i };
-      planned = (Nothing, (ms, p));
+      planned = (given, (Nothing, (ms, p)));
     }
 
 -- what an answer of memory gives, where it gives anything
@@ -78,19 +115,23 @@ if_ok (Ok x) P Q follows holds = follows x holds
 if_ok (Err e) P Q follows holds = holds
 
 -- nobody is taken as asking
-nobody_steps : (s : State) (actor : Actor) (ms : ℕ) (asked : Result Request ImFault) (deadline : Option ℕ) → asker s.node actor ≡ None → after_action s.node Nothing ms ≡ after_action s.node (action_of actor deadline asked) ms
-nobody_steps s actor ms (Ok request) deadline none = sym (ap (λ (a : Option Actor). after_steps a (asked_steps s.node request deadline ms a) (at_time ms s.node)) none)
-nobody_steps s actor ms (Err fault) deadline none = refl
+nobody_steps : (given : Given) (s : State) (actor : Actor) (ms : ℕ) (asked : Result Request ImFault) (deadline : Option ℕ) → asker s.node actor ≡ None → after_action given s.node Nothing ms ≡ after_action given s.node (action_of actor deadline asked) ms
+nobody_steps given s actor ms (Ok request) deadline none = sym (ap (λ (a : Option Actor). after_steps a (asked_steps given s.node request deadline ms a) (at_time ms s.node)) none)
+nobody_steps given s actor ms (Err fault) deadline none = refl
 
-pub quiet_line : (s : State) (ms : ℕ) (actor : Actor) (asked : Result Request ImFault) (outcome : WholeOutcome) → asker s.node actor ≡ None → IsQuiet s ms outcome → IsLine s ms actor asked outcome
-quiet_line s ms actor asked outcome none quiet =
-    let node : applied outcome.node s.node ≡ after_action s.node (action_of actor (deadline_for s (asker s.node actor)) asked) ms = quiet.node.state ∙ nobody_steps s actor ms asked (deadline_for s (asker s.node actor)) none in
-    let deadlines : unwrap_or outcome.deadlines s.deadlines ≡ deadlines_after (asker s.node actor) s.deadlines ms asked =
-    ap (λ (d : Option (List PlainDeadline)). unwrap_or d s.deadlines) quiet.deadlines ∙ ap (λ (a : Option Actor). deadlines_after a s.deadlines ms asked) (sym none) in
+pub quiet_line : (given : Given) (s : State) (ms : ℕ) (actor : Actor) (asked : Result Request ImFault) (outcome : WholeOutcome) → asker s.node actor ≡ None → IsQuiet given s ms outcome → IsLine given s ms actor asked outcome
+quiet_line given s ms actor asked outcome none quiet =
+    let same = nobody_steps given s actor ms asked (deadline_for s (asker s.node actor)) none in
+    let node : applied outcome.node s.node ≡ after_action given s.node (action_of actor (deadline_for s (asker s.node actor)) asked) ms = quiet.node.state ∙ same in
+    let deadlines : unwrap_or outcome.deadlines s.deadlines
+    ≡ deadlines_of_those_left s.node (after_action given s.node (action_of actor (deadline_for s (asker s.node actor)) asked) ms) (deadlines_after (asker s.node actor) s.deadlines ms asked) =
+    ap (λ (d : Option (List PlainDeadline)). unwrap_or d s.deadlines) quiet.deadlines
+    ∙ all_left s.node (after_action given s.node Nothing ms) refl s.deadlines
+    ∙ (λ i. deadlines_of_those_left s.node (same i) (deadlines_after (sym none i) s.deadlines ms asked)) in
     record {
-      sent = quiet.sent ∙ sym (ap (sent_to s actor ms asked) none);
+      sent = quiet.sent ∙ sym (ap (sent_to given s actor ms asked) none);
       state = λ i. record { node = node i; deadlines = deadlines i };
-      planned = (Nothing, (ms, quiet.node));
+      planned = (given, (Nothing, (ms, quiet.node)));
     }
 
 -- what was decoded, but for want of memory
@@ -104,18 +145,15 @@ comes_to (Err faults.Opcode) read gives sure = gives (λ e. absurd (cc))
 comes_to (Err faults.TooManyPaths) read gives sure = gives (λ e. absurd (cc))
 
 -- An event is a line of an actor, whose payload comes to this.
-pub event_of : (s : State) (ms fabric node : ℕ) (cats : List ℕ) (opcode : ℕ) (payload : List ℕ) (actor : Actor) (asked : Result Request ImFault) (outcome : WholeOutcome)
-    → actor ≡ line_actor fabric node cats
-    → request_in opcode payload ≡ asked
-    → is_built_payload asked ≡ true
-    → IsLine s ms actor asked outcome
-    → (is_built (events.Ask ms fabric node cats opcode payload) ≡ true) × IsWholePlan s (events.Ask ms fabric node cats opcode payload) outcome
-event_of s ms fabric node cats opcode payload actor asked outcome by comes built line = (
-  ap is_built_payload comes ∙ built,
+pub event_of : (given : Given) (s : State) (ms fabric node : ℕ) (cats : List ℕ) (opcode : ℕ) (payload : List ℕ) (actor : Actor) → actor ≡ line_actor fabric node cats → (planned : Option WholeOutcome)
+    → IsLineIf given s ms actor (request_in opcode payload) planned → IsPlanIf given s (events.Ask ms fabric node cats opcode payload) planned
+event_of given s ms fabric node cats opcode payload actor by None line = line
+event_of given s ms fabric node cats opcode payload actor by (Some outcome) line = (
+  line.0,
   record {
-    sent = line.sent ∙ ap (λ (a : Actor). sent_for s a ms asked) by ∙ ap (sent_for s (line_actor fabric node cats) ms) (sym comes);
-    state = line.state ∙ ap (λ (a : Actor). next_for s a ms asked) by ∙ ap (next_for s (line_actor fabric node cats) ms) (sym comes);
-    planned = line.planned;
+    sent = line.1.sent ∙ ap (λ (a : Actor). sent_for given s a ms (request_in opcode payload)) by;
+    state = line.1.state ∙ ap (λ (a : Actor). next_for given s a ms (request_in opcode payload)) by;
+    planned = line.1.planned;
   },
 )
 
@@ -124,11 +162,6 @@ event_of s ms fabric node cats opcode payload actor asked outcome by comes built
 all_stay : (ds : List PlainDeadline) → ds ≡ filter (λ (d : PlainDeadline). stays None d.fabric) ds
 all_stay [] = refl
 all_stay (d ∷ ds) = ap (λ (rest : List PlainDeadline). d ∷ rest) (all_stay ds)
-
--- those that are left where this fabric goes, if any
-abbrev pub left_without : Option ℕ → List PlainDeadline → List PlainDeadline
-left_without None ds = ds
-left_without (Some fabric) ds = filter (λ (d : PlainDeadline). stays (Some fabric) d.fabric) ds
 
 left_added : (added : Option ℕ) (ds : List PlainDeadline) → left_without added ds ≡ filter (λ (d : PlainDeadline). stays added d.fabric) ds
 left_added None ds = all_stay ds
@@ -142,14 +175,14 @@ left_due : (due : Bool) (armed : Option Armed) (ds : List PlainDeadline) → lef
 left_due true armed ds = left_armed armed ds
 left_due false armed ds = refl
 
-pub tick_of : TakesTheAddedAway → (s : State) (ms : ℕ) (outcome : WholeOutcome) → IsValid s.node → outcome.sent ≡ [] → IsPlan s.node Expire ms outcome.node
-    → unwrap_or outcome.deadlines s.deadlines ≡ left_without outcome.node.gone s.deadlines → IsTick s ms outcome
-tick_of takes s ms outcome valid sends plan left =
-    let gone : outcome.node.gone ≡ (if is_due s.node.armed ms then added_in s.node.armed else None) = ap (λ (aside : Aside). aside.gone) plan.aside ∙ takes s.node ms valid in
+pub tick_of : TakesTheAddedAway → (given : Given) (s : State) (ms : ℕ) (outcome : WholeOutcome) → IsValid s.node → outcome.sent ≡ [] → IsPlan given s.node Expire ms outcome.node
+    → unwrap_or outcome.deadlines s.deadlines ≡ left_without outcome.node.gone s.deadlines → IsTick given s ms outcome
+tick_of takes given s ms outcome valid sends plan left =
+    let gone : outcome.node.gone ≡ (if is_due s.node.armed ms then added_in s.node.armed else None) = ap (λ (aside : Aside). aside.gone) plan.aside ∙ takes given s.node ms valid in
     let deadlines : unwrap_or outcome.deadlines s.deadlines ≡ (if is_due s.node.armed ms then deadlines_left s.node.armed s.deadlines else s.deadlines) =
     left ∙ ap (λ (g : Option ℕ). left_without g s.deadlines) gone ∙ left_due (is_due s.node.armed ms) s.node.armed s.deadlines in
     record {
       sent = sends;
       state = λ i. record { node = plan.state i; deadlines = deadlines i };
-      planned = (Expire, (ms, plan));
+      planned = (given, (Expire, (ms, plan)));
     }

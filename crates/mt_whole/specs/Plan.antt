@@ -8,10 +8,11 @@ use Rattle.mt_model.specs.declared.messages.message.Request.{Request}
 use Rattle.mt_model.specs.declared.texts.recording.Event.{Event}
 use Rattle.mt_node.specs.Plan.{IsPlan, IsPlanned, applied}
 use Rattle.mt_model.specs.declared.node.action.Action.TheVariants.{Nothing}
+use Rattle.mt_machine.specs.Given.{Given}
 use Rattle.mt_machine.specs.Isolation.{is_deadline_in}
-use Rattle.mt_machine.specs.Lines.{is_built, next, next_for, next_tick, sent, sent_for, without}
+use Rattle.mt_machine.specs.Lines.{is_built, is_built_payload, next, next_for, next_tick, sent, sent_for, without}
+use Rattle.mt_machine.specs.Rollback.{stays}
 use Rattle.mt_machine.specs.State.{State}
-use Rattle.mt_machine.specs.Step.{asker}
 use Rattle.mt_whole.specs.declared.outcome.WholeOutcome.{WholeOutcome}
 
 -- how many other actors of an actor's fabric have a deadline
@@ -28,39 +29,45 @@ is_want_of_memory (Ok request) = false
 is_want_of_memory (Err faults.Memory) = true
 is_want_of_memory (Err fault) = false
 
+-- the deadlines of the fabric that goes, if any, go with it
+abbrev pub left_without : Option ℕ → List PlainDeadline → List PlainDeadline
+left_without None deadlines = deadlines
+left_without (Some fabric) deadlines = filter (λ (deadline : PlainDeadline). stays (Some fabric) deadline.fabric) deadlines
+
 -- The outcome is that of a line of this actor, whose payload was decoded to this.
-pub record IsLine (s : State) (ms : ℕ) (actor : Actor) (asked : Result Request ImFault) (outcome : WholeOutcome) : Type 0 where
-  pub sent : outcome.sent ≡ sent_for s actor ms asked
-  pub state : applied_whole outcome s ≡ next_for s actor ms asked
+pub record IsLine (given : Given) (s : State) (ms : ℕ) (actor : Actor) (asked : Result Request ImFault) (outcome : WholeOutcome) : Type 0 where
+  pub sent : outcome.sent ≡ sent_for given s actor ms asked
+  pub state : applied_whole outcome s ≡ next_for given s actor ms asked
   pub planned : IsPlanned s.node outcome.node
 
--- The same, whoever's line it is that is taken as this asker.
-abbrev pub IsLineFor : State → ℕ → Actor → Result Request ImFault → WholeOutcome → Type 0
-IsLineFor s ms asking asked outcome = (actor : Actor) → asker s.node actor ≡ Some asking → IsLine s ms actor asked outcome
+-- there is an outcome exactly where what was decoded is built
+abbrev pub IsLineIf : Given → State → ℕ → Actor → Result Request ImFault → Option WholeOutcome → Type 0
+IsLineIf given s ms actor asked None = is_built_payload asked ≡ false
+IsLineIf given s ms actor asked (Some outcome) = (is_built_payload asked ≡ true) × IsLine given s ms actor asked outcome
 
 -- nothing is sent, and time passes
-pub record IsQuiet (s : State) (ms : ℕ) (outcome : WholeOutcome) : Type 0 where
+pub record IsQuiet (given : Given) (s : State) (ms : ℕ) (outcome : WholeOutcome) : Type 0 where
   pub sent : outcome.sent ≡ []
   pub deadlines : outcome.deadlines ≡ None
-  pub node : IsPlan s.node Nothing ms outcome.node
+  pub node : IsPlan given s.node Nothing ms outcome.node
 
 -- The outcome is that of a time step.
-pub record IsTick (s : State) (ms : ℕ) (outcome : WholeOutcome) : Type 0 where
+pub record IsTick (given : Given) (s : State) (ms : ℕ) (outcome : WholeOutcome) : Type 0 where
   pub sent : outcome.sent ≡ []
-  pub state : applied_whole outcome s ≡ next_tick s ms
+  pub state : applied_whole outcome s ≡ next_tick given s ms
   pub planned : IsPlanned s.node outcome.node
 
 -- The outcome is that of this event.
-pub record IsWholePlan (s : State) (event : Event) (outcome : WholeOutcome) : Type 0 where
-  pub sent : outcome.sent ≡ sent s event
-  pub state : applied_whole outcome s ≡ next s event
+pub record IsWholePlan (given : Given) (s : State) (event : Event) (outcome : WholeOutcome) : Type 0 where
+  pub sent : outcome.sent ≡ sent given s event
+  pub state : applied_whole outcome s ≡ next given s event
   pub planned : IsPlanned s.node outcome.node
 
 -- there is an outcome exactly where the event is built
-abbrev pub IsPlanIf : State → Event → Option WholeOutcome → Type 0
-IsPlanIf s event None = is_built event ≡ false
-IsPlanIf s event (Some outcome) = (is_built event ≡ true) × IsWholePlan s event outcome
+abbrev pub IsPlanIf : Given → State → Event → Option WholeOutcome → Type 0
+IsPlanIf given s event None = is_built event ≡ false
+IsPlanIf given s event (Some outcome) = (is_built event ≡ true) × IsWholePlan given s event outcome
 
 -- the outcome was made on this state
 abbrev pub IsWholePlanned : State → WholeOutcome → Type 0
-IsWholePlanned s outcome = (event : Event) × IsWholePlan s event outcome
+IsWholePlanned s outcome = (given : Given) × ((event : Event) × IsWholePlan given s event outcome)

@@ -1,13 +1,14 @@
 //! Until when the next requests of plain actors must come.
 
-ghost use Rattle.std.specs.Prelude.{◌≡◌, ◌==◌, ◌&&◌, ◌++◌, ◌∷◌, [], not, bytes_eq, IfOk, unwrap_or, if◌then◌else◌};
+ghost use Rattle.std.specs.Prelude.{◌≡◌, ◌==◌, ◌&&◌, ◌++◌, ◌∷◌, [], not, bytes_eq, Some, IfOk, filter, unwrap_or, if◌then◌else◌};
 ghost use Rattle.std.specs.List.{find, list_any};
 ghost use Rattle.std.specs.Option.{option_map};
 ghost use Rattle.mt_model.specs.declared.node.action.PlainDeadline.{PlainDeadline};
 ghost use Rattle.mt_machine.specs.Isolation.{is_deadline_in};
 ghost use Rattle.mt_machine.specs.Lines.{deadline_at, deadline_of, has_room, is_deadline_of, is_refused, is_timed, later_by, with_deadline, without};
+ghost use Rattle.mt_machine.specs.Rollback.{stays};
 ghost use Rattle.mt_machine.specs.Step.{is_late};
-ghost use Rattle.mt_whole.specs.Plan.{others_in};
+ghost use Rattle.mt_whole.specs.Plan.{left_without, others_in};
 
 use mt_im::ImFault;
 use mt_model::limits::PLAIN_DEADLINES;
@@ -130,6 +131,42 @@ fn deadline_at(asking: &Actor, until: u64) -> PlainDeadline
         cats: asking.cats,
         until,
     }
+}
+
+/// What is left of the deadlines behind a line where this fabric goes, if any. None where they stay as they are.
+pub(crate) fn left_without(
+    alloc: Global,
+    deadlines: &[PlainDeadline],
+    behind: Option<PlainDeadlines>,
+    gone: Option<u8>,
+) -> Result<Option<PlainDeadlines>, AllocError>
+    ensures { IfOk result (λ left. unwrap_or left deadlines.now ≡ left_without gone (unwrap_or behind deadlines.now)) }
+{
+    let Some(fabric) = gone else {
+        return Ok(behind);
+    };
+    let left = match &behind {
+        Some(behind) => without_fabric(alloc, behind.as_slice(), fabric)?,
+        None => without_fabric(alloc, deadlines, fabric)?,
+    };
+    Ok(Some(left))
+}
+
+// The deadlines of other fabrics.
+fn without_fabric(
+    alloc: Global,
+    deadlines: &[PlainDeadline],
+    fabric: u8,
+) -> Result<PlainDeadlines, AllocError>
+    ensures { IfOk result (λ rest. rest ≡ filter (λ (deadline : PlainDeadline). stays (Some fabric) deadline.fabric) deadlines.now) }
+{
+    let mut rest = PlainDeadlines::new(alloc);
+    for deadline in deadlines {
+        if deadline.fabric != fabric {
+            rest.push(*deadline)?;
+        }
+    }
+    Ok(rest)
 }
 
 // The deadlines of others, None where the actor has none.

@@ -1,18 +1,19 @@
 //! A line of a plain actor, from what its payload was decoded to.
 
-ghost use Rattle.std.specs.Prelude.{◌≡◌, Err, Ok, true, IfOk, if◌then◌else◌, unwrap_or};
+ghost use Rattle.std.specs.Prelude.{◌≡◌, Err, Ok, Some, true, IfOk, if◌then◌else◌, unwrap_or};
 ghost use Rattle.mt_machine.specs.Lines.{fault_reply, is_built_payload, is_refused, line_actor, sent_as, with_deadline};
-ghost use Rattle.mt_machine.specs.Step.{is_built_request, refusal};
+ghost use Rattle.mt_machine.specs.Step.{asker, is_built_request, refusal};
 ghost use Rattle.mt_model.specs.messages.Status.{code_of};
 ghost use Rattle.mt_model.specs.declared.messages.status.Status.TheVariants.{Busy};
-ghost use Rattle.mt_whole.specs.Plan.{IsLine, IsLineFor, IsQuiet};
+ghost use Rattle.mt_whole.specs.Kept.{given_to};
+ghost use Rattle.mt_whole.specs.Plan.{IsLine, IsQuiet};
 
-use crate::deadlines::{deadline_of, is_refused, next_deadlines};
+use crate::deadlines::{deadline_of, is_refused, left_without, next_deadlines};
 use crate::outcome::WholeOutcome;
 use crate::sending::sent_as;
 use crate::whole::Whole;
 use mt_im::ImFault;
-use mt_model::{Action, Actor, Auth, PlainDeadlines, Reply, Request, SentList, Status};
+use mt_model::{Action, Actor, Auth, PlainDeadlines, Reply, Request, SentList, Status, Verdicts};
 use std::alloc::{AllocError, Global};
 
 /// Whom a line names: the plain PASE session where its fabric is 0, otherwise a node of its fabric.
@@ -38,26 +39,29 @@ pub(crate) fn line_actor(fabric: u8, node: u64, cats: [u32; 3]) -> Actor
 }
 
 /// Plans a line. What is no request goes the same way as what is one.
-pub(crate) fn planned_line(
+pub(crate) fn planned_line<V: Verdicts>(
     whole: &Whole,
     ms: u64,
     actor: &Actor,
     asked: &Result<Request, ImFault>,
+    verdicts: &V,
 ) -> Result<WholeOutcome, AllocError>
     requires { is_built_payload asked.now ≡ true }
-    ensures { IfOk result (IsLine whole.now ms actor.now asked.now) }
+    ensures { let given = given_to whole.now (V.roots verdicts.now) (V.csrs verdicts.now) (V.joins verdicts.now) in
+        IfOk result (IsLine given whole.now.state ms actor.now asked.now) }
 {
     match whole.node.asker(actor) {
-        Some(asking) => planned_for(whole, ms, &asking, asked),
-        None => quiet(whole, ms),
+        Some(asking) => planned_for(whole, ms, actor, &asking, asked, verdicts),
+        None => quiet(whole, ms, verdicts),
     }
 }
 
 // Nothing is sent where nobody is taken as asking.
-fn quiet(whole: &Whole, ms: u64) -> Result<WholeOutcome, AllocError>
-    ensures { IfOk result (IsQuiet whole.now ms) }
+fn quiet<V: Verdicts>(whole: &Whole, ms: u64, verdicts: &V) -> Result<WholeOutcome, AllocError>
+    ensures { let given = given_to whole.now (V.roots verdicts.now) (V.csrs verdicts.now) (V.joins verdicts.now) in
+        IfOk result (IsQuiet given whole.now.state ms) }
 {
-    let node = whole.node.plan(&Action::Nothing, ms)?;
+    let node = whole.node.plan(&Action::Nothing, ms, verdicts)?;
     Ok(WholeOutcome {
         sent: SentList::new(whole.alloc),
         node,
@@ -65,37 +69,53 @@ fn quiet(whole: &Whole, ms: u64) -> Result<WholeOutcome, AllocError>
     })
 }
 
-fn planned_for(
+fn planned_for<V: Verdicts>(
     whole: &Whole,
     ms: u64,
+    actor: &Actor,
     asking: &Actor,
     asked: &Result<Request, ImFault>,
+    verdicts: &V,
 ) -> Result<WholeOutcome, AllocError>
-    requires { is_built_payload asked.now ≡ true }
-    ensures { IfOk result (IsLineFor whole.now ms asking.now asked.now) }
+    requires asks { asker whole.now.state.node actor.now ≡ Some asking.now }
+    requires built { is_built_payload asked.now ≡ true }
+    ensures { let given = given_to whole.now (V.roots verdicts.now) (V.csrs verdicts.now) (V.joins verdicts.now) in
+        IfOk result (IsLine given whole.now.state ms actor.now asked.now) }
 {
     let deadlines = next_deadlines(whole.alloc, whole.deadlines.as_slice(), asking, ms, asked)?;
     match asked {
-        Ok(request) => answered(whole, ms, asking, request, deadlines),
-        Err(fault) => refused(whole, ms, asking, *fault, deadlines),
+        Ok(request) => answered(whole, ms, actor, asking, request, deadlines, verdicts),
+        Err(fault) => refused(whole, ms, actor, asking, *fault, deadlines, verdicts),
     }
 }
 
 // What a request is answered.
-fn answered(
+fn answered<V: Verdicts>(
     whole: &Whole,
     ms: u64,
+    actor: &Actor,
     asking: &Actor,
     request: &Request,
     deadlines: Option<PlainDeadlines>,
+    verdicts: &V,
 ) -> Result<WholeOutcome, AllocError>
+    requires asks { asker whole.now.state.node actor.now ≡ Some asking.now }
     requires built { is_built_request request.now ≡ true }
-    requires next { unwrap_or deadlines whole.now.deadlines ≡ with_deadline asking.now whole.now.deadlines ms (Ok request.now) }
-    ensures { IfOk result (IsLineFor whole.now ms asking.now (Ok request.now)) }
+    requires next { unwrap_or deadlines whole.now.state.deadlines ≡ with_deadline asking.now whole.now.state.deadlines ms (Ok request.now) }
+    ensures { let given = given_to whole.now (V.roots verdicts.now) (V.csrs verdicts.now) (V.joins verdicts.now) in
+        IfOk result (IsLine given whole.now.state ms actor.now (Ok request.now)) }
 {
     let timed = deadline_of(whole.deadlines.as_slice(), asking);
-    let node = whole.node.plan_asked(asking, request, timed, ms)?;
+    let node = whole
+        .node
+        .plan_asked(actor, asking, request, timed, ms, verdicts)?;
     let sent = if_not_refused(whole, ms, asking, request, &node.reply)?;
+    let deadlines = left_without(
+        whole.alloc,
+        whole.deadlines.as_slice(),
+        deadlines,
+        node.gone,
+    )?;
     Ok(WholeOutcome {
         sent,
         node,
@@ -112,7 +132,7 @@ fn if_not_refused(
     reply: &Reply,
 ) -> Result<SentList, AllocError>
     ensures { IfOk result (λ sent. sent ≡ sent_as ms asking.now.fabric
-        (if is_refused asking.now whole.now.deadlines ms request.now then refusal (code_of Busy) else reply.now)) }
+        (if is_refused asking.now whole.now.state.deadlines ms request.now then refusal (code_of Busy) else reply.now)) }
 {
     if is_refused(whole.deadlines.as_slice(), asking, ms, request) {
         let busy = Reply::Status {
@@ -124,17 +144,21 @@ fn if_not_refused(
 }
 
 // What is no request is refused, and time passes.
-fn refused(
+fn refused<V: Verdicts>(
     whole: &Whole,
     ms: u64,
+    actor: &Actor,
     asking: &Actor,
     fault: ImFault,
     deadlines: Option<PlainDeadlines>,
+    verdicts: &V,
 ) -> Result<WholeOutcome, AllocError>
-    requires { unwrap_or deadlines whole.now.deadlines ≡ with_deadline asking.now whole.now.deadlines ms (Err fault) }
-    ensures { IfOk result (IsLineFor whole.now ms asking.now (Err fault)) }
+    requires asks { asker whole.now.state.node actor.now ≡ Some asking.now }
+    requires next { unwrap_or deadlines whole.now.state.deadlines ≡ with_deadline asking.now whole.now.state.deadlines ms (Err fault) }
+    ensures { let given = given_to whole.now (V.roots verdicts.now) (V.csrs verdicts.now) (V.joins verdicts.now) in
+        IfOk result (IsLine given whole.now.state ms actor.now (Err fault)) }
 {
-    let node = whole.node.plan(&Action::Nothing, ms)?;
+    let node = whole.node.plan(&Action::Nothing, ms, verdicts)?;
     let sent = sent_as(whole.alloc, ms, asking.fabric, &fault_reply(fault))?;
     Ok(WholeOutcome {
         sent,

@@ -2,21 +2,22 @@
 
 ghost use Rattle.std.specs.Prelude.{◌≡◌, IfOk};
 ghost use Rattle.mt_machine.specs.Lines.{is_built_payload};
-ghost use Rattle.mt_machine.specs.Opened.{opened_whole};
-ghost use Rattle.mt_model.specs.declared.texts.recording.Event.TheVariants.{Ask};
-ghost use Rattle.mt_whole.specs.Plan.{IsPlanIf, IsWholePlanned, applied_whole, is_want_of_memory};
+ghost use Rattle.mt_im.specs.Reading.{request_in};
+ghost use Rattle.mt_whole.specs.Kept.{given_to, in_state, started};
+ghost use Rattle.mt_whole.specs.Plan.{IsLineIf, IsPlanIf, IsWholePlanned, applied_whole, is_want_of_memory};
 
 use crate::lines::{line_actor, planned_line};
 use crate::outcome::WholeOutcome;
 use crate::ticks::planned_tick;
 use mt_im::{ImFault, decode};
-use mt_model::{Config, Event, PlainDeadlines, Request};
+use mt_model::{Actor, Config, Event, PlainDeadlines, Request, Verdicts};
 use mt_node::{Node, is_built_request};
 use mt_tlv::Bytes;
 use std::alloc::{AllocError, Global};
 use std::marker::Model;
 
-/// The node, and the deadlines of plain actors around it. Contracts see the state of both.
+/// The node, and the deadlines of plain actors around it. Contracts see the state of both, and the configuration
+/// with which it was started.
 #[derive(Drop)]
 pub struct Whole {
     pub(crate) alloc: Global,
@@ -25,21 +26,21 @@ pub struct Whole {
 }
 
 impl Model for Whole {
-    ghost use Rattle.mt_machine.specs.State.{State};
+    ghost use Rattle.mt_whole.specs.Kept.{Kept};
     ghost use Rattle.mt_tlv.specs.contracts.value.Value as values;
     ghost use Rattle.std.specs.Coded.{codes};
 
-    ghost Value = { State };
+    ghost Value = { Kept };
 
     ghost coded = { Prim.hlevel (codes, values.the_row.coded) };
 
-    ghost view = { λ whole. record { node = whole.node.state; deadlines = whole.deadlines } };
+    ghost view = { λ whole. record { state = record { node = whole.node.state; deadlines = whole.deadlines }; config = whole.node.config } };
 }
 
 impl Whole {
     /// A new node with this configuration, in its first boot; nobody has a deadline.
     pub fn start(alloc: Global, config: &Config) -> Result<Whole, AllocError>
-        ensures { IfOk result (λ whole. whole ≡ opened_whole config.now) }
+        ensures { IfOk result (λ whole. whole ≡ started config.now) }
     {
         let node = Node::start(alloc, config)?;
         Ok(Whole {
@@ -49,10 +50,15 @@ impl Whole {
         })
     }
 
-    /// Plans an event of a recording, None exactly where it is not built. It changes nothing, and takes
-    /// all the memory.
-    pub fn plan(&self, event: &Event) -> Result<Option<WholeOutcome>, AllocError>
-        ensures { IfOk result (IsPlanIf self.now event.now) }
+    /// Plans an event of a recording, None exactly where it is not built, by the verdicts on certificates that are
+    /// handed in. It changes nothing, and takes all the memory.
+    pub fn plan<V: Verdicts>(
+        &self,
+        event: &Event,
+        verdicts: &V,
+    ) -> Result<Option<WholeOutcome>, AllocError>
+        ensures { let given = given_to self.now (V.roots verdicts.now) (V.csrs verdicts.now) (V.joins verdicts.now) in
+            IfOk result (IsPlanIf given self.now.state event.now) }
     {
         match event {
             Event::Ask {
@@ -62,9 +68,12 @@ impl Whole {
                 cats,
                 opcode,
                 payload,
-            } => self.plan_line(*ms, *fabric, *node, *cats, *opcode, payload),
+            } => {
+                let actor = line_actor(*fabric, *node, *cats);
+                self.plan_line(*ms, &actor, *opcode, payload, verdicts)
+            },
             Event::Tick { ms } => {
-                let outcome = planned_tick(self, *ms)?;
+                let outcome = planned_tick(self, *ms, verdicts)?;
                 Ok(Some(outcome))
             },
             Event::Datagram { .. } => Ok(None),
@@ -74,19 +83,18 @@ impl Whole {
         }
     }
 
-    // Plans a line of a plain actor.
-    fn plan_line(
+    // Plans a line of a plain actor, None where its payload asks what is not built.
+    fn plan_line<V: Verdicts>(
         &self,
         ms: u64,
-        fabric: u8,
-        node: u64,
-        cats: [u32; 3],
+        actor: &Actor,
         opcode: u8,
         payload: &Bytes,
+        verdicts: &V,
     ) -> Result<Option<WholeOutcome>, AllocError>
-        ensures { IfOk result (IsPlanIf self.now (Ask ms fabric node cats opcode payload.now)) }
+        ensures { let given = given_to self.now (V.roots verdicts.now) (V.csrs verdicts.now) (V.joins verdicts.now) in
+            IfOk result (IsLineIf given self.now.state ms actor.now (request_in opcode payload.now)) }
     {
-        let actor = line_actor(fabric, node, cats);
         let asked = decode(self.alloc, opcode, payload.as_slice());
         if is_want_of_memory(&asked) {
             return Err(AllocError);
@@ -94,14 +102,14 @@ impl Whole {
         if !is_built_payload(&asked) {
             return Ok(None);
         }
-        let outcome = planned_line(self, ms, &actor, &asked)?;
+        let outcome = planned_line(self, ms, actor, &asked, verdicts)?;
         Ok(Some(outcome))
     }
 
     /// Makes of the whole what a planned event makes of it. It takes no memory, and cannot fail.
     pub fn apply(&mut self, outcome: WholeOutcome)
-        requires { IsWholePlanned self.old outcome }
-        ensures { self.new ≡ applied_whole outcome self.old }
+        requires { IsWholePlanned self.old.state outcome }
+        ensures { self.new ≡ in_state (applied_whole outcome self.old.state) self.old }
     {
         let WholeOutcome {
             sent: _,

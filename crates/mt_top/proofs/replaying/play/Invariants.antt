@@ -11,7 +11,7 @@ abbrev pub invariant-loop-event : goal.invariant-loop-event
 invariant-loop-event g l = record {
   told : List Sent;
   took : Took (g.W.Sink.written l.fn.out) (g.W.Sink.written l.out) (output_text told);
-  sent : sent_of l.fn.whole l.fn.events ≡ told ++ sent_of l.whole (drop l.event-index l.event-items);
+  sent : sent_of l.fn.player l.fn.events ≡ told ++ sent_of l.player (drop l.event-index l.event-items);
   unbuilt : unbuilt_from 2 l.fn.events ≡ unbuilt_from l.line (drop l.event-index l.event-items);
   line : l.line ≡ l.event-index + 2;
   calm : g.W.Sink.faults l.out ≡ g.W.Sink.faults l.fn.out;

@@ -1,7 +1,8 @@
 use Rattle.std.proofs.Common.{◌≡◌, false, refl, subst, rules}
 use Rattle.std.specs.Prelude.{IfErr, OnOk}
-use Rattle.mt_machine.specs.Opened.{opened_whole}
-use Rattle.mt_machine.specs.State.{State}
+use Rattle.mt_top.specs.Begun.{begun_with}
+use Rattle.mt_model.specs.texts.Contents.{contents_of}
+use Rattle.mt_top.specs.Begun.{Begun}
 use Rattle.mt_top.specs.declared.fault.Fault.TheVariants.{WriteFault}
 use Rattle.mt_top.specs.Endings.{played, replayed_from}
 use Rattle.mt_top.specs.Moments.{in_hand, input, moment}
@@ -15,7 +16,7 @@ returns-in_default-clause-err g c =
     let reads = g.A.Source.faults in
     let written = g.W.Sink.written in
     let faults = g.W.Sink.faults in
-    stops_early c.writings_add_up.ensures (opened_whole c.args.config.now) (input (left c.args.first.now) (reads c.args.first.now)) (input (left c.args.first.now) (reads c.args.first.now)) (written c.args.out.now) (written c.args.out.now) (faults c.args.out.now) (faults c.args.out.now) refl
+    stops_early c.writings_add_up.ensures (begun_with (contents_of c.args.config.now)) (input (left c.args.first.now) (reads c.args.first.now)) (input (left c.args.first.now) (reads c.args.first.now)) (written c.args.out.now) (written c.args.out.now) (faults c.args.out.now) (faults c.args.out.now) refl
 
 pub returns-in_default-clause-calm : goal.returns-in_default-clause-calm
 returns-in_default-clause-calm g c = record { sources = record { config = refl; first = refl }; sink = refl }
@@ -26,13 +27,13 @@ returns-in-Ok-recorded-clause-ok g c =
     let reads = g.A.Source.faults in
     let written = g.W.Sink.written in
     let faults = g.W.Sink.faults in
-    let s = c.in-Ok.whole in
+    let s = c.in-Ok.player in
     let old = input (left c.args.first.now) (reads c.args.first.now) in
     let new = input (left c.recorded.new.first) (reads c.recorded.new.first) in
     let events = c.in-Ok-recorded.events in
     let held = c.in-Ok-recorded.ensures.ok in
-    let from : s ≡ opened_whole c.args.config.now = c.in-Ok.ensures in
-    let Told = λ (x : State). OnOk c.play.result (Done (replayed_from x) (moment in_hand old (written c.args.out.now) (faults c.args.out.now)) (moment in_hand new (written c.play.new.out) (faults c.play.new.out))) in
+    let from : s ≡ begun_with (contents_of c.args.config.now) = c.in-Ok.ensures in
+    let Told = λ (x : Begun). OnOk c.play.result (Done (replayed_from x) (moment in_hand old (written c.args.out.now) (faults c.args.out.now)) (moment in_hand new (written c.play.new.out) (faults c.play.new.out))) in
     subst Told from (on_ok c.play.result (PlayedTo (played s events) (written c.args.out.now) (written c.play.new.out)) (Done (replayed_from s) (moment in_hand old (written c.args.out.now) (faults c.args.out.now)) (moment in_hand new (written c.play.new.out) (faults c.play.new.out)))
     (λ well. plays_done c.writings_add_up.ensures s old new (written c.args.out.now) (written c.play.new.out) (faults c.args.out.now) (faults c.play.new.out) held.0 events held.1 held.2 (record { sources = record { config = refl; first = c.recorded.ensures.calm (search rules) }; sink = c.play.ensures.calm (well WriteFault) }))
     c.play.ensures.ok)
@@ -43,13 +44,13 @@ returns-in-Ok-recorded-clause-err g c =
     let reads = g.A.Source.faults in
     let written = g.W.Sink.written in
     let faults = g.W.Sink.faults in
-    let s = c.in-Ok.whole in
+    let s = c.in-Ok.player in
     let old = input (left c.args.first.now) (reads c.args.first.now) in
     let new = input (left c.recorded.new.first) (reads c.recorded.new.first) in
     let events = c.in-Ok-recorded.events in
     let held = c.in-Ok-recorded.ensures.ok in
-    let from : s ≡ opened_whole c.args.config.now = c.in-Ok.ensures in
-    let Told = λ (x : State). IfErr c.play.result (λ fault. Stops fault (replayed_from x) (moment in_hand old (written c.args.out.now) (faults c.args.out.now)) (moment in_hand new (written c.play.new.out) (faults c.play.new.out))) in
+    let from : s ≡ begun_with (contents_of c.args.config.now) = c.in-Ok.ensures in
+    let Told = λ (x : Begun). IfErr c.play.result (λ fault. Stops fault (replayed_from x) (moment in_hand old (written c.args.out.now) (faults c.args.out.now)) (moment in_hand new (written c.play.new.out) (faults c.play.new.out))) in
     subst Told from (if_err c.play.result (λ fault. StopsPlaying fault (played s events) (written c.args.out.now) (written c.play.new.out) (faults c.args.out.now) (faults c.play.new.out)) (λ fault. Stops fault (replayed_from s) (moment in_hand old (written c.args.out.now) (faults c.args.out.now)) (moment in_hand new (written c.play.new.out) (faults c.play.new.out)))
     (λ fault h. plays_stop c.writings_add_up.ensures s old new (written c.args.out.now) (written c.play.new.out) (faults c.args.out.now) (faults c.play.new.out) held.0 events fault held.1 held.2 h)
     c.play.ensures.err)
@@ -73,7 +74,7 @@ returns-in-Err-clause-err g c =
     let reads = g.A.Source.faults in
     let written = g.W.Sink.written in
     let faults = g.W.Sink.faults in
-    stops_recording c.writings_add_up.ensures (opened_whole c.args.config.now) (input (left c.args.first.now) (reads c.args.first.now)) (input (left c.recorded.new.first) (reads c.recorded.new.first)) (written c.args.out.now) (written c.args.out.now) (faults c.args.out.now) (faults c.args.out.now) c.in-Err.fault refl c.in-Err.ensures.err
+    stops_recording c.writings_add_up.ensures (begun_with (contents_of c.args.config.now)) (input (left c.args.first.now) (reads c.args.first.now)) (input (left c.recorded.new.first) (reads c.recorded.new.first)) (written c.args.out.now) (written c.args.out.now) (faults c.args.out.now) (faults c.args.out.now) c.in-Err.fault refl c.in-Err.ensures.err
 
 pub returns-in-Err-clause-calm : goal.returns-in-Err-clause-calm
 returns-in-Err-clause-calm g c =

@@ -7,7 +7,7 @@ use Rattle.mt_model.specs.declared.rows.place.Row.{Row}
 use Rattle.mt_machine.specs.State.{IsValid}
 use Rattle.mt_node.specs.Kept.{Kept}
 use Rattle.mt_node.proofs.Observed.{invoked_observed}
-use Rattle.mt_node.proofs.commands.carried_out.Goals as goal
+use Rattle.mt_node.proofs.commands.particular.Goals as goal
 
 pub returns : goal.returns
 returns c =

@@ -1,0 +1,64 @@
+-- No step moves a version, a change number or the count of changes.
+use Rattle.std.proofs.Common.{◌≡◌, inl, inr, is_none, List, [], ◌∷◌, Option, None, Some, refl, ap, sym, ◌∙◌, map}
+use Rattle.std.proofs.lemmas.Bool.{cases_Bool}
+use Rattle.mt_fabrics.specs.Table.{label_refusal}
+use Rattle.mt_failsafe.specs.Notes as notes
+use Rattle.mt_model.specs.declared.node.action.NodeStep.{NodeStep}
+use Rattle.mt_model.specs.declared.node.action.NodeStep.TheVariants.{SetRow, SetEntries, PutNetwork, RemoveNetwork, ConnectNetwork, MoveNetwork, Arm, Renew, Expire, Complete, AddRoot, Csr, AddFabric, UpdateFabric, RemoveFabric, Label, Emit}
+use Rattle.mt_model.specs.declared.node.state.NodeState.{NodeState}
+use Rattle.mt_model.specs.declared.rows.place.Place.{Place}
+use Rattle.mt_model.specs.declared.tables.access.Actor.{Actor}
+use Rattle.mt_model.specs.declared.tables.network.Armed.{Armed}
+use Rattle.mt_machine.specs.Changes.{change_after, changed_at, count_after, differing, next_change, settled, version_after}
+use Rattle.mt_machine.specs.Effects.{after, after_all, completed, may_join, may_leave, may_update}
+use Rattle.mt_machine.specs.Rollback.{rolled_back}
+use Rattle.mt_machine.specs.Step.{after_steps}
+
+-- the same counts
+abbrev AsCounted : NodeState → NodeState → Type 0
+AsCounted s t = t ≡ record t { versions = s.versions; changes = s.changes; changed = s.changed }
+
+expired : (armed : Option Armed) (s : NodeState) → AsCounted s (rolled_back armed s)
+expired None s = refl
+expired (Some armed) s = refl
+
+complete : (armed : Option Armed) (s : NodeState) → AsCounted s (completed armed s)
+complete None s = refl
+complete (Some armed) s = refl
+
+step_counts : (asker : Option Actor) (step : NodeStep) (s : NodeState) → AsCounted s (after asker step s)
+step_counts asker (SetRow place fabric values) s = refl
+step_counts asker (SetEntries fabric entries) s = refl
+step_counts asker (PutNetwork id secret) s = refl
+step_counts asker (RemoveNetwork id) s = refl
+step_counts asker (ConnectNetwork id) s = refl
+step_counts asker (MoveNetwork id index) s = refl
+step_counts asker (Arm owner seconds) s = refl
+step_counts asker (Renew seconds) s = refl
+step_counts asker Expire s = expired s.armed s
+step_counts asker Complete s = complete s.armed s
+step_counts asker (AddRoot cert) s = elim (cases_Bool (notes.may_note_root s.armed)) [ inl may ↦ rw may refl | inr may_not ↦ rw may_not refl ]
+step_counts asker (Csr nonce update) s = elim (cases_Bool (notes.may_note_csr update s.armed)) [ inl may ↦ rw may refl | inr may_not ↦ rw may_not refl ]
+step_counts asker (AddFabric fabric) s = elim (cases_Bool (may_join fabric s)) [ inl may ↦ rw may refl | inr may_not ↦ rw may_not refl ]
+step_counts asker (UpdateFabric index credentials) s = elim (cases_Bool (may_update index credentials s)) [ inl may ↦ rw may refl | inr may_not ↦ rw may_not refl ]
+step_counts asker (RemoveFabric index) s = elim (cases_Bool (may_leave index s)) [ inl may ↦ rw may refl | inr may_not ↦ rw may_not refl ]
+step_counts asker (Label index label) s = elim (cases_Bool (is_none (label_refusal index label s.fabrics))) [ inl may ↦ rw may refl | inr may_not ↦ rw may_not refl ]
+step_counts asker (Emit place priority fabric value) s = refl
+
+pub steps_count : (asker : Option Actor) (steps : List NodeStep) (s : NodeState) → AsCounted s (after_all asker steps s)
+steps_count asker [] s = refl
+steps_count asker (step ∷ steps) s =
+    let one = step_counts asker step s in
+    let rest = steps_count asker steps (after asker step s) in
+    rest ∙ (λ i. record (after_all asker steps (after asker step s)) { versions = (one i).versions; changes = (one i).changes; changed = (one i).changed })
+
+-- the state behind steps, where versions and change numbers follow from comparing it
+pub settled_is : (asker : Option Actor) (steps : List NodeStep) (s t u : NodeState) (places : List Place) → t ≡ after_all asker steps s → places ≡ differing s t
+    → u ≡ record t { versions = map (version_after places) t.versions; changes = map (change_after places (next_change t.changed)) t.changes; changed = count_after places t.changed }
+    → u ≡ after_steps asker steps s
+settled_is asker steps s t u places is differ made =
+    let kept : AsCounted s t = is ∙ steps_count asker steps s ∙ ap (λ (x : NodeState). record x { versions = s.versions; changes = s.changes; changed = s.changed }) (sym is) in
+    made
+    ∙ ap (λ (x : NodeState). record x { versions = map (version_after places) x.versions; changes = map (change_after places (next_change x.changed)) x.changes; changed = count_after places x.changed }) kept
+    ∙ ap (λ (l : List Place). changed_at l s t) differ
+    ∙ ap (settled s) is

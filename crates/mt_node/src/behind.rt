@@ -1,0 +1,71 @@
+//! The state behind steps that do more than set values. It is made whole, beside the one that stands, so that putting it
+//! in place takes no memory.
+
+ghost use Rattle.std.specs.Prelude.{◌≡◌, true, IfOk};
+ghost use Rattle.mt_machine.specs.Step.{after_steps, at_time};
+ghost use Rattle.mt_machine.specs.Taking.{may_take_all};
+ghost use Rattle.mt_node.specs.Plan.{IsMade};
+
+use crate::between::{closed_between, differing_between, gone_between};
+use crate::effects::{session_of, settle};
+use crate::node::Node;
+use crate::outcome::Outcome;
+use mt_machine::{states_are_valid, steps_leave_states_valid};
+use mt_model::{Actor, Effect, ExactCopy, NodeState, Places, Steps};
+use mt_steps::make_all;
+use std::alloc::AllocError;
+
+/// The outcome of an answer whose steps the state takes: sessions may end, and a fabric may leave.
+pub(crate) fn made_whole(
+    node: &Node,
+    asking: Option<Actor>,
+    answered: Effect,
+    now: u64,
+) -> Result<Outcome, AllocError>
+    requires { may_take_all asking answered.steps (at_time now node.now.state) ≡ true }
+    ensures { IfOk result (IsMade node.now.state asking answered now) }
+{
+    let alloc = node.alloc;
+    let Effect { reply, steps } = answered;
+    let behind = state_behind(node, asking, steps, now)?;
+    let before = &node.state;
+    let closed = closed_between(
+        alloc,
+        before.sessions.as_slice(),
+        behind.sessions.as_slice(),
+    )?;
+    let gone = gone_between(before.fabrics.as_slice(), behind.fabrics.as_slice());
+    Ok(Outcome {
+        reply,
+        session: session_of(asking),
+        closed,
+        gone,
+        asking,
+        behind: Some(behind),
+        steps: Steps::new(alloc),
+        places: Places::new(alloc),
+        rows_rooms: Vec::new(alloc),
+        entries_room: Vec::new(alloc),
+        clock: now,
+    })
+}
+
+// The state behind the steps, with the versions and change numbers that follow.
+fn state_behind(
+    node: &Node,
+    asking: Option<Actor>,
+    steps: Steps,
+    now: u64,
+) -> Result<NodeState, AllocError>
+    requires { may_take_all asking steps (at_time now node.now.state) ≡ true }
+    ensures { IfOk result (λ behind. behind ≡ after_steps asking steps (at_time now node.now.state)) }
+{
+    states_are_valid();
+    steps_leave_states_valid();
+    let mut behind = node.state.copy()?;
+    behind.clock = now;
+    make_all(node.alloc, asking, steps, &mut behind)?;
+    let places = differing_between(node, &behind)?;
+    settle(node.alloc, &mut behind, places.as_slice());
+    Ok(behind)
+}
