@@ -6,6 +6,7 @@
 
 ghost use Rattle.std.specs.Prelude.{None};
 
+mod join;
 mod table;
 mod written;
 
@@ -18,7 +19,7 @@ use std::{env, io};
 use table::{Recording, recordings};
 
 /// How many requests a recording has where speeds are printed.
-const SIZES: [u64; 2] = [20_000, 200_000];
+const SIZES: [u64; 3] = [2_000, 20_000, 200_000];
 
 /// How many it has where none are.
 const FEW: u64 = 100;

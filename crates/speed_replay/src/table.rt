@@ -1,12 +1,13 @@
-//! The recordings that are measured: each is one configuration, and one request over and over. Writes and commands
-//! change what stands each time.
+//! The recordings that are measured: each is one configuration, and one request over and over, or the six of a
+//! fabric that comes and goes. Writes and commands change what stands each time.
 
+use crate::join::{self, push_times};
 use crate::written::{Written, items};
 use mt_files::write_event;
 use mt_im_out::encode_request;
 use mt_model::opcode::{INVOKE_REQUEST, READ_REQUEST, WRITE_REQUEST};
 use mt_model::{Event, Index, Path, Paths, Place, Request, Version, Versions};
-use mt_tlv::{Members, Value};
+use mt_tlv::{Bytes, Members, Value};
 use std::alloc::{AllocError, Global};
 
 /// A recording of the table, which is made and not stored.
@@ -34,6 +35,8 @@ enum Asked {
     Write(Written),
     /// That On/Off of endpoint 1 be what it is not.
     Toggle,
+    /// That a fabric join, and go.
+    Join,
 }
 
 fn of_two_fabrics(name: &'static str, asked: Path, filtered: bool) -> Recording {
@@ -72,7 +75,7 @@ pub(crate) fn acl() -> Path {
 }
 
 /// The recordings of the table.
-pub(crate) fn recordings() -> [Recording; 11] {
+pub(crate) fn recordings() -> [Recording; 12] {
     [
         of_two_fabrics("attribute", attributes(1, Some(6), Some(0)), true),
         of_two_fabrics("endpoint-0", attributes(0, None, None), true),
@@ -107,6 +110,10 @@ pub(crate) fn recordings() -> [Recording; 11] {
             asked: Asked::Toggle,
             ..of_two_fabrics("toggle", acl(), false)
         },
+        Recording {
+            asked: Asked::Join,
+            ..of_two_fabrics("joins", acl(), false)
+        },
     ]
 }
 
@@ -120,7 +127,11 @@ impl Recording {
             }
             self.push_fabric(alloc, number, &mut text)?;
         }
-        text.push_str("]}\n")?;
+        text.push_str("]")?;
+        if let Asked::Join = self.asked {
+            join::push_verdicts(&mut text)?;
+        }
+        text.push_str("}\n")?;
         Ok(text)
     }
 
@@ -151,50 +162,68 @@ impl Recording {
 
     /// The text of a recording of so many requests.
     pub(crate) fn text(&self, alloc: Global, lines: u64) -> Result<Vec<u8>, AllocError> {
-        let even = encode_request(alloc, &self.request(alloc, false)?)?;
-        let odd = encode_request(alloc, &self.request(alloc, true)?)?;
-        let turns = (self.turns as u64).max(1);
+        let round = self.round(alloc)?;
         let mut text = Vec::from_slice(alloc, b"matter-record 1\n")?;
-        for ms in 0..lines {
-            let payload = if ms / turns % 2 == 0 {
-                even.copy()?
-            } else {
-                odd.copy()?
-            };
+        for (ms, (fabric, payload)) in (0..lines).zip(round.iter().cycle()) {
             let event = Event::Ask {
                 ms,
-                fabric: u8::try_from(ms % turns).unwrap_or(0).saturating_add(1),
+                fabric: *fabric,
                 node: 1,
                 cats: [0; 3],
                 opcode: self.opcode(),
-                payload,
+                payload: payload.copy()?,
             };
             write_event(&event, &mut text)?;
         }
         Ok(text)
     }
 
+    // The payloads that come over and over, each with the fabric that asks.
+    fn round(&self, alloc: Global) -> Result<Vec<(u8, Bytes)>, AllocError> {
+        let mut round = Vec::new(alloc);
+        for step in 0..self.steps() {
+            let payload = encode_request(alloc, &self.request(alloc, step)?)?;
+            for turn in 0..self.turns {
+                let fabric = match self.asked {
+                    Asked::Join => join::asker(step),
+                    _ => turn.saturating_add(1),
+                };
+                round.push((fabric, payload.copy()?))?;
+            }
+        }
+        Ok(round)
+    }
+
+    // How many requests differ: most recordings have two, of which the second puts another value.
+    fn steps(&self) -> u8 {
+        match self.asked {
+            Asked::Join => join::STEPS,
+            _ => 2,
+        }
+    }
+
     fn opcode(&self) -> u8 {
         match self.asked {
             Asked::Write(_) => WRITE_REQUEST,
-            Asked::Toggle => INVOKE_REQUEST,
+            Asked::Toggle | Asked::Join => INVOKE_REQUEST,
             _ => READ_REQUEST,
         }
     }
 
-    // The request of even lines, or that of odd ones.
-    fn request(&self, alloc: Global, odd: bool) -> Result<Request, AllocError> {
+    // The request of a step.
+    fn request(&self, alloc: Global, step: u8) -> Result<Request, AllocError> {
         let mut paths = Paths::new(alloc);
         let mut versions = Versions::new(alloc);
         match self.asked {
             Asked::One(path) => paths.push(path)?,
             Asked::Sixteen => push_sixteen(&mut paths, &mut versions)?,
             Asked::Toggle => return Ok(toggle(alloc)),
+            Asked::Join => return join::request(alloc, step),
             Asked::Write(what) => {
                 return Ok(Request::Write {
                     suppress: false,
                     timed: false,
-                    items: items(alloc, what, odd)?,
+                    items: items(alloc, what, step == 1)?,
                 });
             },
         }
@@ -219,13 +248,6 @@ fn toggle(alloc: Global) -> Request {
         },
         fields: Value::Struct(Members::from_vec(Vec::new(alloc))),
     }
-}
-
-fn push_times(times: u32, part: &str, text: &mut String) -> Result<(), AllocError> {
-    for _ in 0..times {
-        text.push_str(part)?;
-    }
-    Ok(())
 }
 
 fn push_entries(entries: u8, text: &mut String) -> Result<(), AllocError> {

@@ -1,0 +1,164 @@
+//! The node of a case. Its words, each of which may be left out:
+//!
+//! - `armed:N`: fabric N armed the fail-safe, 0 for PASE, and commissioning goes on for it; `context:N` for another;
+//! - `added:N`, `updated:N`, `root:CERT`, `csr:new`, `csr:update`: what was done since. The nonce of a signing
+//!   request is 32 bytes 0e;
+//! - `networks:N`: the first N of the networks n1 to n4, of which n1 is connected;
+//! - `fabrics:N`: the first N of the configuration's fabrics, the first two where it is left out; `gone:N`: fabric N left.
+
+ghost use Rattle.std.specs.Prelude.{IsTrue};
+ghost use Rattle.mt_model.specs.rows.Order.{fabrics_ascend};
+
+use crate::invoke;
+use crate::words::{Asked, byte, no_case, octets};
+use mt_fabrics::FabricTable;
+use mt_model::{
+    AclEntries, Armed, Config, Effect, ExactCopy, Fabrics, Network, Networks, Roots, StoredRows,
+    TableVerdicts, View,
+};
+use mt_tlv::Bytes;
+use std::alloc::Global;
+use std::io;
+
+/// What the node of these words answers.
+pub(crate) fn answer(
+    alloc: Global,
+    config: &Config,
+    verdicts: &TableVerdicts,
+    state: &str,
+    asked: &Asked,
+) -> io::Result<Effect> {
+    are_known(state)?;
+    let table = table(alloc, config, state)?;
+    let networks = networks(alloc, state)?;
+    let armed = armed(alloc, state)?;
+    let rows = StoredRows::new(alloc)?;
+    let entries = AclEntries::new(alloc);
+    let roots = Roots::new(alloc);
+    let fabrics = fabrics_of(&table);
+    let armed = armed.as_ref();
+    let view = View {
+        rows: &rows,
+        entries: &entries,
+        fabrics,
+        roots: &roots,
+        networks: &networks,
+        armed,
+    };
+    let effect = invoke(alloc, config, verdicts, &view, asked)?;
+    Ok(effect)
+}
+
+fn fabrics_of(table: &FabricTable) -> &Fabrics
+    ensures { IsTrue (fabrics_ascend result.now) }
+{
+    table.fabrics()
+}
+
+fn are_known(state: &str) -> io::Result<()> {
+    for word in state.split(' ') {
+        let (key, _) = word.split_once(':').unwrap_or((word, ""));
+        match key {
+            ""
+            | "armed"
+            | "context"
+            | "added"
+            | "updated"
+            | "root"
+            | "csr"
+            | "networks"
+            | "fabrics"
+            | "gone" => {}
+            _ => return Err(no_case()),
+        }
+    }
+    Ok(())
+}
+
+// What stands behind a word and a colon.
+fn said<'a>(state: &'a str, name: &str) -> Option<&'a str> {
+    for word in state.split(' ') {
+        match word.split_once(':') {
+            Some((key, value)) if key == name => return Some(value),
+            _ => {}
+        }
+    }
+    None
+}
+
+fn number(state: &str, name: &str) -> io::Result<Option<u8>> {
+    match said(state, name) {
+        Some(word) => Ok(Some(byte(word)?)),
+        None => Ok(None),
+    }
+}
+
+fn table(alloc: Global, config: &Config, state: &str) -> io::Result<FabricTable> {
+    let count = number(state, "fabrics")?.unwrap_or(2);
+    let mut table = FabricTable::new(alloc);
+    for fabric in config.fabrics.as_slice().iter().take(count as usize) {
+        if table.add(fabric.copy()?).is_err() {
+            return Err(no_case());
+        }
+    }
+    match number(state, "gone")? {
+        Some(index) if table.remove(index).is_err() => Err(no_case()),
+        _ => Ok(table),
+    }
+}
+
+const NETWORKS: [&str; 4] = ["n1", "n2", "n3", "n4"];
+
+fn networks(alloc: Global, state: &str) -> io::Result<Networks> {
+    let count = number(state, "networks")?.unwrap_or(0);
+    let mut networks = Networks::new(alloc);
+    for id in NETWORKS.iter().take(count as usize) {
+        networks.push(Network {
+            id: Bytes::from_slice(alloc, id.as_bytes())?,
+            secret: Bytes::from_slice(alloc, b"secret")?,
+            connected: *id == "n1",
+        })?;
+    }
+    Ok(networks)
+}
+
+fn armed(alloc: Global, state: &str) -> io::Result<Option<Armed>> {
+    let Some(owner) = number(state, "armed")? else {
+        return Ok(None);
+    };
+    let context = number(state, "context")?.unwrap_or(owner);
+    let added = number(state, "added")?;
+    let updated = number(state, "updated")?;
+    let root = root(alloc, state)?;
+    let csr = csr(alloc, state)?;
+    Ok(Some(Armed {
+        owner,
+        context,
+        until: 60_000,
+        limit: 900_000,
+        added,
+        updated,
+        root,
+        csr,
+        saved_credentials: None,
+        saved_networks: Networks::new(alloc),
+    }))
+}
+
+fn root(alloc: Global, state: &str) -> io::Result<Option<Bytes>> {
+    match said(state, "root") {
+        Some(cert) => Ok(Some(octets(alloc, cert)?)),
+        None => Ok(None),
+    }
+}
+
+// The signing request, and whether it was for an update.
+fn csr(alloc: Global, state: &str) -> io::Result<Option<(Bytes, bool)>> {
+    let update = match said(state, "csr") {
+        Some("update") => true,
+        Some("new") => false,
+        Some(_) => return Err(no_case()),
+        None => return Ok(None),
+    };
+    Ok(Some((octets(alloc, "0e*32")?, update)))
+}
