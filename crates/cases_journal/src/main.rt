@@ -5,7 +5,8 @@
 //! - `s16..18`: an image; `a17..18`: a change, where it fits; `b60000`: a change of so many bytes, where it fits;
 //! - `x3kept`, `x3lost`, `x3torn`: the disk stops at that one of the writes and syncs to come, with this fate;
 //! - `r`: the disk is restarted if it has stopped, and the journal recovered;
-//! - `d`: the first bytes of the file.
+//! - `w1020102=5a17`: these bytes are written into the file at this place, and are safe;
+//! - `d`: the first eleven bytes of the file, `d48` the first 48.
 //!
 //! The journal is recovered at first, and each time it is, its list is printed.
 #![tactic(auto)]

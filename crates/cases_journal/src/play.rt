@@ -89,8 +89,28 @@ fn called(rt: &HostRuntime, journal: &mut TestJournal, call: &str) -> io::Result
         stop(journal, word);
         return Ok(());
     }
+    if let Some(word) = call.strip_prefix("w") {
+        return written(rt, journal, word);
+    }
+    let count = call.trim_start_matches('d').parse::<usize>().unwrap_or(11);
     let bytes = journal.disk.bytes();
-    print!(rt; " {}", hex::encode(alloc, &bytes[..bytes.len().min(11)])?)
+    print!(rt;
+        " {}",
+        hex::encode(alloc, &bytes[..bytes.len().min(count)])?
+    )
+}
+
+// Writes bytes into the file, behind the journal's back.
+fn written(rt: &HostRuntime, journal: &mut TestJournal, word: &str) -> io::Result<()> {
+    let Some((at, bytes)) = word.split_once('=') else {
+        return Ok(());
+    };
+    let bytes = hex::decode(rt.alloc(), bytes).unwrap_or(Vec::new(rt.alloc()));
+    let at = at.parse::<u64>().unwrap_or(0);
+    if journal.disk.write_at(at, &bytes).is_err() || journal.disk.sync().is_err() {
+        print!(rt; " not written")?;
+    }
+    Ok(())
 }
 
 fn switched(rt: &HostRuntime, journal: &mut TestJournal, image: &[u8]) -> io::Result<()> {

@@ -1,11 +1,13 @@
-pub mod Adding
+pub mod Commits
 pub mod Faults
 pub mod Fields
+pub mod FirstImage
+pub mod Heads
 pub mod Images
+pub mod LaterImage
 pub mod Lists
-pub mod Marks
 pub mod Moments
 pub mod Pieces
-pub mod Slots
 pub mod Records
-pub mod Replacing
+pub mod Steps
+pub mod Walking

@@ -1,6 +1,6 @@
 -- Lists that are the same up to a place, or from one on.
-use Rattle.std.proofs.Common.{◌≡◌, ℕ, ◌+◌, ◌-◌, ◌≤◌, ◌<◌, min, max, List, ◌∷◌, ◌++◌, length, take, drop, replicate, get_or, sym, ap, ◌∙◌, arith, append_assoc}
-use Rattle.std.proofs.lemmas.List.{append-nil, drop_more, drop_at, take_at, drop-drop, drop-take, take-take, length-append, length-take, length-drop, length-replicate, get_or-take}
+use Rattle.std.proofs.Common.{◌≡◌, ℕ, ◌+◌, ◌-◌, ◌≤◌, ◌<◌, min, max, List, [], ◌∷◌, ◌++◌, length, take, drop, replicate, get_or, sym, ap, ◌∙◌, arith, append_assoc}
+use Rattle.std.proofs.lemmas.List.{append-nil, drop_more, drop_at, take_at, drop-drop, drop-take, take-append-drop, take-take, length-append, length-take, length-drop, length-replicate, get_or-drop, get_or-take}
 use Rattle.mt_outside.specs.Disk.{CutShort, overwritten}
 
 -- up to an earlier place too
@@ -82,3 +82,35 @@ pub later_kept : (from at : ℕ) (old new : List ℕ) → from ≤ at → drop f
 later_kept from at old new le same =
     let is : from + (at - from) ≡ at = omega arith in
     ap (λ (n : ℕ). drop n new) (sym is) ∙ sym (drop-drop (at - from) from new) ∙ ap (λ (l : List ℕ). drop (at - from) l) same ∙ drop-drop (at - from) from old ∙ ap (λ (n : ℕ). drop n old) is
+
+-- One byte is written over.
+
+module _ (at byte : ℕ) (old : List ℕ) (there : at < length old) where
+  pub byte_from : drop at (overwritten at (byte ∷ []) old) ≡ byte ∷ drop (at + 1) old
+  byte_from = from_written at (byte ∷ []) old (omega (arith, there))
+
+  pub byte_there : get_or (overwritten at (byte ∷ []) old) at 0 ≡ byte
+  byte_there = ap (λ (k : ℕ). get_or (overwritten at (byte ∷ []) old) k 0) (omega arith) ∙ sym (get_or-drop at (overwritten at (byte ∷ []) old) 0 0) ∙ ap (λ (l : List ℕ). get_or l 0 0) byte_from
+
+  pub behind_byte : drop (at + 1) (overwritten at (byte ∷ []) old) ≡ drop (at + 1) old
+  behind_byte = ap (λ (k : ℕ). drop k (overwritten at (byte ∷ []) old)) (omega arith) ∙ sym (drop-drop 1 at (overwritten at (byte ∷ []) old)) ∙ ap (λ (l : List ℕ). drop 1 l) byte_from
+
+  pub next_byte : get_or (overwritten at (byte ∷ []) old) (at + 1) 0 ≡ get_or old (at + 1) 0
+  next_byte =
+      ap (λ (k : ℕ). get_or (overwritten at (byte ∷ []) old) k 0) (omega arith) ∙ sym (get_or-drop (at + 1) (overwritten at (byte ∷ []) old) 0 0)
+      ∙ ap (λ (l : List ℕ). get_or l 0 0) behind_byte ∙ get_or-drop (at + 1) old 0 0 ∙ ap (λ (k : ℕ). get_or old k 0) (omega arith)
+
+-- the front of a file and what comes behind it
+pub put_together : (at : ℕ) (file front middle rest : List ℕ) → take at file ≡ front → drop at file ≡ middle ++ rest → at ≤ length file → take (at + length middle) file ≡ front ++ middle
+put_together at file front middle rest before from long =
+    let whole : file ≡ (front ++ middle) ++ rest = sym (take-append-drop at file) ∙ ap (λ (l : List ℕ). l ++ drop at file) before ∙ ap (λ (l : List ℕ). front ++ l) from ∙ sym (append_assoc front middle rest) in
+    ap (λ (l : List ℕ). take (at + length middle) l) whole ∙ take_at (front ++ middle) rest (at + length middle) (omega (arith, length-append front middle, ap length before, length-take at file, long))
+
+-- two bytes that were read
+pub selectors_read : (file read : List ℕ) (base : ℕ) → read ≡ take 2 (drop base file) → 2 ≤ length read → (base + 2 ≤ length file) × (get_or file base 0 ≡ get_or read 0 0) × (get_or file (base + 1) 0 ≡ get_or read 1 0)
+selectors_read file read base is two =
+    let byte : (i : ℕ) → i < 2 → get_or file (base + i) 0 ≡ get_or read i 0 = λ i lt. (sym (get_or-drop base file i 0) ∙ sym (get_or-take 2 (drop base file) i 0 lt) ∙ ap (λ (l : List ℕ). get_or l i 0) (sym is)) in (
+      omega (arith, ap length is, two, length-take 2 (drop base file), length-drop base file),
+      ap (λ (k : ℕ). get_or file k 0) (omega arith) ∙ byte 0 (omega arith),
+      byte 1 (omega arith),
+    )

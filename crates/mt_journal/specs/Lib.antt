@@ -1,3 +1,4 @@
+pub mod Committing
 pub mod Layout
 pub mod Recovering
 pub mod Standing

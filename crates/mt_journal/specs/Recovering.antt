@@ -1,11 +1,15 @@
 -- What is read of a journal's file, and by what faults.
-use Rattle.std.specs.Prelude.{◌≡◌, ◌≤◌, ◌<◌, ◌+◌, ℕ, Bool, true, false, List, length, take, drop, get_or, Result, Ok, Err, Option, Some, None, ⊤}
+use Rattle.std.specs.Prelude.{◌≡◌, ◌≤◌, ◌<◌, ◌+◌, ℕ, Bool, true, false, List, length, take, drop, get_or, Result, Ok, Err, Option, ⊤}
 use Rattle.mt_outside.specs.Disk.{LeavesOnly, NoneNew}
 use Rattle.mt_outside.specs.Stream.{RoseByOne}
-use Rattle.mt_journal.specs.Layout.{is_open, length_of}
+use Rattle.mt_journal.specs.Layout.{Reads, Records, is_move, is_open, is_past, length_of}
 use Rattle.mt_journal.specs.Standing.{HasUpTo}
-use Rattle.mt_journal.specs.declared.recovering.JournalFault.{JournalFault}
-use Rattle.mt_journal.specs.declared.recovering.JournalFault.TheVariants.{Disk, NotAJournal, Memory}
+use Rattle.mt_journal.specs.declared.reading.AtGate.{AtGate}
+use Rattle.mt_journal.specs.declared.reading.AtGate.TheVariants.{Closed, Moved, Change}
+use Rattle.mt_journal.specs.declared.reading.JournalFault.{JournalFault}
+use Rattle.mt_journal.specs.declared.reading.JournalFault.TheVariants.{Disk, NotAJournal, Memory}
+use Rattle.mt_journal.specs.declared.recovering.RecordsEnd.{RecordsEnd}
+use Rattle.mt_journal.specs.declared.recovering.RecordsEnd.TheVariants as ends
 
 -- the disk was read and nothing else
 pub record OnlyRead {D : Type 0} (contents : D → Option (List ℕ)) (images : D → List ℕ → Type 0) (moment : D → ℕ) (images_since : D → ℕ → List ℕ → Type 0) (old new : D) : Type 0 where
@@ -33,28 +37,43 @@ abbrev pub IfNotAJournal : {T : Type 0} → Result T JournalFault → (ℕ → T
 IfNotAJournal (Ok x) P = ⊤
 IfNotAJournal (Err fault) P = HasPlace fault P
 
--- These bytes stand behind their length, at this place, and end before the end.
-pub record LaysOut (end place : ℕ) (rest bytes : List ℕ) : Type 0 where
+-- These bytes stand behind their length, at this place, and end before the limit.
+pub record LaysOut (limit : Option ℕ) (place : ℕ) (rest bytes : List ℕ) : Type 0 where
   pub count : length_of (take 4 rest) ≡ length bytes
   pub there : 4 + length bytes ≤ length rest
   pub short : length bytes ≤ 65536
-  pub within : place + 5 + length bytes ≤ end
+  pub within : is_past limit (place + 5 + length bytes) ≡ false
   pub bytes_are : take (length bytes) (drop 4 rest) ≡ bytes
 
--- A slot was read up to this gate, which is closed.
-pub record SlotRead (is_image is_change : List ℕ → Bool) (start gate : ℕ) (list : List (List ℕ)) (file : List ℕ) : Type 0 where
-  pub slot : HasUpTo is_image is_change start gate list file
-  pub there : gate < length file
-  pub closed : is_open (get_or file gate 0) ≡ false
-
--- A record was read at this gate, which is open.
-pub record RecordRead (is_change : List ℕ → Bool) (end gate : ℕ) (bytes file : List ℕ) : Type 0 where
+-- An open gate was read.
+pub record OpenRead (gate : ℕ) (file : List ℕ) : Type 0 where
   pub there : gate < length file
   pub opens : is_open (get_or file gate 0) ≡ true
-  pub lies : LaysOut end (gate + 1) (drop (gate + 1) file) bytes
+
+-- A record was read at this gate, which is open.
+pub record RecordRead (is_change : List ℕ → Bool) (limit : Option ℕ) (gate : ℕ) (bytes file : List ℕ) : Type 0 where
+  pub open_ : OpenRead gate file
+  pub lies : LaysOut limit (gate + 1) (drop (gate + 1) file) bytes
   pub form : is_change bytes ≡ true
 
--- A gate was read, which is closed, or a record behind one that is open.
-abbrev pub GateRead : (List ℕ → Bool) → ℕ → ℕ → Option (List ℕ) → List ℕ → Type 0
-GateRead is_change end gate None file = (gate < length file) × (is_open (get_or file gate 0) ≡ false)
-GateRead is_change end gate (Some bytes) file = RecordRead is_change end gate bytes file
+-- A gate was read, which is closed, or the mark of a move behind one that is open, or a record.
+abbrev pub GateRead : (List ℕ → Bool) → Option ℕ → ℕ → AtGate → List ℕ → Type 0
+GateRead is_change limit gate Closed file = (gate < length file) × (is_open (get_or file gate 0) ≡ false)
+GateRead is_change limit gate Moved file = OpenRead gate file × (is_move limit (drop (gate + 1) file) ≡ true)
+GateRead is_change limit gate (Change bytes) file = RecordRead is_change limit gate bytes file
+
+-- what holds of a change that was read
+abbrev pub IsChange : AtGate → (List ℕ → Type 0) → Type 0
+IsChange Closed P = ⊤
+IsChange Moved P = ⊤
+IsChange (Change bytes) P = P bytes
+
+-- what holds of the gate that ends records, or of the one before the mark of a move
+abbrev pub EndsAt : RecordsEnd → (ℕ → Type 0) → Type 0
+EndsAt (ends.Closed gate) P = P gate
+EndsAt (ends.Moved gate) P = P gate
+
+-- Records were read up to a closed gate, or to the mark of a move.
+abbrev pub RecordsRead : (List ℕ → Reads Records) → (List ℕ → Bool) → Option ℕ → ℕ → RecordsEnd → List (List ℕ) → List ℕ → Type 0
+RecordsRead reads is_change limit start (ends.Closed gate) list file = HasUpTo reads is_change limit start gate list file × (gate < length file) × (is_open (get_or file gate 0) ≡ false)
+RecordsRead reads is_change limit start (ends.Moved gate) list file = HasUpTo reads is_change limit start gate list file × OpenRead gate file × (is_move limit (drop (gate + 1) file) ≡ true)

@@ -1,7 +1,7 @@
-//! One write that is safe when it is done.
+//! Writes that are safe when they are done.
 
-ghost use Rattle.std.specs.Prelude.{◌≡◌, ◌≤◌, ◌+◌, ◌++◌, [], ◌∷◌, List, ℕ, Some, length, vec_capacity, OnOk};
-ghost use Rattle.mt_journal.specs.Standing.{length_field};
+ghost use Rattle.std.specs.Prelude.{◌≡◌, ◌≤◌, ◌+◌, ◌++◌, [], ◌∷◌, ◌⊎◌, List, ℕ, Some, length, vec_capacity, OnOk};
+ghost use Rattle.mt_journal.specs.Standing.{after_calls, length_field};
 ghost use Rattle.mt_outside.specs.Disk.{CutShort, LeavesContents, LeavesOnly, overwritten};
 ghost use Rattle.mt_outside.specs.Stream.{HasCause, one_more};
 
@@ -22,6 +22,27 @@ pub fn put<D: Disk>(disk: &mut D, at: u64, bytes: &[u8]) -> Result<(), Failed>
 {
     disk.write_at(at, bytes)?;
     disk.sync()
+}
+
+/// Writes bytes, and once they are safe one byte more, in four calls of the disk.
+pub fn put_both<D: Disk>(
+    disk: &mut D,
+    at: u64,
+    bytes: &[u8],
+    last_at: u64,
+    last: u8,
+) -> Result<(), Failed>
+    ensures safe { (file : List ℕ) → D.contents disk.old ≡ Some file → LeavesContents (Some file) (D.images disk.old)
+        → OnOk result ((D.contents disk.new ≡ Some (overwritten last_at (last ∷ []) (overwritten at bytes.now file)))
+        × LeavesContents (Some (overwritten last_at (last ∷ []) (overwritten at bytes.now file))) (D.images disk.new)) }
+    // A crash at any moment leaves the file after the first write is cut short, or the second.
+    ensures moments { (file : List ℕ) → D.contents disk.old ≡ Some file → LeavesContents (Some file) (D.images disk.old)
+        → LeavesOnly D.moment D.images_since disk.old disk.new (λ image. CutShort at (length bytes.now) file image ⊎ CutShort last_at 1 (overwritten at bytes.now file) image) }
+    ensures calls { OnOk result (D.calls disk.new ≡ after_calls 4 (D.calls disk.old)) }
+    ensures cause { HasCause (D.faults disk.old) (D.faults disk.new) result }
+{
+    put(disk, at, bytes)?;
+    put(disk, last_at, &[last])
 }
 
 /// Lays out what is written of an image or a change: what stands in front of its length, the length, the

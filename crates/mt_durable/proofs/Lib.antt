@@ -1,0 +1,4 @@
+pub mod Keys
+pub mod Merging
+pub mod Setting
+pub mod Structures

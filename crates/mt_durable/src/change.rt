@@ -1,0 +1,35 @@
+//! A change as bytes.
+
+ghost use Rattle.std.specs.Prelude.{◌≡◌, ◌++◌, IfOk, OnOk};
+ghost use Rattle.mt_durable.specs.Changes.{change_bytes, entry_tree, entry_trees};
+ghost use Rattle.mt_tlv.specs.View.{elements, tree};
+
+use crate::durable::{Change, Entry};
+use mt_tlv::{Members, Tag, Value, write};
+use std::alloc::{AllocError, Global};
+
+/// Writes the bytes of a change at the end. It takes the change apart for it.
+pub fn write_change(alloc: Global, change: Change, out: &mut Vec<u8>) -> Result<(), AllocError>
+    ensures written { OnOk result (out.new.items ≡ out.old.items ++ change_bytes change) }
+{
+    let mut structures = Vec::new(alloc);
+    for entry in change.into_vec() {
+        let structure = structure_of(alloc, entry)?;
+        structures.push((Tag::Anonymous, structure))?;
+    }
+    let array = Value::Array(Members::from_vec(structures));
+    write(&Tag::Anonymous, &array, out)
+}
+
+// An entry as a structure.
+fn structure_of(alloc: Global, entry: Entry) -> Result<Value, AllocError>
+    ensures { IfOk result (λ value. tree value ≡ entry_tree entry) }
+{
+    let Entry { key, value } = entry;
+    let mut members = Vec::new(alloc);
+    members.push((Tag::Context(0), Value::Octets(key)))?;
+    if let Some(value) = value {
+        members.push((Tag::Context(1), value))?;
+    }
+    Ok(Value::Struct(Members::from_vec(members)))
+}
