@@ -1,0 +1,5 @@
+pub mod Keeping
+pub mod Merging
+pub mod Rising
+pub mod Sizes
+pub mod Standing

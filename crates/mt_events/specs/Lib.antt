@@ -1,0 +1,7 @@
+pub mod Asked
+pub mod Kept
+pub mod Numbers
+pub mod Reading
+pub mod Rings
+pub mod Telling
+pub mod Walk

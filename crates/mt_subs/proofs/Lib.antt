@@ -1,0 +1,4 @@
+pub mod Lists
+pub mod Noting
+pub mod Places
+pub mod Staying

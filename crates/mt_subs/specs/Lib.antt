@@ -1,0 +1,4 @@
+pub mod Changes
+pub mod Owed
+pub mod Places
+pub mod Subscriptions

@@ -1,0 +1,119 @@
+//! What is owed to a subscription, and whether it is time.
+
+ghost use Rattle.std.specs.Prelude.{◌≡◌, ◌&&◌, Some, IfOk};
+ghost use Rattle.std.specs.List.{list_any};
+ghost use Rattle.mt_meta.specs.Places.{fits, is_named};
+ghost use Rattle.mt_subs.specs.Changes.{is_among};
+ghost use Rattle.mt_subs.specs.Owed.{due_of, has_passed, is_subscribed, may_read, owed};
+
+use crate::changes::Changes;
+use crate::subscription::Kept;
+use mt_acl::grants;
+use mt_meta::{Asked, all_places, privilege_asked};
+use mt_model::{AclEntry, Actor, ChangeNumber, Path, Place, Places};
+use std::alloc::{AllocError, Global};
+
+// What is owed to a subscription, None where it is not due. The entries are those of its fabric.
+pub(crate) fn due_places(
+    alloc: Global,
+    entries: &[AclEntry],
+    kept: &Kept,
+    now: u64,
+    changes: &Changes,
+    unreported: bool,
+) -> Result<Option<Places>, AllocError>
+    ensures { IfOk result (λ due. due ≡ due_of entries.now (Some kept.now) now changes.now unreported) }
+{
+    let ceiling = has_passed(kept.sub.ceiling, kept.time, now);
+    let floor = has_passed(kept.sub.floor, kept.time, now);
+    if !kept.live || !(ceiling || floor) {
+        return Ok(None);
+    }
+    let places = owed(alloc, entries, kept, changes)?;
+    if ceiling || 1 <= places.len() || unreported {
+        return Ok(Some(places));
+    }
+    Ok(None)
+}
+
+// Whether so many seconds have passed.
+fn has_passed(seconds: u16, last: u64, now: u64) -> bool
+    ensures { result ≡ has_passed seconds last now }
+{
+    1000 * u64::from(seconds) <= now.saturating_sub(last)
+}
+
+// The places that are owed, ascending. Where nothing is later than the last report, no place is looked at.
+fn owed(
+    alloc: Global,
+    entries: &[AclEntry],
+    kept: &Kept,
+    changes: &Changes,
+) -> Result<Places, AllocError>
+    ensures { IfOk result (λ places. places ≡ owed entries.now kept.now changes.now) }
+{
+    let later = changes.later(kept.change);
+    if later.is_empty() {
+        return Ok(Places::new(alloc));
+    }
+    let mut places = all_places(alloc)?.into_vec();
+    places.retain(|place| is_owed(later, entries, kept, place));
+    Ok(Places::from_vec(places))
+}
+
+// Whether a place is owed, where these changes are later than the last report.
+fn is_owed(later: &[ChangeNumber], entries: &[AclEntry], kept: &Kept, place: &Place) -> bool
+    ensures { result ≡ (is_among place.now later.now && (is_subscribed kept.now.sub.paths place.now && may_read entries.now kept.now.sub.actor place.now)) }
+{
+    is_among(later, place)
+        && is_subscribed(kept.sub.paths.as_slice(), place)
+        && may_read(entries, &kept.sub.actor, place)
+}
+
+fn is_among(changes: &[ChangeNumber], place: &Place) -> bool
+    ensures { result ≡ is_among place.now changes.now }
+{
+    changes.iter().any(|change| change.place == *place)
+}
+
+fn is_subscribed(paths: &[Path], place: &Place) -> bool
+    ensures { result ≡ is_subscribed paths.now place.now }
+{
+    paths.iter().any(|path| is_named(path, place))
+}
+
+fn may_read(entries: &[AclEntry], actor: &Actor, place: &Place) -> bool
+    ensures { result ≡ may_read entries.now actor.now place.now }
+{
+    match privilege_asked(place, Asked::Read) {
+        Some(privilege) => grants(entries, actor, place, privilege, false).is_some(),
+        None => true,
+    }
+}
+
+// Whether the place has each field that the path has.
+fn is_named(path: &Path, place: &Place) -> bool
+    ensures { result ≡ is_named path.now place.now }
+{
+    fits_endpoint(path.endpoint, place.endpoint)
+        && fits_number(path.cluster, place.cluster)
+        && fits_number(path.leaf, place.leaf)
+}
+
+fn fits_endpoint(wanted: Option<u16>, endpoint: u16) -> bool
+    ensures { result ≡ fits wanted endpoint }
+{
+    match wanted {
+        None => true,
+        Some(wanted) => wanted == endpoint,
+    }
+}
+
+fn fits_number(wanted: Option<u32>, number: u32) -> bool
+    ensures { result ≡ fits wanted number }
+{
+    match wanted {
+        None => true,
+        Some(wanted) => wanted == number,
+    }
+}
