@@ -98,6 +98,11 @@ grant_of entries actor place asked scoped_change = if implicit_grants actor scop
 abbrev pub is_granted : List AclEntry → Actor → Place → Privilege → Bool → Bool
 is_granted entries actor place asked scoped_change = implicit_grants actor scoped_change || list_any (own_entry_grants actor place asked) entries
 
+-- whether what is asked is granted; nobody needs a grant where no privilege is asked
+abbrev pub is_granted_if_asked : List AclEntry → Actor → Place → Option Privilege → Bool → Bool
+is_granted_if_asked entries actor place None scoped_change = true
+is_granted_if_asked entries actor place (Some asked) scoped_change = is_granted entries actor place asked scoped_change
+
 -- The entry of this index grants, and none before it does.
 pub record IsFirstToGrant (entries : List AclEntry) (actor : Actor) (place : Place) (asked : Privilege) (index : ℕ) : Type 0 where
   pub entry : AclEntry

@@ -3,7 +3,7 @@
 ghost use Rattle.std.specs.Prelude.{◌≡◌, ◌↔◌, IsTrue, IsFalse, IfSome, All, is_some, position};
 ghost use Rattle.std.specs.List.{list_any};
 ghost use Rattle.mt_model.specs.rows.Devices.{device_of};
-ghost use Rattle.mt_acl.specs.Access.{NamesFirst, entry_grants, fits_device, fits_number, fits_subjects, fits_target, fits_targets, grant_of, implicit_grants, is_granted, names_actor, names_cat, own_entry_grants, same_auth};
+ghost use Rattle.mt_acl.specs.Access.{NamesFirst, entry_grants, fits_device, fits_number, fits_subjects, fits_target, fits_targets, grant_of, implicit_grants, is_granted, is_granted_if_asked, names_actor, names_cat, own_entry_grants, same_auth};
 
 use mt_model::{AclEntry, Actor, Auth, Place, Privilege, Target, device_type};
 
@@ -47,6 +47,23 @@ pub fn grants(
     match first_to_grant(entries, actor, place, wanted) {
         Some(index) => Some(Grant::Entry(index)),
         None => None,
+    }
+}
+
+/// Whether anything grants the actor what is asked of it at the place: nobody needs a grant where no
+/// privilege is asked. `scoped_change` is told as to `grants`.
+pub fn grants_if_asked(
+    entries: &[AclEntry],
+    actor: &Actor,
+    place: &Place,
+    asked: Option<Privilege>,
+    scoped_change: bool,
+) -> bool
+    ensures exact { result ≡ is_granted_if_asked entries.now actor.now place.now asked scoped_change }
+{
+    match asked {
+        Some(wanted) => grants(entries, actor, place, wanted, scoped_change).is_some(),
+        None => true,
     }
 }
 

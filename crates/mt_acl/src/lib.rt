@@ -11,6 +11,6 @@ mod granting;
 mod laws;
 mod validity;
 
-pub use granting::{Grant, grants};
+pub use granting::{Grant, grants, grants_if_asked};
 pub use laws::{later_tags_are_named, own_entries_alone_grant};
-pub use validity::{EntryFault, valid};
+pub use validity::{EntryFault, may_be_subject, valid};

@@ -70,7 +70,9 @@ fn may_be_subjects(auth: Auth, subjects: &[u64]) -> bool
         .all(|subject| may_be_subject(auth, *subject))
 }
 
-fn may_be_subject(auth: Auth, subject: u64) -> bool
+/// Whether an entry for this mode may have the subject: over CASE an operational node id or a CAT, for groups
+/// the id of a group, and none over PASE.
+pub fn may_be_subject(auth: Auth, subject: u64) -> bool
     ensures { result ≡ may_be_subject auth subject }
 {
     match auth {

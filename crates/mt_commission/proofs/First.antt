@@ -13,7 +13,7 @@ use Rattle.mt_model.specs.declared.tables.network.Armed.{Armed}
 use Rattle.mt_failsafe.specs.Calls.{is_armed_by}
 use Rattle.mt_meta.specs.clusters.GeneralCommissioning as general
 use Rattle.mt_meta.specs.clusters.NetworkCommissioning as network
-use Rattle.mt_commission.specs.Fields.{given_number, number_of, octets_of}
+use Rattle.mt_meta.specs.Given.{given_number, number_of, octets_of}
 use Rattle.mt_commission.specs.GeneralCommissioning.{arm_fail_safe, armed_effect, commissioning_complete, completed_effect, completing, error_effect, failsafe_steps, general_commissioning_effect, regulatory_steps, renewing, seconds_of, set_regulatory_config}
 use Rattle.mt_commission.specs.Laws.{StepsStandFirst, sets_values_behind}
 use Rattle.mt_commission.specs.NetworkCommissioning.{Outcome, add_or_update_network, connect_network, connecting, found_place, if_owner, if_place, network_commissioning_effect, network_steps, putting, remove_network, reorder_network}

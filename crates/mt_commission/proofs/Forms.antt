@@ -11,7 +11,7 @@ use Rattle.mt_meta.specs.Fields.{has_fields, have_types, are_within, field_has_t
 use Rattle.mt_meta.specs.Rows.{any_number, needed}
 use Rattle.mt_meta.specs.declared.rows.Field.{Field}
 use Rattle.mt_meta.specs.declared.rows.Form.TheVariants as forms
-use Rattle.mt_commission.specs.Fields.{number_in, text_in}
+use Rattle.mt_meta.specs.Given.{number_in, text_in}
 
 impossible : {X : Type 0} → false ≡ true → X
 impossible h = absurd (cc)

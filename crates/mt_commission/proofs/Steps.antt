@@ -28,11 +28,11 @@ use Rattle.mt_model.specs.declared.rows.place.Place.{Place}
 use Rattle.mt_model.specs.declared.tables.access.Actor.{Actor}
 use Rattle.mt_model.specs.declared.tables.network.Armed.{Armed}
 use Rattle.mt_model.specs.declared.tables.network.Network.{Network}
-use Rattle.mt_failsafe.specs.Calls.{is_armed_by, is_of_context}
+use Rattle.mt_failsafe.specs.Calls.{is_armed_by, is_context, is_of_context}
 use Rattle.mt_commission.specs.Answers.{set_breadcrumb, set_value}
-use Rattle.mt_commission.specs.Fields.{given_number, number_of, octets_of, text_of}
+use Rattle.mt_meta.specs.Given.{given_number, number_of, octets_of, text_of}
 use Rattle.mt_commission.specs.GeneralCommissioning.{arm_fail_safe, armed_effect, arming, commissioning_complete, completed_effect, completing, error_effect, failsafe_steps, general_commissioning_effect, regulatory_steps, renewing, seconds_of, set_regulatory_config}
-use Rattle.mt_commission.specs.Laws.{StepsAreSound, is_context, is_sound_step, is_there}
+use Rattle.mt_commission.specs.Laws.{StepsAreSound, is_sound_step, is_there}
 use Rattle.mt_commission.specs.NetworkCommissioning.{Outcome, add_or_update_network, breadcrumb_steps, connect_network, connecting, found_place, if_owner, if_place, if_reachable, last_steps, network_commissioning_effect, network_steps, place_among, put_place, putting, remove_network, reorder_network, status_value}
 use Rattle.mt_commission.specs.declared.codes.CommissioningError.TheVariants as errors
 use Rattle.mt_commission.specs.declared.codes.NetworkStatus.{NetworkStatus}
@@ -104,7 +104,7 @@ module _ (networks : List Network) (armed : Option Armed) (fabric : ℕ) where
   complete_sound command actor None asks is = refl
   complete_sound command actor (Some its) asks is = elim (cases_Bool (is_of_context actor its)) [
     | inl own ↦
-        let its_context : is_context fabric armed ≡ true = ap (is_context fabric) is ∙ ap (λ n. n == its.context) (sym asks) ∙ (and_parts _ (actor.fabric == its.context) own).1 in
+        let its_context : is_context fabric armed ≡ true = ap (is_context fabric) is ∙ ap (λ n. its.context == n) (sym asks) ∙ (and_parts _ (its.context == actor.fabric) own).1 in
         rw own (and_from _ _ its_context (and_from _ _ (breadcrumb_set 0 refl) refl))
     | inr other ↦ rw other refl
   ]

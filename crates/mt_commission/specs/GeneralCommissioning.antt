@@ -15,7 +15,7 @@ use Rattle.mt_model.specs.declared.tables.access.Actor.{Actor}
 use Rattle.mt_model.specs.declared.tables.network.Armed.{Armed}
 use Rattle.mt_failsafe.specs.Calls.{is_of_context}
 use Rattle.mt_commission.specs.Answers.{responded_with, set_breadcrumb, set_value}
-use Rattle.mt_commission.specs.Fields.{number_of, text_of}
+use Rattle.mt_meta.specs.Given.{number_of, text_of}
 use Rattle.mt_commission.specs.declared.codes.CommissioningError.{CommissioningError}
 use Rattle.mt_commission.specs.declared.codes.CommissioningError.TheVariants as errors
 

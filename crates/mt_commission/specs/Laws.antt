@@ -1,5 +1,5 @@
 -- What holds of the steps of every command whose fields have the form of the table.
-use Rattle.std.specs.Prelude.{◌≡◌, ℕ, ◌==◌, ◌&&◌, ◌||◌, not, nat_le, nat_lt, is_none, is_some, Bool, true, false, IsTrue, List, [], ◌∷◌, length, Option, Some, None, Result, Ok, Err}
+use Rattle.std.specs.Prelude.{◌≡◌, ℕ, ◌==◌, ◌&&◌, ◌||◌, not, nat_le, nat_lt, is_none, is_some, Bool, true, false, IsTrue, List, [], ◌∷◌, length, Option, Result, Ok, Err}
 use Rattle.std.specs.List.{list_all}
 use Rattle.mt_tlv.specs.View.{tree}
 use Rattle.mt_tlv.specs.declared.value.Value.{Value}
@@ -18,7 +18,7 @@ use Rattle.mt_model.specs.declared.rows.place.Place.{Place}
 use Rattle.mt_model.specs.declared.tables.access.Actor.{Actor}
 use Rattle.mt_model.specs.declared.tables.network.Armed.{Armed}
 use Rattle.mt_model.specs.declared.tables.network.Network.{Network}
-use Rattle.mt_failsafe.specs.Calls.{is_armed_by}
+use Rattle.mt_failsafe.specs.Calls.{is_armed_by, is_context}
 use Rattle.mt_commission.specs.Commands.{invoked}
 use Rattle.mt_commission.specs.NetworkCommissioning.{place_among}
 
@@ -30,11 +30,6 @@ is_sound_row stored fabric values (Ok meta) = stored && (not meta.scoped && (fab
 -- whether a network of this id is among these
 abbrev pub is_there : List Network → List ℕ → Bool
 is_there networks id = is_some (place_among networks id)
-
--- whether commissioning goes on for this fabric
-abbrev pub is_context : ℕ → Option Armed → Bool
-is_context fabric None = false
-is_context fabric (Some armed) = fabric == armed.context
 
 -- Whether a step may be made for an actor of this fabric, where the networks and the fail-safe are these: a network has the form of
 -- one, and there are at most four; the fail-safe is armed once, only who has armed it renews it and lets it expire, and only the fabric

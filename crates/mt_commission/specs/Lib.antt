@@ -1,6 +1,5 @@
 pub mod Answers
 pub mod Commands
-pub mod Fields
 pub mod GeneralCommissioning
 pub mod Laws
 pub mod NetworkCommissioning

@@ -18,7 +18,7 @@ use Rattle.mt_model.specs.declared.tables.access.Actor.{Actor}
 use Rattle.mt_model.specs.declared.tables.network.Network.{Network}
 use Rattle.mt_failsafe.specs.Calls.{is_armed_by}
 use Rattle.mt_commission.specs.Answers.{responded_with, set_breadcrumb, set_value}
-use Rattle.mt_commission.specs.Fields.{given_number, number_of, octets_of}
+use Rattle.mt_meta.specs.Given.{given_number, number_of, octets_of}
 use Rattle.mt_commission.specs.declared.codes.NetworkStatus.{NetworkStatus}
 use Rattle.mt_commission.specs.declared.codes.NetworkStatus.TheVariants as statuses
 

@@ -3,19 +3,19 @@
 ghost use Rattle.std.specs.Prelude.{◌≡◌, IfOk, ◌∷◌, [], option_copied, option_map};
 ghost use Rattle.mt_tlv.specs.View.{elements};
 ghost use Rattle.mt_model.specs.tables.Known.{bare_armed, known_in};
-ghost use Rattle.mt_failsafe.specs.Calls.{is_of_context};
 ghost use Rattle.mt_commission.specs.GeneralCommissioning.{arm_fail_safe, arming, armed_effect, commissioning_complete, completed_effect, completing, error_effect, error_fields, failsafe_steps, general_commissioning_effect, regulatory_steps, renewing, seconds_of, set_regulatory_config};
 
 use crate::answers::{responded_with, set_breadcrumb, set_value};
 use crate::codes::CommissioningError;
-use crate::fields::{number_of, text_of};
+use mt_failsafe::is_of_context;
 use mt_meta::clusters::basic_information::LOCATION;
 use mt_meta::clusters::general_commissioning::{
     ARM_FAIL_SAFE, ARM_FAIL_SAFE_RESPONSE, COMMISSIONING_COMPLETE, COMMISSIONING_COMPLETE_RESPONSE,
     REGULATORY_CONFIG, SET_REGULATORY_CONFIG, SET_REGULATORY_CONFIG_RESPONSE,
 };
 use mt_meta::clusters::{BASIC_INFORMATION, GENERAL_COMMISSIONING};
-use mt_model::{Actor, Armed, Auth, Effect, NodeStep, Place, Status, Steps, View};
+use mt_meta::{number_of, text_of};
+use mt_model::{Actor, Armed, Effect, NodeStep, Place, Status, Steps, View};
 use mt_tlv::{Bytes, Tag, Value};
 use std::alloc::{AllocError, Global};
 
@@ -207,10 +207,4 @@ fn completing(actor: &Actor, armed: Option<&Armed>) -> CommissioningError
         Some(armed) if is_of_context(actor, armed) => CommissioningError::Ok,
         Some(_) => CommissioningError::InvalidAuthentication,
     }
-}
-
-fn is_of_context(actor: &Actor, armed: &Armed) -> bool
-    ensures { result ≡ is_of_context actor.now armed.now }
-{
-    actor.auth == Auth::Case && actor.fabric == armed.context
 }

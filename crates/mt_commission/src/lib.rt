@@ -4,7 +4,6 @@
 //!
 //! - `commands`: what a command comes to, by cluster: `general_commissioning`, `network_commissioning`;
 //! - `codes`: the errors and statuses with which they answer;
-//! - `fields`: the fields of a command;
 //! - `answers`: what responses and steps are made of;
 //! - `laws`: what holds of the steps.
 #![tactic(auto)]
@@ -12,7 +11,6 @@
 mod answers;
 mod codes;
 mod commands;
-mod fields;
 mod general_commissioning;
 mod laws;
 mod network_commissioning;

@@ -11,12 +11,13 @@ ghost use Rattle.mt_commission.specs.declared.codes.NetworkStatus.TheVariants.{S
 
 use crate::answers::{responded_with, set_breadcrumb, set_value};
 use crate::codes::NetworkStatus;
-use crate::fields::{given_number, number_of, octets_of};
+use mt_failsafe::is_armed_by;
 use mt_meta::clusters::NETWORK_COMMISSIONING;
 use mt_meta::clusters::network_commissioning::{
     ADD_OR_UPDATE_WIFI_NETWORK, CONNECT_NETWORK, CONNECT_NETWORK_RESPONSE, LAST_NETWORK_ID,
     LAST_NETWORKING_STATUS, NETWORK_CONFIG_RESPONSE, REMOVE_NETWORK, REORDER_NETWORK,
 };
+use mt_meta::{given_number, number_of, octets_of};
 use mt_model::limits::{NETWORK_ID_BYTES, NETWORKS};
 use mt_model::{Actor, Armed, Effect, Network, NodeStep, Place, Roots, Status, Steps, View};
 use mt_tlv::{Bytes, Tag, Value};
@@ -37,7 +38,7 @@ pub(crate) fn network_commissioning_effect(
     ensures { IfOk result (λ effect. effect ≡ network_commissioning_effect (known_in actor.now.fabric view.now) reachable.now actor.now command.now fields.now) }
 {
     let networks = view.networks.as_slice();
-    let owner = is_armed_by(actor.fabric, view.armed);
+    let owner = is_owner(actor.fabric, view.armed);
     match command.leaf {
         ADD_OR_UPDATE_WIFI_NETWORK if owner => {
             add_or_update_network(alloc, networks, command, fields)
@@ -52,13 +53,11 @@ pub(crate) fn network_commissioning_effect(
     }
 }
 
-fn is_armed_by(fabric: u8, armed: Option<&Armed>) -> bool
+// Whether this fabric has armed the fail-safe, which is known to all.
+fn is_owner(fabric: u8, armed: Option<&Armed>) -> bool
     ensures { result ≡ is_armed_by fabric (option_map bare_armed (option_copied armed.entry)) }
 {
-    match armed {
-        Some(armed) => armed.owner == fabric,
-        None => false,
-    }
+    is_armed_by(fabric, armed)
 }
 
 fn add_or_update_network(

@@ -1,9 +1,9 @@
 -- What a reader may see of events, and which paths are refused (Matter Core Specification, section 8.4, Read Interaction).
-use Rattle.std.specs.Prelude.{ℕ, ◌&&◌, nat_le, Bool, true, false, List, [], ◌∷◌, Option, Some, None, Result, Ok, Err, if◌then◌else◌}
-use Rattle.std.specs.List.{flat_map, list_any}
-use Rattle.mt_acl.specs.Access.{is_granted}
+use Rattle.std.specs.Prelude.{ℕ, ◌&&◌, nat_le, Bool, false, List, [], ◌∷◌, Option, Some, None, Result, Ok, Err, if◌then◌else◌}
+use Rattle.std.specs.List.{flat_map}
+use Rattle.mt_acl.specs.Access.{is_granted_if_asked}
 use Rattle.mt_meta.specs.Finding.{find_event_of, privilege_of}
-use Rattle.mt_meta.specs.Places.{is_named}
+use Rattle.mt_meta.specs.Places.{is_named_by}
 use Rattle.mt_meta.specs.declared.finding.Asked.TheVariants as asked
 use Rattle.mt_meta.specs.declared.meta.EventMeta.{EventMeta}
 use Rattle.mt_model.specs.messages.Blocks.{path_of, place_named}
@@ -18,7 +18,6 @@ use Rattle.mt_model.specs.declared.messages.status.Status.TheVariants.{Unsupport
 use Rattle.mt_model.specs.declared.rows.place.Place.{Place}
 use Rattle.mt_model.specs.declared.tables.access.AclEntry.{AclEntry}
 use Rattle.mt_model.specs.declared.tables.access.Actor.{Actor}
-use Rattle.mt_model.specs.declared.tables.access.Privilege.{Privilege}
 
 -- What a reader asks: the entries of its fabric, itself, the least number of an event, and the paths.
 pub record Asking : Type 0 where
@@ -33,19 +32,11 @@ asking entries actor minimum paths = record { entries = own_entries actor.fabric
 
 -- Access.
 
-abbrev pub is_granted_for : Asking → Place → Option Privilege → Bool
-is_granted_for asking place None = true
-is_granted_for asking place (Some privilege) = is_granted asking.entries asking.actor place privilege false
-
 -- whether the reader may see events of this place, or, where there are none, may learn that
 abbrev pub may_see : Asking → Place → Bool
-may_see asking place = is_granted_for asking place (privilege_of place asked.Event)
+may_see asking place = is_granted_if_asked asking.entries asking.actor place (privilege_of place asked.Event) false
 
 -- An event is told where its number is not below the least, a path names its place, and the reader may see it.
-
-abbrev pub is_named_by : List Path → Place → Bool
-is_named_by paths place = list_any (λ path. is_named path place) paths
-
 abbrev pub is_told : Asking → Happened → Bool
 is_told asking e = nat_le asking.minimum e.number && (is_named_by asking.paths e.place && may_see asking e.place)
 

@@ -1,15 +1,13 @@
 //! What a reader asks of events, and what it may see of them.
 
 ghost use Rattle.std.specs.Prelude.{◌≡◌, ◌++◌, ◌∷◌, [], OnOk};
-ghost use Rattle.std.specs.List.{flat_map, list_any};
-ghost use Rattle.mt_meta.specs.Places.{fits, is_named};
 ghost use Rattle.mt_model.specs.messages.Blocks.{path_of, place_named};
 ghost use Rattle.mt_model.specs.messages.Status.{code_of};
 ghost use Rattle.mt_events.specs.Asked.{asked_by};
-ghost use Rattle.mt_events.specs.Reading.{is_named_by, is_told, may_see, refusal_at, refusal_of, refusals};
+ghost use Rattle.mt_events.specs.Reading.{is_told, may_see, refusal_at, refusal_of, refusals};
 
-use mt_acl::grants;
-use mt_meta::{Asked, find_event, privilege_asked};
+use mt_acl::grants_if_asked;
+use mt_meta::{Asked, find_event, is_named_by, privilege_asked};
 use mt_model::{AclEntry, Actor, Happened, Item, Path, Place, Status};
 use std::alloc::AllocError;
 
@@ -29,7 +27,9 @@ impl<'a> Reader<'a> {
     pub(crate) fn is_told(&self, event: &Happened) -> bool
         ensures { result ≡ is_told (asked_by self.now) event.now }
     {
-        self.minimum <= event.number && self.names(&event.place) && self.may_see(&event.place)
+        self.minimum <= event.number
+            && is_named_by(self.paths, &event.place)
+            && self.may_see(&event.place)
     }
 
     /// Appends the refusals of its paths, in their order.
@@ -68,16 +68,8 @@ impl<'a> Reader<'a> {
     fn may_see(&self, place: &Place) -> bool
         ensures { result ≡ may_see (asked_by self.now) place.now }
     {
-        match privilege_asked(place, Asked::Event) {
-            Some(privilege) => grants(self.entries, self.actor, place, privilege, false).is_some(),
-            None => true,
-        }
-    }
-
-    fn names(&self, place: &Place) -> bool
-        ensures { result ≡ is_named_by self.now.paths.now place.now }
-    {
-        self.paths.iter().any(|path| is_named(path, place))
+        let asked = privilege_asked(place, Asked::Event);
+        grants_if_asked(self.entries, self.actor, place, asked, false)
     }
 }
 
@@ -94,32 +86,5 @@ fn refusal(place: &Place, status: Status) -> Item
     Item::EventRefused {
         path: Path::from(*place),
         code: status.code(),
-    }
-}
-
-// Whether the place has each field that the path has.
-fn is_named(path: &Path, place: &Place) -> bool
-    ensures { result ≡ is_named path.now place.now }
-{
-    fits_endpoint(path.endpoint, place.endpoint)
-        && fits_number(path.cluster, place.cluster)
-        && fits_number(path.leaf, place.leaf)
-}
-
-fn fits_endpoint(wanted: Option<u16>, endpoint: u16) -> bool
-    ensures { result ≡ fits wanted endpoint }
-{
-    match wanted {
-        None => true,
-        Some(wanted) => wanted == endpoint,
-    }
-}
-
-fn fits_number(wanted: Option<u32>, number: u32) -> bool
-    ensures { result ≡ fits wanted number }
-{
-    match wanted {
-        None => true,
-        Some(wanted) => wanted == number,
     }
 }

@@ -1,4 +1,4 @@
-//! What a call looks up in the table.
+//! What is looked up in the fabrics of the table, by its calls and by those who are lent the fabrics alone.
 
 ghost use Rattle.std.specs.Prelude.{◌≡◌, ◌+◌, ◌<◌, ◌≤◌, true, bytes_eq, length};
 ghost use Rattle.std.specs.List.{list_any};
@@ -23,9 +23,9 @@ pub(crate) fn place_of(fabrics: &[Fabric], index: u8) -> Option<usize>
     None
 }
 
-// The least index from 1 that no fabric has, where there are fewer than 16.
+/// The least index from 1 that no fabric has, where there are fewer than 16: the one under which the next joins.
 #[tactic(auto, using(crate::proofs::Walks::unused_at))]
-pub(crate) fn least_unused(fabrics: &[Fabric]) -> u8
+pub fn least_unused(fabrics: &[Fabric]) -> u8
     requires { length fabrics.now < 16 }
     ensures least { result ≡ least_unused fabrics.now }
     ensures from_one { 1 ≤ result }
@@ -53,13 +53,13 @@ pub(crate) fn index_by(fabrics: &[Fabric], root_key: &[u8], fabric_id: u64) -> O
     None
 }
 
-// Whether a fabric has the identity of these credentials.
-pub(crate) fn is_identity_used(fabrics: &[Fabric], given: &Credentials) -> bool
-    ensures { result ≡ list_any (has_identity given.now.root_key given.now.fabric_id) fabrics.now }
+/// Whether a fabric has this identity, the public key of its root and its id.
+pub fn is_identity_used(fabrics: &[Fabric], root_key: &[u8], fabric_id: u64) -> bool
+    ensures { result ≡ list_any (has_identity root_key.now fabric_id) fabrics.now }
 {
     fabrics
         .iter()
-        .any(|fabric| has_given_identity(given, fabric))
+        .any(|fabric| fabric.has_identity(root_key, fabric_id))
 }
 
 // Whether a fabric of another index has the identity of these credentials.
@@ -78,8 +78,8 @@ pub(crate) fn is_label_used(fabrics: &[Fabric], label: &[u8]) -> bool
     fabrics.iter().any(|fabric| has_label(label, fabric))
 }
 
-// Whether a fabric of another index has this label, which is not empty.
-pub(crate) fn is_label_of_another(fabrics: &[Fabric], index: u8, label: &[u8]) -> bool
+/// Whether a fabric of another index has this label, which is not empty.
+pub fn is_label_of_another(fabrics: &[Fabric], index: u8, label: &[u8]) -> bool
     ensures { result ≡ list_any (has_others_label index label.now) fabrics.now }
 {
     fabrics
@@ -90,13 +90,7 @@ pub(crate) fn is_label_of_another(fabrics: &[Fabric], index: u8, label: &[u8]) -
 fn has_others_identity(index: u8, given: &Credentials, fabric: &Fabric) -> bool
     ensures { result ≡ has_others_identity index given.now fabric.now }
 {
-    fabric.index != index && has_given_identity(given, fabric)
-}
-
-fn has_given_identity(given: &Credentials, fabric: &Fabric) -> bool
-    ensures { result ≡ has_identity given.now.root_key given.now.fabric_id fabric.now }
-{
-    fabric.has_identity(given.root_key.as_slice(), given.fabric_id)
+    fabric.index != index && fabric.has_identity(given.root_key.as_slice(), given.fabric_id)
 }
 
 fn has_others_label(index: u8, label: &[u8], fabric: &Fabric) -> bool

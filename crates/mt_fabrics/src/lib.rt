@@ -3,7 +3,7 @@
 //!
 //! - `table`: the table and its calls;
 //! - `fault`: why a call is refused;
-//! - `finding`: what a call looks up in the table;
+//! - `finding`: what is looked up in the fabrics of the table;
 //! - `changing`: what a call changes in it;
 //! - `laws`: what holds of the table after each change.
 #![tactic(auto)]
@@ -15,5 +15,6 @@ mod laws;
 mod table;
 
 pub use fault::FabricFault;
+pub use finding::{is_identity_used, is_label_of_another, least_unused};
 pub use laws::{the_index_is_the_least, valid_tables_stay_valid};
 pub use table::FabricTable;

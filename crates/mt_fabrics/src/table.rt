@@ -74,7 +74,8 @@ impl FabricTable {
         ensures kept { OnErr result (self.new ≡ self.old) }
     {
         let fabrics = self.fabrics.as_slice();
-        if is_identity_used(fabrics, &fabric.credentials) {
+        let given = &fabric.credentials;
+        if is_identity_used(fabrics, given.root_key.as_slice(), given.fabric_id) {
             return Err(FabricFault::Conflict);
         }
         if is_label_used(fabrics, fabric.label.as_slice()) {

@@ -51,6 +51,11 @@ renewed now seconds armed = record armed { until = until_of now seconds armed.li
 
 -- Completing.
 
+-- whether commissioning goes on for this fabric
+abbrev pub is_context : ℕ → Option Armed → Bool
+is_context fabric None = false
+is_context fabric (Some armed) = armed.context == fabric
+
 abbrev pub is_case : Auth → Bool
 is_case auths.Pase = false
 is_case auths.Case = true
@@ -58,7 +63,7 @@ is_case auths.Group = false
 
 -- whether a caller asks over CASE, for the fabric for which commissioning goes on
 abbrev pub is_of_context : Actor → Armed → Bool
-is_of_context caller armed = is_case caller.auth && caller.fabric == armed.context
+is_of_context caller armed = is_case caller.auth && is_context caller.fabric (Some armed)
 
 abbrev pub complete_answer : Actor → Option Armed → Result (Unit {0}) FailsafeFault
 complete_answer caller None = Err faults.NotArmed

@@ -8,6 +8,19 @@ use Rattle.mt_model.specs.declared.tables.network.Armed.{Armed}
 abbrev pub is_unused : Armed → Bool
 is_unused armed = is_none armed.added && is_none armed.updated
 
+-- whether this fabric was added since it was armed, or updated
+abbrev pub is_that : ℕ → Option ℕ → Bool
+is_that fabric None = false
+is_that fabric (Some other) = other == fabric
+
+abbrev pub was_added : ℕ → Option Armed → Bool
+was_added fabric None = false
+was_added fabric (Some armed) = is_that fabric armed.added
+
+abbrev pub was_updated : ℕ → Option Armed → Bool
+was_updated fabric None = false
+was_updated fabric (Some armed) = is_that fabric armed.updated
+
 -- it was armed by a fabric, not over PASE
 abbrev pub is_of_fabric : Armed → Bool
 is_of_fabric armed = not (armed.owner == 0)

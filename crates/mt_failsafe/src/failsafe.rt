@@ -1,14 +1,15 @@
 //! The fail-safe and its calls.
 
 ghost use Rattle.std.specs.Prelude.{◌≡◌, ◌≢◌, ◌↔◌, None, Some, false, IsTrue, IfErr, IfSome, OnErr, OnOk, option_copied, option_map};
-ghost use Rattle.mt_failsafe.specs.Calls.{arm_answer, armed_by, complete_answer, is_armed_by, is_of_context, put_back, renew_answer, renewed, undo_of, until_of, updated_of};
+ghost use Rattle.mt_failsafe.specs.Calls.{arm_answer, armed_by, complete_answer, is_armed_by, put_back, renew_answer, renewed, undo_of, until_of, updated_of};
 ghost use Rattle.mt_failsafe.specs.Facts.{keeps_facts};
 ghost use Rattle.mt_failsafe.specs.Notes.{may_note_added, may_note_csr, may_note_root, may_note_updated, owner_behind, with_added, with_csr, with_root, with_updated};
 
+use crate::asking::is_of_context;
 use crate::fault::{Busy, FailsafeFault};
 use crate::undo::{Saved, Undo};
 use mt_model::limits::LONGEST_FAILSAFE;
-use mt_model::{Actor, Armed, Auth, Credentials, ExactCopy, Networks};
+use mt_model::{Actor, Armed, Credentials, ExactCopy, Networks};
 use mt_tlv::Bytes;
 use std::alloc::{AllocError, Global};
 use std::marker::Model;
@@ -219,12 +220,6 @@ fn first_armed(owner: u8, now: u64, seconds: u16, networks: Networks) -> Armed
         saved_credentials: None,
         saved_networks: networks,
     }
-}
-
-fn is_of_context(caller: &Actor, armed: &Armed) -> bool
-    ensures { result ≡ is_of_context caller.now armed.now }
-{
-    caller.auth == Auth::Case && caller.fabric == armed.context
 }
 
 // The owner once a fabric was added.

@@ -1,7 +1,7 @@
 -- A command is denied exactly where nothing grants.
 use Rattle.std.proofs.Common.{◌≡◌, ◌||◌, ◌&&◌, not, Bool, true, false, Option, Some, None, Result, Ok, Err, refl, sym, ap, ◌∙◌, if◌then◌else◌}
 use Rattle.std.specs.List.{list_any}
-use Rattle.mt_acl.specs.Access.{implicit_grants, own_entry_grants}
+use Rattle.mt_acl.specs.Access.{implicit_grants, is_granted_if_asked, own_entry_grants}
 use Rattle.mt_meta.specs.Finding.{command_of, find_command_of, found, has_cluster, is_endpoint, privilege_of}
 use Rattle.mt_meta.specs.declared.finding.Asked.TheVariants.{Command}
 use Rattle.mt_meta.specs.declared.meta.CommandMeta.{CommandMeta}
@@ -11,7 +11,7 @@ use Rattle.mt_model.specs.declared.tables.access.Actor.{Actor}
 use Rattle.mt_model.specs.declared.tables.access.Privilege.{Privilege}
 use Rattle.mt_model.specs.declared.messages.status.Status.{Status}
 use Rattle.mt_model.specs.declared.messages.status.Status.TheVariants.{NeedsTimedInteraction, UnsupportedAccess, UnsupportedCluster, UnsupportedCommand, UnsupportedEndpoint}
-use Rattle.mt_invoke.specs.Checking.{if_found, is_allowed, is_scoped, may_invoke}
+use Rattle.mt_invoke.specs.Checking.{if_found, is_scoped, may_invoke}
 use Rattle.mt_invoke.specs.Laws.{DeniesExactly, IsDenied}
 
 -- What is no denial.
@@ -39,14 +39,17 @@ or_false true b h = absurd (cc)
 or_false false b h = (refl, h)
 
 module _ (seen : Seen) (actor : Actor) (command : Place) where
-  denied_by : (asked : Option Privilege) → privilege_of command Command ≡ asked → is_allowed seen actor command asked ≡ false → IsDenied seen actor command
+  abbrev allowed : Option Privilege → Bool
+  allowed asked = is_granted_if_asked seen.entries actor command asked (is_scoped (find_command_of command))
+
+  denied_by : (asked : Option Privilege) → privilege_of command Command ≡ asked → allowed asked ≡ false → IsDenied seen actor command
   denied_by None is h = absurd (cc)
   denied_by (Some asked) is h =
       let nothing = or_false (implicit_grants actor (is_scoped (find_command_of command))) (list_any (own_entry_grants actor command asked) seen.entries) h in
       record { asked = asked; is = is; implicit = nothing.0; entries = nothing.1 }
 
   not_granted : IsDenied seen actor command → may_invoke seen actor command ≡ false
-  not_granted d = ap (is_allowed seen actor command) d.is ∙ (λ i. d.implicit i || d.entries i)
+  not_granted d = ap allowed d.is ∙ (λ i. d.implicit i || d.entries i)
 
   module _ (timed : Bool) where
     abbrev outcome : Bool → Result CommandMeta Status

@@ -1,7 +1,7 @@
 -- Whether a command may be carried out, made of what the actor's fabric sees: what the table says of it, or the first status
 -- that stands in its way.
-use Rattle.std.specs.Prelude.{◌&&◌, not, Bool, true, false, Option, Some, None, Result, Ok, Err, if◌then◌else◌}
-use Rattle.mt_acl.specs.Access.{is_granted}
+use Rattle.std.specs.Prelude.{◌&&◌, not, Bool, false, Result, Ok, Err, if◌then◌else◌}
+use Rattle.mt_acl.specs.Access.{is_granted_if_asked}
 use Rattle.mt_tlv.specs.View.{tree}
 use Rattle.mt_tlv.specs.declared.value.Value.{Value}
 use Rattle.mt_meta.specs.Fields.{has_fields}
@@ -12,7 +12,6 @@ use Rattle.mt_meta.specs.declared.meta.CommandMeta.{CommandMeta}
 use Rattle.mt_model.specs.rows.Seen.{Seen}
 use Rattle.mt_model.specs.declared.rows.place.Place.{Place}
 use Rattle.mt_model.specs.declared.tables.access.Actor.{Actor}
-use Rattle.mt_model.specs.declared.tables.access.Privilege.{Privilege}
 use Rattle.mt_model.specs.declared.messages.status.Status.{Status}
 use Rattle.mt_model.specs.declared.messages.status.Status.TheVariants.{NeedsTimedInteraction, UnsupportedAccess}
 
@@ -21,12 +20,8 @@ abbrev pub is_scoped : Result CommandMeta Status → Bool
 is_scoped (Ok meta) = meta.scoped
 is_scoped (Err status) = false
 
-abbrev pub is_allowed : Seen → Actor → Place → Option Privilege → Bool
-is_allowed seen actor command None = true
-is_allowed seen actor command (Some privilege) = is_granted seen.entries actor command privilege (is_scoped (find_command_of command))
-
 abbrev pub may_invoke : Seen → Actor → Place → Bool
-may_invoke seen actor command = is_allowed seen actor command (privilege_of command Command)
+may_invoke seen actor command = is_granted_if_asked seen.entries actor command (privilege_of command Command) (is_scoped (find_command_of command))
 
 abbrev pub timely : Bool → CommandMeta → Result CommandMeta Status
 timely timed meta = if meta.timed && not timed then Err NeedsTimedInteraction else Ok meta

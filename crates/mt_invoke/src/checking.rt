@@ -5,7 +5,7 @@ ghost use Rattle.mt_meta.specs.Finding.{find_command_of};
 ghost use Rattle.mt_model.specs.rows.Seen.{seen_as};
 ghost use Rattle.mt_invoke.specs.Checking.{checked, has_form, is_scoped, may_invoke, timely};
 
-use mt_acl::grants;
+use mt_acl::grants_if_asked;
 use mt_meta::{Asked, CommandMeta, command_fields, find_command, has_fields, privilege_asked};
 use mt_model::{Actor, Place, Sight, Status};
 use mt_tlv::Value;
@@ -36,20 +36,10 @@ fn may_invoke<S: Sight>(sight: &S, actor: &Actor, command: &Place) -> bool
     ensures { let seen = seen_as actor.now.fabric (S.rows_of sight.now) (S.versions sight.now) (S.all_entries sight.now) in
         result ≡ may_invoke seen actor.now command.now }
 {
-    match privilege_asked(command, Asked::Command) {
-        Some(privilege) => {
-            let scoped = is_scoped(command);
-            grants(
-                sight.entries(actor.fabric),
-                actor,
-                command,
-                privilege,
-                scoped,
-            )
-            .is_some()
-        },
-        None => true,
-    }
+    let entries = sight.entries(actor.fabric);
+    let asked = privilege_asked(command, Asked::Command);
+    let scoped = is_scoped(command);
+    grants_if_asked(entries, actor, command, asked, scoped)
 }
 
 // A command that is not there is not scoped.

@@ -14,7 +14,7 @@ use Rattle.mt_machine.specs.Effects.{after, after_all, completed, joined, labell
 use Rattle.mt_machine.specs.Isolation.{has_fabric}
 use Rattle.mt_machine.specs.Leaving.{has_left}
 use Rattle.mt_machine.specs.Rollback.{added_in, rollback, rolled_back, stays}
-use Rattle.mt_machine.specs.State.{is_among, is_indexed}
+use Rattle.mt_machine.specs.State.{is_among}
 use Rattle.mt_machine.specs.Step.{gone_between}
 use Rattle.mt_machine.proofs.Expired.{among-behind}
 use Rattle.mt_machine.proofs.JoinedValid.{placed-any}
@@ -110,7 +110,7 @@ request-fabrics nonce update s = elim (cases_Bool (notes.may_note_csr update s.a
 
 joined-stay : (asker : Option Actor) (joins : Fabric) (s : NodeState) → StayBut 0 s.fabrics (joined asker joins s).fabrics
 joined-stay asker joins s n other there = elim (cases_Bool (may_join joins s)) [
-  | inl may ↦ rw may (placed-any (with_index (least_unused s.fabrics) joins) (is_indexed n) s.fabrics ∙ or_right _ _ there)
+  | inl may ↦ rw may (placed-any (with_index (least_unused s.fabrics) joins) (has_index n) s.fabrics ∙ or_right _ _ there)
   | inr not_now ↦ rw not_now there
 ]
 

@@ -19,7 +19,7 @@ use Rattle.mt_model.specs.declared.tables.network.Armed.{Armed}
 use Rattle.mt_machine.specs.Effects.{after, completed, is_on, is_pase, is_plain, is_sound_step, joined, joined_as, labelled_in, may_leave, may_update, plain_joined, plain_without, session_completed, session_joined, session_without, updated_in, without_fabric}
 use Rattle.mt_machine.specs.Isolation.{Own, has_fabric, is_live_for, own, owns, saved_for, veil, with_saved}
 use Rattle.mt_machine.specs.Rollback.{rollback, rolled_back, stays}
-use Rattle.mt_machine.specs.State.{IsValid, is_among, is_indexed}
+use Rattle.mt_machine.specs.State.{IsValid, is_among}
 use Rattle.mt_machine.specs.Touching.{is_its_step}
 use Rattle.mt_machine.proofs.Again.{own-again}
 use Rattle.mt_machine.proofs.AlikeTables.{among-veil, join-veil, label-veil, least-veil, leave-veil, update-veil}
@@ -52,7 +52,7 @@ module _ (fabric : ℕ) where
   abbrev is_mine : NodeSession → Bool
   is_mine session = is_live_for fabric session.standing
 
-  own-changed : (index : ℕ) (change : Fabric → Fabric) → ((f : Fabric) → (change f).index ≡ f.index) → (fs : List Fabric) → filter (is_indexed fabric) (changed index change fs) ≡ changed index change (filter (is_indexed fabric) fs)
+  own-changed : (index : ℕ) (change : Fabric → Fabric) → ((f : Fabric) → (change f).index ≡ f.index) → (fs : List Fabric) → filter (has_index fabric) (changed index change fs) ≡ changed index change (filter (has_index fabric) fs)
   own-changed index change keeps [] = refl
   own-changed index change keeps (f ∷ fs) =
       let rest = own-changed index change keeps fs in
@@ -122,8 +122,8 @@ module _ (fabric : ℕ) where
   abbrev own_updated : Credentials → Own → Own
   own_updated given o = record o { fabrics = changed fabric (with_credentials given) o.fabrics; saved = credentials_at fabric o.fabrics }
 
-  credentials-own : (fs : List Fabric) → credentials_at fabric fs ≡ credentials_at fabric (filter (is_indexed fabric) fs)
-  credentials-own fs = ap (option_map (λ (f : Fabric). f.credentials)) (sym (find-passing (is_indexed fabric) fs))
+  credentials-own : (fs : List Fabric) → credentials_at fabric fs ≡ credentials_at fabric (filter (has_index fabric) fs)
+  credentials-own fs = ap (option_map (λ (f : Fabric). f.credentials)) (sym (find-passing (has_index fabric) fs))
 
   updated-made : (given : Credentials) (s : NodeState) → may_update fabric given s ≡ true → own fabric (updated_in fabric given s) ≡ own_updated given (own fabric s)
   updated-made given s may =
@@ -155,7 +155,7 @@ module _ (fabric : ℕ) where
   left-made index s may = rw may (λ i. record {
     rows = swap (owns fabric) (λ (row : Row). stays (Some index) row.fabric) s.rows i;
     entries = swap (λ (entry : AclEntry). entry.fabric == fabric) (λ (entry : AclEntry). stays (Some index) entry.fabric) s.entries i;
-    fabrics = swap (is_indexed fabric) (has_other_index index) s.fabrics i;
+    fabrics = swap (has_index fabric) (has_other_index index) s.fabrics i;
     saved = saved_for fabric s.armed;
     sessions = filter-changed is_mine (session_without index) (session-none fabric index) s.sessions i;
     is_plain = plain-left index s.plain i;

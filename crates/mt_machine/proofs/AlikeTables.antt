@@ -4,7 +4,7 @@ use Rattle.std.specs.List.{list_any}
 use Rattle.std.specs.Option.{option_map}
 use Rattle.mt_fabrics.specs.Table.{add_refusal, has_index, has_label, has_others_identity, has_others_label, is_used, label_refusal, least_unused, unused_from, update_refusal}
 use Rattle.mt_fabrics.specs.declared.fault.FabricFault.TheVariants.{NoIndex, Conflict, LabelConflict, TableFull}
-use Rattle.mt_failsafe.specs.Calls.{is_armed_by}
+use Rattle.mt_failsafe.specs.Calls.{is_armed_by, is_context}
 use Rattle.mt_failsafe.specs.Notes as notes
 use Rattle.mt_model.specs.rows.Order.{fabrics_ascend}
 use Rattle.mt_model.specs.tables.Known.{bare_armed}
@@ -13,9 +13,9 @@ use Rattle.mt_model.specs.declared.node.state.NodeState.{NodeState}
 use Rattle.mt_model.specs.declared.tables.fabric.Credentials.{Credentials}
 use Rattle.mt_model.specs.declared.tables.fabric.Fabric.{Fabric}
 use Rattle.mt_model.specs.declared.tables.network.Armed.{Armed}
-use Rattle.mt_machine.specs.Effects.{is_context, is_renewed_by, may_join, may_leave, may_update}
+use Rattle.mt_machine.specs.Effects.{is_renewed_by, may_join, may_leave, may_update}
 use Rattle.mt_machine.specs.Isolation.{bare_fabric, descriptor_of, saved_for, veil, with_saved}
-use Rattle.mt_machine.specs.State.{is_among, is_indexed}
+use Rattle.mt_machine.specs.State.{is_among}
 use Rattle.mt_machine.proofs.Fabrics.{known-length, known_to, rebuilt-known}
 
 -- What reads of a fabric only what is public gives of one that is known what it gives of it.
@@ -82,7 +82,7 @@ module _ (fabric : ℕ) (s : NodeState) (up : fabrics_ascend s.fabrics ≡ true)
   by-failsafe q each = bare-by q (saved_for fabric s.armed) (each (saved_for fabric s.armed)) s.armed
 
   pub among-veil : (index : ℕ) → is_among (veil fabric s).fabrics index ≡ is_among s.fabrics index
-  among-veil index = by-table (λ (fs : List Fabric). is_among fs index) (any-known fabric (is_indexed index) (λ f. refl) s.fabrics)
+  among-veil index = by-table (λ (fs : List Fabric). is_among fs index) (any-known fabric (has_index index) (λ f. refl) s.fabrics)
 
   pub least-veil : least_unused (veil fabric s).fabrics ≡ least_unused s.fabrics
   least-veil = by-table least_unused (unused-known fabric 1 s.fabrics)

@@ -3,6 +3,7 @@ use Rattle.std.proofs.Common.{◌≡◌, ℕ, ◌==◌, ◌||◌, inl, inr, is_n
 use Rattle.std.proofs.lemmas.Bool.{and_from, and_parts, both_ways, cond_both, eqb-true, eq-eqb, or_cases, or_left, or_right}
 use Rattle.std.proofs.lemmas.List.Folds.{list_all-map}
 use Rattle.std.specs.List.{list_any}
+use Rattle.mt_failsafe.specs.Notes.{is_that, was_added}
 use Rattle.mt_failsafe.specs.Calls.{armed_by, renewed}
 use Rattle.mt_failsafe.specs.Notes as notes
 use Rattle.mt_model.specs.declared.node.state.NodeSession.{NodeSession}
@@ -15,7 +16,7 @@ use Rattle.mt_model.specs.declared.tables.fabric.Fabric.{Fabric}
 use Rattle.mt_model.specs.declared.tables.network.Armed.{Armed}
 use Rattle.mt_machine.specs.Effects.{armed_behind, completed, plain_without, session_completed, standing_completed, trusting, with_request, with_root}
 use Rattle.mt_machine.specs.Rollback.{roots_behind}
-use Rattle.mt_machine.specs.State.{IsValid, follows, is_added, is_among, is_given_root, is_plain_of, is_root_of, is_session, is_that, is_updated, is_used, keeps_facts, plain_follows, stands_rightly, was_added}
+use Rattle.mt_machine.specs.State.{IsValid, follows, is_added, is_among, is_given_root, is_plain_of, is_root_of, is_session, is_updated, is_used, keeps_facts, plain_follows, stands_rightly}
 use Rattle.mt_machine.proofs.Opening.{same_bytes, with_root_differ, with_root_used}
 use Rattle.mt_machine.proofs.Rolled.{all-passed, none-filter}
 use Rattle.mt_machine.proofs.ValidParts.{ArmedHolds, PlainHolds, RootsHold, SessionsHold, its_armed, its_entries, its_fabrics, its_networks, its_plain, its_roots, its_rows, its_sessions, with-parts}

@@ -16,7 +16,8 @@ use Rattle.mt_model.specs.declared.tables.fabric.Credentials.{Credentials}
 use Rattle.mt_model.specs.declared.tables.fabric.Fabric.{Fabric}
 use Rattle.mt_model.specs.declared.tables.network.Armed.{Armed}
 use Rattle.mt_machine.specs.Effects.{is_renewed_by, labelled_in, may_update, updated_in, with_saved_credentials}
-use Rattle.mt_machine.specs.State.{IsValid, are_kept, are_networks, has_entries_up_to, is_added, is_among, is_awaited_root, is_indexed, is_owned, is_root_of, is_row, is_session, is_updated, is_used, saves_identity}
+use Rattle.mt_opcreds.specs.Laws.{are_credentials_if}
+use Rattle.mt_machine.specs.State.{IsValid, are_networks, has_entries_up_to, is_added, is_among, is_awaited_root, is_owned, is_root_of, is_row, is_session, is_updated, is_used, saves_identity}
 use Rattle.mt_machine.proofs.OtherFabrics.{entry-among, facts-still, is_its, none-is, plain-still, row-among, same_number, stands-still}
 use Rattle.mt_machine.proofs.Rolled.{all-true, only-one}
 use Rattle.mt_machine.proofs.ValidParts.{ArmedHolds, EntriesHold, FabricsHold, PlainHolds, RootsHold, RowsHold, SessionsHold, fabrics_of, its_armed, its_entries, its_fabrics, its_networks, its_plain, its_roots, its_rows, its_sessions, table_of, with-parts}
@@ -44,7 +45,7 @@ module _ (h : Fabric → Fabric) (good : Fabric → Bool)
     now = map h fabrics
 
     same_among : (n : ℕ) → is_among now n ≡ is_among fabrics n
-    same_among n = any-changed (is_indexed n) (λ f its. ap (λ m. m == n) (same_index f)) fabrics all_good
+    same_among n = any-changed (has_index n) (λ f its. ap (λ m. m == n) (same_index f)) fabrics all_good
 
     same_identity : (key : List ℕ) (id : ℕ) (f : Fabric) → good f ≡ true → has_identity key id (h f) ≡ has_identity key id f
     same_identity key id f its = λ i. bytes_eq (same_key f its i) key && (same_id f its i == id)
@@ -288,7 +289,7 @@ module _ (table_updated : (index : ℕ) (given : Credentials) (fabrics : List Fa
             plain_one = record { stands = n.plain_one.stands; follows = n.plain_one.follows };
             itself = record {
               facts = facts armed owner old found armed.added none is;
-              saved = and_from _ _ (and_parts (are_networks armed.saved_networks) (are_kept armed.saved_credentials) n.itself.saved).0 (found_form index old s.fabrics found hold.forms);
+              saved = and_from _ _ (and_parts (are_networks armed.saved_networks) (are_credentials_if armed.saved_credentials) n.itself.saved).0 (found_form index old s.fabrics found hold.forms);
             };
           }
 

@@ -1,6 +1,7 @@
 -- When a time step makes an expiry, and what it then leaves to a fabric that was neither added nor updated.
 use Rattle.std.proofs.Common.{◌≡◌, ◌≢◌, ℕ, ◌==◌, ◌&&◌, ◌++◌, inl, inr, not, Bool, true, false, List, [], ◌∷◌, Option, Some, None, refl, sym, subst, ap, ◌∙◌, arith, filter, map, if◌then◌else◌}
 use Rattle.std.specs.List.{find, list_all}
+use Rattle.mt_failsafe.specs.Notes.{was_added, was_updated}
 use Rattle.mt_tlv.specs.declared.value.Value.{Value}
 use Rattle.mt_model.specs.rows.Order.{are_ascending}
 use Rattle.mt_model.specs.rows.Setting.{is_above, is_at, is_below, is_entry_above, is_entry_below, is_entry_of, with_entries, with_rows}
@@ -17,7 +18,7 @@ use Rattle.mt_machine.specs.Changes.{settled}
 use Rattle.mt_machine.specs.Isolation.{is_deadline_in, own_of_whole}
 use Rattle.mt_machine.specs.Lines.{next_tick}
 use Rattle.mt_machine.specs.Rollback.{added_in, deadlines_left, given_back, is_due, is_gone, rollback, rolled_back, stays}
-use Rattle.mt_machine.specs.State.{IsValid, State, is_added, is_among, is_updated, keeps_facts, was_added, was_updated}
+use Rattle.mt_machine.specs.State.{IsValid, State, is_added, is_among, is_updated, keeps_facts}
 use Rattle.mt_machine.specs.Step.{after_steps, aside_of, at_time, gone_between}
 use Rattle.mt_machine.proofs.Rolled.{given-index}
 use Rattle.mt_machine.proofs.Times.{gone_none}

@@ -2,18 +2,18 @@
 use Rattle.std.proofs.Common.{◌≡◌, ℕ, suc, Bool, true, false, ◌==◌, ◌<◌, ◌≤◌, nat_lt, List, [], ◌∷◌, None, length, refl, ap, ◌∙◌, filter, map, if◌then◌else◌, arith, unwrap_or}
 use Rattle.std.specs.List.{find, list_any}
 use borrow.Author.Tests.{ltb-true}
+use Rattle.mt_fabrics.specs.Table.{has_index}
 use Rattle.mt_model.specs.rows.Order.{rise_above}
 use Rattle.mt_model.specs.rows.Sight.{seen_by}
 use Rattle.mt_model.specs.declared.tables.fabric.Fabric.{Fabric}
 use Rattle.mt_model.specs.declared.rows.place.Place.{Place}
 use Rattle.mt_apps.specs.OperationalCredentials.{fabric_row, noc_row}
 use Rattle.mt_machine.specs.Isolation.{bare_fabric, descriptor_of, own_or_bare}
-use Rattle.mt_machine.specs.State.{is_indexed}
 use Rattle.mt_machine.proofs.Entries.{both_true, is_other}
 use Rattle.mt_machine.proofs.Rows.{passed}
 
 abbrev pub own_fabrics : ℕ → List Fabric → List Fabric
-own_fabrics fabric fs = filter (is_indexed fabric) fs
+own_fabrics fabric fs = filter (has_index fabric) fs
 
 -- a fabric as this fabric knows it
 abbrev pub known_to : ℕ → Fabric → Fabric
@@ -38,7 +38,7 @@ found-own f own is = rw (is, same f.index) refl
     same n = grind arith
 
 -- none of other indexes is among them
-found-none : (fabric index : ℕ) (fs : List Fabric) → (index == fabric) ≡ false → find (is_indexed index) (own_fabrics fabric fs) ≡ None
+found-none : (fabric index : ℕ) (fs : List Fabric) → (index == fabric) ≡ false → find (has_index index) (own_fabrics fabric fs) ≡ None
 found-none fabric index [] h = refl
 found-none fabric index (f ∷ fs) h = grind (arith, found-none fabric index fs h)
 
@@ -120,7 +120,7 @@ known-nocs endpoint fabric test least (f ∷ fs) up =
     let above : least < f.index = ltb-true least f.index both.0 in
     grind (arith, known-nocs endpoint fabric test f.index fs both.1, known-noc endpoint fabric f (omega arith), known-index fabric f)
 
-pub known-members : (fabric : ℕ) (fs : List Fabric) → list_any (is_indexed fabric) (map (known_to fabric) fs) ≡ list_any (is_indexed fabric) fs
+pub known-members : (fabric : ℕ) (fs : List Fabric) → list_any (has_index fabric) (map (known_to fabric) fs) ≡ list_any (has_index fabric) fs
 known-members fabric [] = refl
 known-members fabric (f ∷ fs) = grind (arith, known-members fabric fs, known-index fabric f)
 

@@ -4,7 +4,8 @@ use Rattle.std.proofs.lemmas.Bool.{and_from, and_parts, both_ways, cond_both, eq
 use Rattle.std.proofs.lemmas.List.Folds.{list_all-map}
 use Rattle.std.proofs.lemmas.List.Sums.{length-filter}
 use Rattle.std.specs.List.{list_all, list_any}
-use Rattle.mt_fabrics.specs.Table.{IsLeastUnused, IsTable, add_refusal, added, has_label, least_unused, placed, with_index}
+use Rattle.mt_failsafe.specs.Notes.{is_that}
+use Rattle.mt_fabrics.specs.Table.{IsLeastUnused, IsTable, add_refusal, added, has_index, has_label, least_unused, placed, with_index}
 use Rattle.mt_fabrics.specs.declared.fault.FabricFault.{FabricFault}
 use Rattle.mt_fabrics.specs.declared.fault.FabricFault.TheVariants.{Conflict, LabelConflict, TableFull}
 use Rattle.mt_failsafe.specs.Notes as notes
@@ -20,7 +21,7 @@ use Rattle.mt_model.specs.declared.tables.access.Auth.TheVariants.{Pase, Case, G
 use Rattle.mt_model.specs.declared.tables.fabric.Fabric.{Fabric}
 use Rattle.mt_model.specs.declared.tables.network.Armed.{Armed}
 use Rattle.mt_machine.specs.Effects.{is_on, is_pase, is_plain, joined, joined_as, may_join, plain_joined, session_joined, standing_joined}
-use Rattle.mt_machine.specs.State.{IsValid, follows, has_entries_up_to, is_added, is_among, is_awaited_root, is_indexed, is_owned, is_plain_of, is_root_of, is_row, is_session, is_that, is_updated, is_used, plain_follows, stands_rightly}
+use Rattle.mt_machine.specs.State.{IsValid, follows, has_entries_up_to, is_added, is_among, is_awaited_root, is_owned, is_plain_of, is_root_of, is_row, is_session, is_updated, is_used, plain_follows, stands_rightly}
 use Rattle.mt_machine.proofs.OtherFabrics.{either-among, entry-among, is_its, none-is, owned_among, plain-still, row-among, same_number}
 use Rattle.mt_machine.proofs.ValidParts.{ArmedHolds, EntriesHold, FabricsHold, PlainHolds, RootsHold, RowsHold, SessionsHold, fabrics_of, its_armed, its_fabrics, its_networks, its_plain, its_roots, its_sessions, table_of, with-parts}
 use Rattle.mt_machine.proofs.Writes.{all-weaker, impossible}
@@ -105,10 +106,10 @@ module _
       joins q its = placed-any new q s.fabrics ∙ or_left (q new) _ its
 
       among_still : (n : ℕ) → is_among s.fabrics n ≡ true → is_among more n ≡ true
-      among_still n = still (is_indexed n)
+      among_still n = still (has_index n)
 
       among_new : is_among more index ≡ true
-      among_new = joins (is_indexed index) (same_number index)
+      among_new = joins (has_index index) (same_number index)
 
       -- Entries and rows.
 

@@ -4,7 +4,8 @@ use Rattle.std.proofs.lemmas.Bool.{and_parts, cases_Bool, cond_both, eqb-true, e
 use Rattle.std.proofs.lemmas.List.Folds.{list_all-map}
 use Rattle.std.proofs.lemmas.List.Sums.{length-filter}
 use Rattle.std.specs.List.{count_by, list_any}
-use Rattle.mt_fabrics.specs.Table.{IsTable, has_other_index, is_used, removed}
+use Rattle.mt_failsafe.specs.Calls.{is_context}
+use Rattle.mt_fabrics.specs.Table.{IsTable, has_index, has_other_index, is_used, removed}
 use Rattle.mt_meta.specs.Finding.{find_of}
 use Rattle.mt_meta.specs.Places.{all_places}
 use Rattle.mt_meta.specs.Stored.{is_stored}
@@ -22,10 +23,10 @@ use Rattle.mt_model.specs.declared.tables.access.Auth.{Auth}
 use Rattle.mt_model.specs.declared.tables.access.Auth.TheVariants.{Pase, Case, Group}
 use Rattle.mt_model.specs.declared.tables.fabric.Fabric.{Fabric}
 use Rattle.mt_model.specs.declared.tables.network.Armed.{Armed}
-use Rattle.mt_machine.specs.Effects.{is_context, may_leave, plain_without, session_without, without_fabric}
+use Rattle.mt_machine.specs.Effects.{may_leave, plain_without, session_without, without_fabric}
 use Rattle.mt_machine.specs.Isolation.{is_live_for}
 use Rattle.mt_machine.specs.Rollback.{stays}
-use Rattle.mt_machine.specs.State.{IsValid, follows, has_entries_up_to, has_one_row, is_among, is_indexed, is_owned, is_plain_of, is_row, is_row_at, is_session, is_unscoped, plain_follows, stands_once, stands_rightly}
+use Rattle.mt_machine.specs.State.{IsValid, follows, has_entries_up_to, has_one_row, is_among, is_owned, is_plain_of, is_row, is_row_at, is_session, is_unscoped, plain_follows, stands_once, stands_rightly}
 use Rattle.mt_machine.specs.State as states
 use Rattle.mt_machine.proofs.NetworksValid.{all-passing, length-kept}
 use Rattle.mt_machine.proofs.OtherFabrics.{entry-among, eq-turned, facts-still, is_its, plain-still, row-among, stands-still}
@@ -61,7 +62,7 @@ module _ (index : ℕ) where
   ]
 
   pub among-left : (fs : List Fabric) (n : ℕ) → (n == index) ≡ false → is_among fs n ≡ true → is_among (removed index fs) n ≡ true
-  among-left fs n other = any-left (is_indexed n) (λ f at. subst (λ k. (k == index) ≡ false) (sym (eqb-true f.index n at)) other) fs
+  among-left fs n other = any-left (has_index n) (λ f at. subst (λ k. (k == index) ≡ false) (sym (eqb-true f.index n at)) other) fs
 
   its-left : (fs : List Fabric) (key : List ℕ) (id n : ℕ) → (n == index) ≡ false → list_any (is_its key id n) fs ≡ true → list_any (is_its key id n) (removed index fs) ≡ true
   its-left fs key id n other =

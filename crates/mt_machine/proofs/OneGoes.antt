@@ -19,7 +19,8 @@ use Rattle.mt_model.specs.declared.tables.fabric.Fabric.{Fabric}
 use Rattle.mt_model.specs.declared.tables.network.Armed.{Armed}
 use Rattle.mt_opcreds.specs.Laws.{KeepsRules, StepsAreWellFormed, StepsFit}
 use Rattle.mt_opcreds.specs.Moves.{IsMove, StepsAreMoves, expires, expires_and_leaves, joins, leaves, names, nothing, renews, requests, trusts}
-use Rattle.mt_opcreds.specs.RemoveFabric as removal
+use Rattle.mt_failsafe.specs.Calls.{is_context}
+use Rattle.mt_failsafe.specs.Notes.{is_that, was_added}
 use Rattle.mt_write.specs.Laws.{LeavesSound, NobodySetsScoped, TouchesItsOwn}
 use Rattle.mt_machine.specs.Effects.{after, after_all}
 use Rattle.mt_machine.specs.Given.{Given}
@@ -50,14 +51,14 @@ by_step : (asker : Option Actor) (step : NodeStep) (s : NodeState) → LeftOne s
 by_step asker step s fabric = left_is_gone fabric asker step s
 
 -- where commissioning goes on for a fabric that was not added, none was
-none_added : (s : NodeState) → IsValid s → (index : ℕ) (armed : Option Armed) → s.armed ≡ armed → removal.is_context index (option_map bare_armed armed) ≡ true → removal.was_added index (option_map bare_armed armed) ≡ false → added_in armed ≡ None
+none_added : (s : NodeState) → IsValid s → (index : ℕ) (armed : Option Armed) → s.armed ≡ armed → is_context index (option_map bare_armed armed) ≡ true → was_added index (option_map bare_armed armed) ≡ false → added_in armed ≡ None
 none_added s valid index None is context not_added = refl
 none_added s valid index (Some armed) is context not_added = by_added armed.added facts not_added
   where
     facts : is_added s.fabrics armed armed.added ≡ true
     facts = (and_parts (is_added s.fabrics armed armed.added) (is_updated s.fabrics armed armed.added armed.updated) (subst (λ (a : Option Armed). keeps_facts s.fabrics a ≡ true) is valid.failsafe_facts)).0
 
-    by_added : (added : Option ℕ) → is_added s.fabrics armed added ≡ true → removal.is_it index added ≡ false → added ≡ None
+    by_added : (added : Option ℕ) → is_added s.fabrics armed added ≡ true → is_that index added ≡ false → added ≡ None
     by_added None its not_it = refl
     by_added (Some added) its not_it =
         let same : armed.context ≡ added = eqb-true armed.context added (and_parts (armed.context == added) (is_among s.fabrics added) its).0 in

@@ -6,6 +6,7 @@ use Rattle.std.proofs.lemmas.Slice.Eq.{bytes_eq-Decides}
 use Rattle.std.specs.List.{find, list_all, list_any}
 use Rattle.std.specs.Str.{chars, is_utf8}
 use lib.Utf8.{encode}
+use Rattle.mt_fabrics.specs.Table.{has_index_up_to}
 use Rattle.mt_meta.specs.Places.{all_places}
 use Rattle.mt_meta.specs.Stored.{first_rows, is_stored}
 use Rattle.mt_meta.specs.Table.{attributes_of, clusters_of, endpoints, extensions_of, globals}
@@ -20,7 +21,7 @@ use Rattle.mt_model.specs.declared.tables.fabric.Fabric.{Fabric}
 use Rattle.mt_machine.specs.Opened.{live_or_waits, opened_with, session_of, sessions_of, standing_of, unchanged, with_roots_of}
 use Rattle.mt_machine.specs.Effects.{with_root}
 use Rattle.mt_model.specs.declared.node.state.NodeSession.{NodeSession}
-use Rattle.mt_machine.specs.State.{IsValid, follows, has_index_up_to, has_one_row, is_change_up_to, is_owned, is_root_of, is_row, is_session, is_used, stands_once, stands_rightly}
+use Rattle.mt_machine.specs.State.{IsValid, follows, has_one_row, is_change_up_to, is_owned, is_root_of, is_row, is_session, is_used, stands_once, stands_rightly}
 
 -- Fabrics.
 

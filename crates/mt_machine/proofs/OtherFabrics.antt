@@ -2,6 +2,7 @@
 use Rattle.std.proofs.Common.{◌≡◌, ℕ, ◌==◌, ◌&&◌, ◌||◌, inl, inr, is_none, Bool, true, false, List, [], ◌∷◌, Option, Some, None, Result, Ok, Err, refl, sym, ◌∙◌}
 use Rattle.std.proofs.lemmas.Bool.{and_from, and_parts, cases_Bool, eqb-false, eqb-true, eq-eqb, ne_eqb, not_from_false, not-true, or_cases, or_left, or_right}
 use Rattle.std.specs.List.{list_any}
+use Rattle.mt_failsafe.specs.Calls.{is_context}
 use Rattle.mt_meta.specs.Finding.{find_of}
 use Rattle.mt_meta.specs.Forms.{has_form}
 use Rattle.mt_meta.specs.Stored.{is_stored}
@@ -18,7 +19,6 @@ use Rattle.mt_model.specs.declared.tables.access.Auth.TheVariants.{Pase, Case, G
 use Rattle.mt_model.specs.declared.tables.fabric.Credentials.{Credentials}
 use Rattle.mt_model.specs.declared.tables.fabric.Fabric.{Fabric}
 use Rattle.mt_model.specs.declared.tables.network.Armed.{Armed}
-use Rattle.mt_machine.specs.Effects.{is_context}
 use Rattle.mt_machine.specs.Isolation.{has_fabric, is_live_for}
 use Rattle.mt_machine.specs.State.{is_added, is_among, is_owned, is_plain_of, is_row, is_row_at, is_row_of, is_updated, keeps_facts, saves_identity, stands_rightly}
 use Rattle.mt_machine.proofs.Writes.{impossible}

@@ -5,6 +5,7 @@ use Rattle.std.proofs.lemmas.List.Folds.{list_all-map}
 use Rattle.std.proofs.lemmas.Slice.Eq.{bytes_eq-Decides}
 use Rattle.std.proofs.lemmas.List.Sums.{length-filter}
 use Rattle.std.specs.List.{count_by, list_all, list_any}
+use Rattle.mt_fabrics.specs.Table.{has_index_up_to}
 use Rattle.mt_tlv.specs.declared.value.Value.{Value}
 use Rattle.mt_tlv.specs.declared.value.Value.TheVariants as values
 use Rattle.mt_meta.specs.Finding.{find_of}
@@ -32,7 +33,8 @@ use Rattle.mt_model.specs.declared.tables.fabric.Credentials.{Credentials}
 use Rattle.mt_model.specs.declared.tables.fabric.Fabric.{Fabric}
 use Rattle.mt_model.specs.declared.tables.network.Armed.{Armed}
 use Rattle.mt_machine.specs.Rollback.{breadcrumb, ends, fabrics_behind, given_back, rolled_back, session_behind, stays, undone}
-use Rattle.mt_machine.specs.State.{IsValid, are_kept, are_networks, follows, has_entries_up_to, has_index_up_to, has_one_row, have_one_id, is_added, is_among, is_network, is_owned, is_root_of, is_row, is_row_at, is_row_of, is_session, is_unscoped, is_updated, is_used, keeps_facts, saves_identity, saves_rightly, stands_once, stands_rightly}
+use Rattle.mt_opcreds.specs.Laws.{are_credentials_if}
+use Rattle.mt_machine.specs.State.{IsValid, are_networks, follows, has_entries_up_to, has_one_row, have_one_id, is_added, is_among, is_network, is_owned, is_root_of, is_row, is_row_at, is_row_of, is_session, is_unscoped, is_updated, is_used, keeps_facts, saves_identity, saves_rightly, stands_once, stands_rightly}
 use Rattle.mt_machine.proofs.Writes.{all-filter, all-kept, all-weaker, after_step, impossible, members_are_positive, nobodys, place-same}
 use Rattle.mt_machine.specs.Taking.{fits}
 
@@ -324,10 +326,10 @@ module _
   saves = subst (λ (a : Option Armed). saves_rightly a ≡ true) is valid.saved_stand
 
   saved_networks : are_networks armed.saved_networks ≡ true
-  saved_networks = (and_parts (are_networks armed.saved_networks) (are_kept armed.saved_credentials) saves).0
+  saved_networks = (and_parts (are_networks armed.saved_networks) (are_credentials_if armed.saved_credentials) saves).0
 
-  saved_credentials : are_kept armed.saved_credentials ≡ true
-  saved_credentials = (and_parts (are_networks armed.saved_networks) (are_kept armed.saved_credentials) saves).1
+  saved_credentials : are_credentials_if armed.saved_credentials ≡ true
+  saved_credentials = (and_parts (are_networks armed.saved_networks) (are_credentials_if armed.saved_credentials) saves).1
 
   abbrev added : Option ℕ
   added = armed.added
@@ -344,7 +346,7 @@ module _
   have_all : list_all (has_its updated kept) s.fabrics ≡ true
   have_all = all-have s.fabrics armed added updated kept refl valid.fabrics_rise (and_parts (is_added s.fabrics armed armed.added) (is_updated s.fabrics armed armed.added armed.updated) facts).1
 
-  given_forms : (u : Option ℕ) (c : Option Credentials) → are_kept c ≡ true → (f : Fabric) → is_fabric f ≡ true → is_fabric (given_back u c f) ≡ true
+  given_forms : (u : Option ℕ) (c : Option Credentials) → are_credentials_if c ≡ true → (f : Fabric) → is_fabric f ≡ true → is_fabric (given_back u c f) ≡ true
   given_forms None c are f form = form
   given_forms (Some u) None are f form = form
   given_forms (Some u) (Some c) are f form = elim (cases_Bool (f.index == u)) [

@@ -2,6 +2,7 @@
 use Rattle.std.proofs.Common.{◌≡◌, ℕ, inl, inr, Bool, true, false, ◌==◌, nat_lt, List, [], ◌∷◌, ◌++◌, Option, Some, None, cond, refl, ap, sym, subst, ◌∙◌, filter, map, if◌then◌else◌, arith}
 use Rattle.std.specs.List.{list_any}
 use Rattle.std.proofs.lemmas.List.{map-append}
+use Rattle.mt_fabrics.specs.Table.{has_index}
 use Rattle.mt_tlv.specs.Tree.{Elements}
 use Rattle.mt_model.specs.rows.Order.{fabrics_ascend, in_order}
 use Rattle.mt_model.specs.rows.Sight.{is_acl, is_nocs, seen_by, stands_at, version_in}
@@ -24,7 +25,7 @@ use Rattle.mt_model.specs.declared.tables.network.Armed.{Armed}
 use Rattle.std.specs.Option.{option_map}
 use Rattle.std.proofs.lemmas.Bool.{cases_Bool}
 use Rattle.mt_machine.specs.Observation.{observation}
-use Rattle.mt_machine.specs.State.{IsValid, is_indexed, parts, rows_of}
+use Rattle.mt_machine.specs.State.{IsValid, parts, rows_of}
 use Rattle.mt_machine.proofs.Rows.{apart-others, apart-own, passed}
 use Rattle.mt_machine.proofs.Entries as entries
 use Rattle.mt_machine.proofs.Entries.{acl_place, both_true, entries-others, entries-own, own_entries-apart}
@@ -117,8 +118,8 @@ plain-veil fabric (Some other) = by_test (other == fabric)
     by_test true = grind arith
     by_test false = refl
 
-pub members-veil : (fabric : ℕ) (s : NodeState) → fabrics_ascend s.fabrics ≡ true → list_any (is_indexed fabric) (veil fabric s).fabrics ≡ list_any (is_indexed fabric) s.fabrics
-members-veil fabric s up = ap (list_any (is_indexed fabric)) (rebuilt-known fabric s.fabrics up) ∙ known-members fabric s.fabrics
+pub members-veil : (fabric : ℕ) (s : NodeState) → fabrics_ascend s.fabrics ≡ true → list_any (has_index fabric) (veil fabric s).fabrics ≡ list_any (has_index fabric) s.fabrics
+members-veil fabric s up = ap (list_any (has_index fabric)) (rebuilt-known fabric s.fabrics up) ∙ known-members fabric s.fabrics
 
 -- What is known of fabrics, networks and the fail-safe is known on the veil.
 

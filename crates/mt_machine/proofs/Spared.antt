@@ -2,6 +2,8 @@
 use Rattle.std.proofs.Common.{◌≡◌, ◌≢◌, ℕ, ◌==◌, ◌&&◌, ◌||◌, ◌++◌, inl, inr, not, is_some, Bool, true, false, List, [], ◌∷◌, Option, Some, None, refl, sym, ap, ◌∙◌, subst, filter, map, arith, if◌then◌else◌}
 use Rattle.std.proofs.lemmas.Bool.{and_parts, cases_Bool, eqb-true, or_cases}
 use Rattle.std.specs.List.{list_all}
+use Rattle.mt_failsafe.specs.Notes.{is_that, was_added, was_updated}
+use Rattle.mt_fabrics.specs.Table.{has_index}
 use Rattle.mt_tlv.specs.declared.value.Value.{Value}
 use Rattle.mt_tlv.specs.declared.value.Value.TheVariants as values
 use Rattle.mt_model.specs.rows.Order.{are_ascending}
@@ -23,7 +25,7 @@ use Rattle.mt_model.specs.declared.tables.fabric.Fabric.{Fabric}
 use Rattle.mt_model.specs.declared.tables.network.Armed.{Armed}
 use Rattle.mt_machine.specs.Isolation.{has_fabric, is_live_for, own, owns, saved_for}
 use Rattle.mt_machine.specs.Rollback.{breadcrumb, ends, given_back, rolled_back, session_behind, stays, undone}
-use Rattle.mt_machine.specs.State.{IsValid, follows, is_added, is_indexed, is_that, is_updated, keeps_facts, plain_follows, was_added, was_updated}
+use Rattle.mt_machine.specs.State.{IsValid, follows, is_added, is_updated, keeps_facts, plain_follows}
 use Rattle.mt_machine.proofs.Order.{from_zero}
 use Rattle.mt_machine.proofs.Rolled.{given-index}
 use Rattle.mt_machine.proofs.Steps.{own-kept}
@@ -60,7 +62,7 @@ module _ (fabric : ℕ) (s : NodeState) (valid : IsValid s) (some : fabric ≢ 0
       let apart : (f.index == u) ≡ false = subst (λ n. (n == u) ≡ false) (sym (eqb-true f.index fabric mine)) (flipped u fabric other) in
       rw apart refl
 
-  given_mine : (updated : Option ℕ) (saved : Option Credentials) → is_that fabric updated ≡ false → (fabrics : List Fabric) → filter (is_indexed fabric) (map (given_back updated saved) fabrics) ≡ filter (is_indexed fabric) fabrics
+  given_mine : (updated : Option ℕ) (saved : Option Credentials) → is_that fabric updated ≡ false → (fabrics : List Fabric) → filter (has_index fabric) (map (given_back updated saved) fabrics) ≡ filter (has_index fabric) fabrics
   given_mine updated saved other [] = refl
   given_mine updated saved other (f ∷ fabrics) =
       let rest = given_mine updated saved other fabrics in
@@ -73,10 +75,10 @@ module _ (fabric : ℕ) (s : NodeState) (valid : IsValid s) (some : fabric ≢ 0
             rw (still, not_mine) rest
       ]
 
-  fabrics_same : (fabrics : List Fabric) → filter (is_indexed fabric) (map (given_back armed.updated armed.saved_credentials) (filter (λ (f : Fabric). stays armed.added f.index) fabrics)) ≡ filter (is_indexed fabric) fabrics
+  fabrics_same : (fabrics : List Fabric) → filter (has_index fabric) (map (given_back armed.updated armed.saved_credentials) (filter (λ (f : Fabric). stays armed.added f.index) fabrics)) ≡ filter (has_index fabric) fabrics
   fabrics_same fabrics =
       given_mine armed.updated armed.saved_credentials not_updated (filter (λ (f : Fabric). stays armed.added f.index) fabrics)
-      ∙ both-filters (is_indexed fabric) (λ (f : Fabric). stays armed.added f.index) (λ f mine. stays-other armed.added fabric f.index not_added mine) fabrics
+      ∙ both-filters (has_index fabric) (λ (f : Fabric). stays armed.added f.index) (λ f mine. stays-other armed.added fabric f.index not_added mine) fabrics
 
   none_saved : (updated : Option ℕ) → is_that fabric updated ≡ false → has_fabric fabric updated ≡ false
   none_saved None other = refl

@@ -2,10 +2,11 @@
 use Rattle.std.proofs.Common.{◌≡◌, ℕ, ◌==◌, ◌&&◌, ◌||◌, ◌++◌, inl, inr, not, is_none, is_some, Bool, true, false, List, [], ◌∷◌, Option, Some, None, Result, Ok, Err, option_map, refl, sym, ap, ◌∙◌, subst, filter, arith, if◌then◌else◌}
 use Rattle.std.proofs.lemmas.Bool.{and_from, and_parts, cases_Bool, eqb-true, false_from_ne_true}
 use Rattle.std.specs.List.{list_all}
+use Rattle.mt_failsafe.specs.Notes.{is_that, was_added, was_updated}
 use Rattle.mt_tlv.specs.declared.value.Value.{Value}
 use Rattle.mt_commission.specs.Laws as commission
 use Rattle.mt_fabrics.specs.Table.{IsLeastUnused, IsTable, is_used, least_unused, removed}
-use Rattle.mt_failsafe.specs.Calls.{is_armed_by}
+use Rattle.mt_failsafe.specs.Calls.{is_armed_by, is_context}
 use Rattle.mt_failsafe.specs.Notes as notes
 use Rattle.mt_model.specs.rows.Order.{are_ascending}
 use Rattle.mt_model.specs.rows.Setting.{is_above, is_at, is_below, is_entry_above, is_entry_below, is_entry_of, with_entries, with_rows}
@@ -28,11 +29,10 @@ use Rattle.mt_model.specs.declared.tables.network.Network.{Network}
 use Rattle.mt_opcreds.specs.Laws as credentials
 use Rattle.mt_opcreds.specs.Laws.{is_well_formed}
 use Rattle.mt_opcreds.specs.Moves.{IsMove, expires, expires_and_leaves, joins, leaves, names, nothing, renews, requests, trusts}
-use Rattle.mt_opcreds.specs.RemoveFabric as removal
-use Rattle.mt_machine.specs.Effects.{after, after_all, is_context, is_pase, is_sound_step, joined, joined_as, may_join, may_leave, without_fabric}
+use Rattle.mt_machine.specs.Effects.{after, after_all, is_pase, is_sound_step, joined, joined_as, may_join, may_leave, without_fabric}
 use Rattle.mt_machine.specs.Isolation.{own}
 use Rattle.mt_machine.specs.Rollback.{rolled_back, stays}
-use Rattle.mt_machine.specs.State.{IsValid, is_added, is_among, is_member, is_that, is_updated, keeps_facts, was_added, was_updated}
+use Rattle.mt_machine.specs.State.{IsValid, is_added, is_among, is_member, is_updated, keeps_facts}
 use Rattle.mt_machine.specs.Taking.{may_take}
 use Rattle.mt_machine.specs.Touching.{StaysThere, may_touch}
 use Rattle.mt_machine.proofs.Expired.{among-behind}
@@ -135,17 +135,13 @@ armed_bare : (owner : ℕ) (armed : Option Armed) → is_armed_by owner (option_
 armed_bare owner None is = is
 armed_bare owner (Some armed) is = is
 
-context_bare : (index : ℕ) (armed : Option Armed) → is_context index armed ≡ removal.is_context index (option_map bare_armed armed)
+context_bare : (index : ℕ) (armed : Option Armed) → is_context index armed ≡ is_context index (option_map bare_armed armed)
 context_bare index None = refl
 context_bare index (Some armed) = refl
 
-added_bare : (index : ℕ) (armed : Option Armed) → was_added index armed ≡ removal.was_added index (option_map bare_armed armed)
+added_bare : (index : ℕ) (armed : Option Armed) → was_added index armed ≡ was_added index (option_map bare_armed armed)
 added_bare index None = refl
-added_bare index (Some armed) = by_added armed.added
-  where
-    by_added : (added : Option ℕ) → is_that index added ≡ removal.is_it index added
-    by_added None = refl
-    by_added (Some other) = refl
+added_bare index (Some armed) = refl
 
 -- an expiry leaves it not armed
 ends : (armed : Option Armed) (s : NodeState) → s.armed ≡ armed → (rolled_back armed s).armed ≡ None
@@ -235,9 +231,9 @@ module _ (fabric writer : ℕ) (apart : (writer == fabric) ≡ false) where
       impossible (sym other ∙ subst (λ n. (n == fabric) ≡ true) (eqb-true armed.context index context) (its_updated s valid armed is fabric its).1))
 
   -- only the fabric for which commissioning goes on completes it
-  context_apart : (armed : Option Armed) → commission.is_context writer (option_map bare_armed armed) ≡ true → is_context fabric armed ≡ false
+  context_apart : (armed : Option Armed) → is_context writer (option_map bare_armed armed) ≡ true → is_context fabric armed ≡ false
   context_apart None is = impossible is
-  context_apart (Some armed) is = false_from_ne_true (armed.context == fabric) (λ its. impossible (sym apart ∙ subst (λ n. (n == fabric) ≡ true) (sym (eqb-true writer armed.context is)) its))
+  context_apart (Some armed) is = false_from_ne_true (armed.context == fabric) (λ its. impossible (sym apart ∙ subst (λ n. (n == fabric) ≡ true) (eqb-true armed.context writer is) its))
 
   -- By the laws of the model on rows and entries, those of the table of fabrics, and that steps leave a valid state valid.
   module _

@@ -2,6 +2,7 @@
 use Rattle.std.proofs.Common.{◌≡◌, ℕ, ◌==◌, inl, inr, Bool, true, false, List, [], ◌∷◌, Option, Some, None, refl, sym, ap, ◌∙◌, filter, map, subst, arith, if◌then◌else◌}
 use Rattle.std.specs.Option.{option_map}
 use Rattle.std.proofs.lemmas.Bool.{cases_Bool, eqb-true}
+use Rattle.mt_fabrics.specs.Table.{has_index}
 use Rattle.mt_tlv.specs.declared.value.Value.TheVariants as values
 use Rattle.mt_model.specs.rows.Seen.{own_entries}
 use Rattle.mt_model.specs.tables.Known.{bare_armed}
@@ -20,7 +21,7 @@ use Rattle.mt_machine.specs.Given.{Given}
 use Rattle.mt_machine.specs.Isolation.{Own, has_fabric, is_deadline_in, is_live_for, own, own_of_whole, owns, saved_for, veil, veil_of_whole, with_saved}
 use Rattle.mt_machine.specs.Lines.{next_tick}
 use Rattle.mt_machine.specs.Rollback.{breadcrumb, deadlines_left, ends, given_back, is_due, rolled_back, session_behind, stays, undone}
-use Rattle.mt_machine.specs.State.{IsValid, State, is_indexed}
+use Rattle.mt_machine.specs.State.{IsValid, State}
 use Rattle.mt_machine.specs.Step.{after_action, after_steps, at_time}
 use Rattle.mt_machine.proofs.Again.{own-again}
 use Rattle.mt_machine.proofs.Rolled.{given-index}
@@ -50,7 +51,7 @@ module _ (fabric : ℕ) where
     is_plain = false;
   }
 
-  given_mine : (updated : Option ℕ) (saved : Option Credentials) (fs : List Fabric) → filter (is_indexed fabric) (map (given_back updated saved) fs) ≡ map (given_back updated saved) (filter (is_indexed fabric) fs)
+  given_mine : (updated : Option ℕ) (saved : Option Credentials) (fs : List Fabric) → filter (has_index fabric) (map (given_back updated saved) fs) ≡ map (given_back updated saved) (filter (has_index fabric) fs)
   given_mine updated saved [] = refl
   given_mine updated saved (f ∷ fs) =
       let same : ((given_back updated saved f).index == fabric) ≡ (f.index == fabric) = ap (λ n. n == fabric) (given-index updated saved f) in
@@ -85,7 +86,7 @@ module _ (fabric : ℕ) where
     rows = swap (owns fabric) (λ (row : Row). stays armed.added row.fabric) s.rows i;
     entries = swap (λ (entry : AclEntry). entry.fabric == fabric) (λ (entry : AclEntry). stays armed.added entry.fabric) s.entries i;
     fabrics = (given_mine armed.updated armed.saved_credentials (filter (λ (f : Fabric). stays armed.added f.index) s.fabrics)
-        ∙ ap (map (given_back armed.updated armed.saved_credentials)) (swap (is_indexed fabric) (λ (f : Fabric). stays armed.added f.index) s.fabrics)) i;
+        ∙ ap (map (given_back armed.updated armed.saved_credentials)) (swap (has_index fabric) (λ (f : Fabric). stays armed.added f.index) s.fabrics)) i;
     saved = None;
     sessions = behind_mine armed s.sessions i;
     is_plain = false;
@@ -107,7 +108,7 @@ module _ (fabric : ℕ) where
   ]
 
   all_given_alike : (updated : Option ℕ) (saved : Option Credentials) (keep : Fabric → Bool) (fs : List Fabric)
-      → map (given_back updated (if has_fabric fabric updated then saved else None)) (filter keep (filter (is_indexed fabric) fs)) ≡ map (given_back updated saved) (filter keep (filter (is_indexed fabric) fs))
+      → map (given_back updated (if has_fabric fabric updated then saved else None)) (filter keep (filter (has_index fabric) fs)) ≡ map (given_back updated saved) (filter keep (filter (has_index fabric) fs))
   all_given_alike updated saved keep [] = refl
   all_given_alike updated saved keep (f ∷ fs) =
       let rest = all_given_alike updated saved keep fs in

@@ -4,6 +4,7 @@ use Rattle.std.specs.List.{find, list_all}
 use Rattle.std.specs.Option.{option_map}
 use Rattle.std.proofs.lemmas.Bool.{and_parts}
 use Rattle.std.proofs.lemmas.List.Folds.{list_any-append}
+use Rattle.mt_fabrics.specs.Table.{has_index}
 use Rattle.mt_model.specs.rows.Same.{are_same_rows}
 use Rattle.mt_model.specs.declared.rows.place.Row.{Row}
 use Rattle.mt_model.specs.declared.tables.access.Actor.{Actor}
@@ -17,7 +18,7 @@ use Rattle.mt_model.specs.declared.node.state.Standing.TheVariants.{Waits, Live,
 use Rattle.mt_machine.specs.Given.{Given}
 use Rattle.mt_machine.specs.Effects.{after, after_all, is_setting_step}
 use Rattle.mt_machine.specs.Settings.{setting_cases}
-use Rattle.mt_machine.specs.State.{is_among, is_indexed}
+use Rattle.mt_machine.specs.State.{is_among}
 use Rattle.mt_machine.specs.Step.{after_action, after_steps, aside_between, asker_of, at_time, closed_between, gone_between, is_live, steps_of}
 use Rattle.mt_machine.proofs.Settled.{settled-same}
 
@@ -47,7 +48,7 @@ or_true false = refl
 among_all : (front fabrics : List Fabric) → find (λ (fabric : Fabric). not (is_among (front ++ fabrics) fabric.index)) fabrics ≡ None
 among_all front [] = refl
 among_all front (fabric ∷ fabrics) =
-    let there : is_among (front ++ fabric ∷ fabrics) fabric.index ≡ true = list_any-append (is_indexed fabric.index) front (fabric ∷ fabrics) ∙ rw (same_number fabric.index) (or_true (is_among front fabric.index)) in
+    let there : is_among (front ++ fabric ∷ fabrics) fabric.index ≡ true = list_any-append (has_index fabric.index) front (fabric ∷ fabrics) ∙ rw (same_number fabric.index) (or_true (is_among front fabric.index)) in
     let again : find (λ (f : Fabric). not (is_among ((front ++ fabric ∷ []) ++ fabrics) f.index)) fabrics ≡ None = among_all (front ++ fabric ∷ []) fabrics in
     let same : (front ++ fabric ∷ []) ++ fabrics ≡ front ++ fabric ∷ fabrics = append_assoc front (fabric ∷ []) fabrics in
     rw there (subst (λ (all : List Fabric). find (λ (f : Fabric). not (is_among all f.index)) fabrics ≡ None) same again)

@@ -2,9 +2,10 @@
 use Rattle.std.proofs.Common.{◌≡◌, ℕ, ◌==◌, ◌&&◌, ◌||◌, ◌++◌, inl, inr, not, nat_lt, is_none, is_some, Bool, true, false, List, [], ◌∷◌, Option, Some, None, option_map, refl, sym, ap, ◌∙◌, subst, filter, map, arith, if◌then◌else◌}
 use Rattle.std.proofs.lemmas.Bool.{and_parts, cases_Bool, eqb-false, eqb-true, or_cases, or_parts}
 use Rattle.std.specs.List.{list_all}
+use Rattle.mt_failsafe.specs.Notes.{is_that, was_added, was_updated}
 use Rattle.mt_tlv.specs.declared.value.Value.{Value}
-use Rattle.mt_fabrics.specs.Table.{added, changed, changed_at, credentials_at, has_other_index, label_refusal, least_unused, placed, removed, with_credentials, with_index, with_label}
-use Rattle.mt_failsafe.specs.Calls.{is_armed_by, renewed}
+use Rattle.mt_fabrics.specs.Table.{added, changed, changed_at, credentials_at, has_index, has_other_index, label_refusal, least_unused, placed, removed, with_credentials, with_index, with_label}
+use Rattle.mt_failsafe.specs.Calls.{is_armed_by, is_context, renewed}
 use Rattle.mt_failsafe.specs.Notes as notes
 use Rattle.mt_model.specs.rows.Order.{are_ascending}
 use Rattle.mt_model.specs.rows.Seen.{own_entries}
@@ -26,10 +27,10 @@ use Rattle.mt_model.specs.declared.tables.fabric.Credentials.{Credentials}
 use Rattle.mt_model.specs.declared.tables.fabric.Fabric.{Fabric}
 use Rattle.mt_model.specs.declared.tables.network.Armed.{Armed}
 use Rattle.mt_model.specs.declared.tables.network.Network.{Network}
-use Rattle.mt_machine.specs.Effects.{after, armed_behind, completed, is_context, is_on, is_pase, is_plain, is_sound_step, joined, joined_as, labelled_in, may_join, may_leave, may_update, plain_joined, plain_without, session_completed, session_joined, session_without, standing_completed, standing_joined, trusting, updated_in, with_request, with_saved_credentials, without_fabric}
+use Rattle.mt_machine.specs.Effects.{after, armed_behind, completed, is_on, is_pase, is_plain, is_sound_step, joined, joined_as, labelled_in, may_join, may_leave, may_update, plain_joined, plain_without, session_completed, session_joined, session_without, standing_completed, standing_joined, trusting, updated_in, with_request, with_saved_credentials, without_fabric}
 use Rattle.mt_machine.specs.Isolation.{has_fabric, is_live_for, own, owns, saved_for}
 use Rattle.mt_machine.specs.Rollback.{rolled_back, stays}
-use Rattle.mt_machine.specs.State.{IsValid, follows, is_added, is_indexed, is_that, is_updated, keeps_facts, plain_follows, was_added, was_updated}
+use Rattle.mt_machine.specs.State.{IsValid, follows, is_added, is_updated, keeps_facts, plain_follows}
 use Rattle.mt_machine.specs.Touching.{may_touch}
 use Rattle.mt_machine.proofs.Spared.{both-filters, spared, stays-other}
 use Rattle.mt_machine.proofs.Writes.{impossible}
@@ -157,7 +158,7 @@ completed-own fabric s (Some armed) is facts apart =
     λ i. record {
       rows = filter (owns fabric) s.rows;
       entries = own_entries fabric s.entries;
-      fabrics = filter (is_indexed fabric) s.fabrics;
+      fabrics = filter (has_index fabric) s.fabrics;
       saved = saved i;
       sessions = completed-sessions fabric armed.context apart s.sessions i;
       is_plain = without-plain fabric armed.context apart s.plain i;
@@ -165,7 +166,7 @@ completed-own fabric s (Some armed) is facts apart =
 
 -- Another fabric joins.
 
-pub placed-mine : (fabric : ℕ) (f : Fabric) → (f.index == fabric) ≡ false → (fabrics : List Fabric) → filter (is_indexed fabric) (placed f fabrics) ≡ filter (is_indexed fabric) fabrics
+pub placed-mine : (fabric : ℕ) (f : Fabric) → (f.index == fabric) ≡ false → (fabrics : List Fabric) → filter (has_index fabric) (placed f fabrics) ≡ filter (has_index fabric) fabrics
 placed-mine fabric f other [] = rw other refl
 placed-mine fabric f other (g ∷ fabrics) = elim (cases_Bool (nat_lt g.index f.index)) [
   | inl below ↦
@@ -262,13 +263,13 @@ joined-own fabric asker joins s valid some apart = elim (cases_Bool (may_join jo
 
 -- A change to the fabric of another index.
 
-changed-mine : (fabric index : ℕ) (change : Fabric → Fabric) → (index == fabric) ≡ false → ((f : Fabric) → (change f).index ≡ f.index) → (fabrics : List Fabric) → filter (is_indexed fabric) (changed index change fabrics) ≡ filter (is_indexed fabric) fabrics
-changed-mine fabric index change apart keeps fabrics = mine-stay (is_indexed fabric) (λ (f : Fabric). true) (changed_at index change) stay none fabrics (all-any fabrics)
+changed-mine : (fabric index : ℕ) (change : Fabric → Fabric) → (index == fabric) ≡ false → ((f : Fabric) → (change f).index ≡ f.index) → (fabrics : List Fabric) → filter (has_index fabric) (changed index change fabrics) ≡ filter (has_index fabric) fabrics
+changed-mine fabric index change apart keeps fabrics = mine-stay (has_index fabric) (λ (f : Fabric). true) (changed_at index change) stay none fabrics (all-any fabrics)
   where
-    stay : (f : Fabric) → true ≡ true → is_indexed fabric f ≡ true → changed_at index change f ≡ f
+    stay : (f : Fabric) → true ≡ true → has_index fabric f ≡ true → changed_at index change f ≡ f
     stay f good mine = rw (apart-from f.index index fabric mine apart) refl
 
-    none : (f : Fabric) → true ≡ true → is_indexed fabric f ≡ false → is_indexed fabric (changed_at index change f) ≡ false
+    none : (f : Fabric) → true ≡ true → has_index fabric f ≡ false → has_index fabric (changed_at index change f) ≡ false
     none f good other = elim (cases_Bool (f.index == index)) [
       | inl its ↦ rw its (ap (λ (n : ℕ). n == fabric) (keeps f) ∙ other)
       | inr not_its ↦ rw not_its other
@@ -335,8 +336,8 @@ module _ (fabric index : ℕ) (apart : (index == fabric) ≡ false) where
   left-entries : (entries : List AclEntry) → own_entries fabric (filter (λ (entry : AclEntry). stays (Some index) entry.fabric) entries) ≡ own_entries fabric entries
   left-entries = both-filters (λ (entry : AclEntry). entry.fabric == fabric) (λ (entry : AclEntry). stays (Some index) entry.fabric) (λ entry mine. stays-other (Some index) fabric entry.fabric apart mine)
 
-  left-fabrics : (fabrics : List Fabric) → filter (is_indexed fabric) (removed index fabrics) ≡ filter (is_indexed fabric) fabrics
-  left-fabrics = both-filters (is_indexed fabric) (has_other_index index) (λ f mine. ap not (apart-from f.index index fabric mine apart))
+  left-fabrics : (fabrics : List Fabric) → filter (has_index fabric) (removed index fabrics) ≡ filter (has_index fabric) fabrics
+  left-fabrics = both-filters (has_index fabric) (has_other_index index) (λ f mine. ap not (apart-from f.index index fabric mine apart))
 
   left-stays : (standing : Standing) → is_live_for fabric standing ≡ true → is_live_for index standing ≡ false
   left-stays Waits live = refl

@@ -2,7 +2,7 @@
 use Rattle.std.proofs.Common.{◌≡◌, ℕ, ◌&&◌, nat_le, bytes_eq, true, List, Option, length, filter}
 use Rattle.std.proofs.lemmas.Bool.{and_from, and_parts}
 use Rattle.std.specs.List.{list_all}
-use Rattle.mt_fabrics.specs.Table.{IsTable}
+use Rattle.mt_fabrics.specs.Table.{IsTable, has_index_up_to}
 use Rattle.mt_meta.specs.Places.{all_places}
 use Rattle.mt_model.specs.rows.Order.{are_ascending, fabrics_ascend}
 use Rattle.mt_model.specs.texts.Config.{ascend_from, have_one_identity, have_one_label, is_entry, is_fabric, none_alike}
@@ -13,7 +13,7 @@ use Rattle.mt_model.specs.declared.tables.access.AclEntry.{AclEntry}
 use Rattle.mt_model.specs.declared.tables.fabric.Fabric.{Fabric}
 use Rattle.mt_model.specs.declared.tables.network.Armed.{Armed}
 use Rattle.mt_model.specs.declared.tables.network.Network.{Network}
-use Rattle.mt_machine.specs.State.{IsValid, are_networks, follows, has_entries_up_to, has_index_up_to, has_one_row, have_one_id, is_network, is_owned, is_plain_of, is_row, is_session, is_used, keeps_facts, plain_follows, saves_rightly, stands_once}
+use Rattle.mt_machine.specs.State.{IsValid, are_networks, follows, has_entries_up_to, has_one_row, have_one_id, is_network, is_owned, is_plain_of, is_row, is_session, is_used, keeps_facts, plain_follows, saves_rightly, stands_once}
 
 pub record FabricsHold (fabrics : List Fabric) : Type 0 where
   pub few : nat_le (length fabrics) 16 ≡ true

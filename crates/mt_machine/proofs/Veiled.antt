@@ -1,5 +1,6 @@
 -- What a line sends and leaves on the veil of its fabric, and what stays of other fabrics' own.
 use Rattle.std.proofs.Common.{◌≡◌, ◌≢◌, ℕ, ◌==◌, ◌&&◌, not, Bool, true, false, List, [], Option, Some, None, Result, Ok, Err, refl, sym, ap, ◌∙◌, arith, if◌then◌else◌, is_some, unwrap_or, inl, inr, ◌∷◌, filter}
+use Rattle.mt_fabrics.specs.Table.{has_index}
 use Rattle.mt_im.specs.Reading.{request_in}
 use Rattle.mt_im.specs.declared.fault.ImFault.{ImFault}
 use Rattle.mt_model.specs.rows.Seen.{Observation}
@@ -17,7 +18,7 @@ use Rattle.mt_machine.specs.Lines.{action_of, deadline_for, deadline_of, deadlin
 use Rattle.mt_machine.specs.Given.{Given}
 use Rattle.mt_machine.specs.Leaving.{has_left}
 use Rattle.mt_machine.specs.Touching.{StaysThere}
-use Rattle.mt_machine.specs.State.{IsValid, State, is_among, is_indexed, is_member}
+use Rattle.mt_machine.specs.State.{IsValid, State, is_among, is_member}
 use Rattle.mt_machine.specs.Effects.{after_all}
 use Rattle.mt_machine.specs.Step.{after_action, asked_reply, asked_steps, asker, at_time, case_actor, is_late, pase_actor, refusal, reply_to, steps_to}
 use Rattle.mt_machine.proofs.Deadlines.{deadline-own, kept_by, left_by, own_deadlines, own_twice, room-own}
@@ -32,7 +33,7 @@ use Rattle.mt_model.specs.declared.node.state.NodeState.{NodeState}
 -- The deadlines of a fabric that leaves the table go with it: so its own part says, before and behind.
 
 -- a fabric is in the table where its own part has it
-member_own : (fabric : ℕ) (fs : List Fabric) → is_among fs fabric ≡ is_among (filter (is_indexed fabric) fs) fabric
+member_own : (fabric : ℕ) (fs : List Fabric) → is_among fs fabric ≡ is_among (filter (has_index fabric) fs) fabric
 member_own fabric [] = refl
 member_own fabric (f ∷ fs) = elim (cases_Bool (f.index == fabric)) [
   | inl mine ↦ rw (mine, mine) refl

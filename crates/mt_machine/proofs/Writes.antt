@@ -6,6 +6,7 @@ use Rattle.std.proofs.lemmas.List.Elements.{filter-append}
 use Rattle.std.proofs.lemmas.List.Folds.{list_all-append, list_all-map}
 use Rattle.std.proofs.lemmas.List.Sums.{length-filter, count_by-le-length}
 use Rattle.std.specs.List.{count_by, list_all, list_any}
+use Rattle.mt_fabrics.specs.Table.{has_index}
 use Rattle.mt_tlv.specs.declared.value.Value.{Value}
 use Rattle.mt_meta.specs.Finding.{find_of}
 use Rattle.mt_meta.specs.Forms.{has_form}
@@ -32,7 +33,7 @@ use Rattle.mt_write.specs.Laws.{are_entries_of, is_entry_of, is_sound_row}
 use Rattle.mt_machine.specs.Changes.{change_after, changed_at, count_after, next_change, version_after}
 use Rattle.mt_machine.specs.Effects.{after}
 use Rattle.mt_machine.specs.Taking.{fits, fits_row}
-use Rattle.mt_machine.specs.State.{IsValid, has_entries_up_to, has_one_row, is_among, is_change_up_to, is_indexed, is_owned, is_row, is_row_at, is_row_of, is_unscoped, stands_once}
+use Rattle.mt_machine.specs.State.{IsValid, has_entries_up_to, has_one_row, is_among, is_change_up_to, is_owned, is_row, is_row_at, is_row_of, is_unscoped, stands_once}
 
 -- Lists.
 
@@ -350,7 +351,7 @@ module _ (s : NodeState) (valid : IsValid s) (fabric : ℕ) (new : List AclEntry
     has_owner : (entry : AclEntry) → is_entry_of fabric entry ≡ true → is_owned s.fabrics entry ≡ true
     has_owner entry is =
         let its : entry.fabric ≡ fabric = eqb-true entry.fabric fabric (and_parts _ _ is).1 in
-        any-weaker (is_indexed fabric) (λ (f : Fabric). is_of f entry) (λ f at. eq-eqb entry.fabric f.index (its ∙ sym (eqb-true f.index fabric at))) s.fabrics among
+        any-weaker (has_index fabric) (λ (f : Fabric). is_of f entry) (λ f at. eq-eqb entry.fabric f.index (its ∙ sym (eqb-true f.index fabric at))) s.fabrics among
 
     entries_count : (f : Fabric) → count (is_of f) (with_entries fabric new s.entries)
         ≡ count (is_of f) (filter (is_entry_below fabric) s.entries) + (count (is_of f) new + count (is_of f) (filter (is_entry_above fabric) s.entries))

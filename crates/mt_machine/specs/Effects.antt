@@ -2,12 +2,14 @@
 use Rattle.std.specs.Prelude.{ℕ, ◌==◌, ◌&&◌, nat_le, not, Bool, true, false, List, [], ◌∷◌, ◌++◌, Option, Some, None, is_none, bytes_eq, drop, filter, length, map, take, if◌then◌else◌}
 use Rattle.std.specs.List.{list_all, list_any}
 use Rattle.std.specs.Option.{option_map}
+use Rattle.mt_commission.specs.NetworkCommissioning.{has_id}
 use Rattle.mt_fabrics.specs.Table.{add_refusal, added, credentials_at, is_used, label_refusal, labelled, least_unused, removed, update_refusal, updated}
-use Rattle.mt_failsafe.specs.Calls.{armed_by, is_armed_by, renewed}
+use Rattle.mt_failsafe.specs.Calls.{armed_by, is_armed_by, is_context, renewed}
 use Rattle.mt_failsafe.specs.Notes as notes
 use Rattle.mt_model.specs.rows.Setting.{is_entry_of, with_entries, with_rows}
 use Rattle.mt_model.specs.rows.Stored.{is_stored_place}
 use Rattle.mt_model.specs.texts.Config.{are_credentials, has_identity, has_up_to, is_fabric, is_label}
+use Rattle.mt_model.specs.texts.Config as config
 use Rattle.mt_model.specs.declared.tables.access.AclEntry.{AclEntry}
 use Rattle.mt_model.specs.declared.tables.access.Actor.{Actor}
 use Rattle.mt_model.specs.declared.tables.access.Auth.{Auth}
@@ -28,9 +30,6 @@ use Rattle.mt_machine.specs.Rollback.{rollback, roots_behind, stays}
 use Rattle.mt_machine.specs.State as states
 
 -- Networks.
-
-abbrev pub has_id : List ℕ → Network → Bool
-has_id id network = bytes_eq network.id id
 
 abbrev pub with_secret : List ℕ → List ℕ → Network → Network
 with_secret id secret network = if has_id id network then record network { secret = secret } else network
@@ -97,13 +96,9 @@ with_request nonce update s = if notes.may_note_csr update s.armed then record s
 
 -- A fabric that joins the table.
 
-abbrev pub is_over_pase : Auth → Bool
-is_over_pase Pase = true
-is_over_pase auth = false
-
 abbrev pub is_pase : Option Actor → Bool
 is_pase None = false
-is_pase (Some asker) = is_over_pase asker.auth
+is_pase (Some asker) = config.is_pase asker.auth
 
 -- whether it was asked on this session
 abbrev pub is_on : Option Actor → NodeSession → Bool
@@ -163,10 +158,6 @@ updated_in index given s = if may_update index given s then record s {
 -- A fabric that leaves the table, with all that is its own: its rows, its entries, its sessions. Its root goes unless another fabric
 -- or commissioning uses it. That for which commissioning goes on leaves by an expiry alone.
 
-abbrev pub is_context : ℕ → Option Armed → Bool
-is_context index None = false
-is_context index (Some armed) = armed.context == index
-
 abbrev pub may_leave : ℕ → NodeState → Bool
 may_leave index s = is_used index s.fabrics && not (is_context index s.armed)
 
@@ -211,6 +202,16 @@ after asker (Emit place priority fabric value) s = s  -- events are not recorded
 abbrev pub after_all : Option Actor → List NodeStep → NodeState → NodeState
 after_all asker [] s = s
 after_all asker (step ∷ steps) s = after_all asker steps (after asker step s)
+
+-- What steps tell of: events, which change nothing that is kept.
+
+abbrev pub is_event : NodeStep → Bool
+is_event (Emit place priority fabric value) = true
+is_event step = false
+
+-- the events among steps, in their order
+abbrev pub events_in : List NodeStep → List NodeStep
+events_in steps = filter is_event steps
 
 -- a step that sets rows of a stored place, or entries of the fabric that it names, or tells of an event
 abbrev pub is_setting_step : NodeStep → Bool

@@ -2,6 +2,7 @@
 use Rattle.std.specs.Prelude.{ℕ, ◌==◌, ◌&&◌, not, Bool, false, List, [], ◌++◌, Option, Some, None, filter, map, unwrap_or, if◌then◌else◌}
 use Rattle.std.specs.List.{find}
 use Rattle.std.specs.Option.{option_map}
+use Rattle.mt_fabrics.specs.Table.{has_index}
 use Rattle.mt_model.specs.rows.Seen.{own_entries}
 use Rattle.mt_model.specs.rows.Sight.{seen_by}
 use Rattle.mt_model.specs.tables.Known.{bare_armed, bare_network}
@@ -20,7 +21,7 @@ use Rattle.mt_model.specs.declared.node.state.NodeState.{NodeState}
 use Rattle.mt_model.specs.declared.node.state.Standing.{Standing}
 use Rattle.mt_model.specs.declared.node.state.Standing.TheVariants.{Waits, Live, Ended}
 use Rattle.mt_model.specs.declared.node.state.Version.{Version}
-use Rattle.mt_machine.specs.State.{State, is_indexed}
+use Rattle.mt_machine.specs.State.{State}
 
 -- A fabric's own part.
 
@@ -56,7 +57,7 @@ abbrev pub own : ℕ → NodeState → Own
 own fabric s = record {
   rows = filter (owns fabric) s.rows;
   entries = own_entries fabric s.entries;
-  fabrics = filter (is_indexed fabric) s.fabrics;
+  fabrics = filter (has_index fabric) s.fabrics;
   saved = saved_for fabric s.armed;
   sessions = filter (λ (session : NodeSession). is_live_for fabric session.standing) s.sessions;
   is_plain = has_fabric fabric s.plain;
@@ -131,7 +132,7 @@ bare_fabric d = record {
 
 -- a fabric with all that is its own, where it is among these
 abbrev pub own_or_bare : List Fabric → Descriptor → Fabric
-own_or_bare mine d = unwrap_or (find (is_indexed d.index) mine) (bare_fabric d)
+own_or_bare mine d = unwrap_or (find (has_index d.index) mine) (bare_fabric d)
 
 -- the fail-safe with the fabric's own saved credentials; those of others are empty
 abbrev pub with_saved : Option Credentials → Armed → Armed

@@ -1,6 +1,7 @@
 -- Laws of the written machine.
 use Rattle.std.specs.Prelude.{◌≡◌, ◌≢◌, ℕ, List, [], ◌∷◌, None, Option, Some, false, true, if◌then◌else◌}
 use Rattle.std.specs.List.{list_all}
+use Rattle.mt_failsafe.specs.Notes.{was_added, was_updated}
 use Rattle.mt_model.specs.texts.Config.{are_entries, are_fabrics}
 use Rattle.mt_model.specs.rows.Seen.{seen_as}
 use Rattle.mt_model.specs.declared.tables.access.AclEntry.{AclEntry}
@@ -30,7 +31,7 @@ use Rattle.mt_machine.specs.Observation.{observation}
 use Rattle.mt_machine.specs.Opened.{opened_with}
 use Rattle.mt_machine.specs.Rollback.{added_in, deadlines_left, is_due, rollback}
 use Rattle.mt_model.specs.declared.node.action.Action.TheVariants.{Expire}
-use Rattle.mt_machine.specs.State.{IsValid, State, rows_of, was_added, was_updated}
+use Rattle.mt_machine.specs.State.{IsValid, State, rows_of}
 use Rattle.mt_opcreds.specs.Laws.{KeepsRules}
 use Rattle.mt_machine.specs.Step.{after_action, after_steps, aside_between, aside_of, asker_of, at_time, gone_between, steps_of}
 

@@ -1,12 +1,16 @@
 -- The state of the node and of the whole around it, and what holds of every state.
 use Rattle.std.specs.Prelude.{◌≡◌, ℕ, ◌-◌, ◌^◌, ◌==◌, ◌&&◌, ◌||◌, not, nat_le, Bool, true, false, List, Option, Some, None, Result, Ok, Err, bytes_eq, count_by, filter, length, if◌then◌else◌}
 use Rattle.std.specs.List.{list_all, list_any}
+use Rattle.mt_fabrics.specs.Table.{has_index_up_to}
+use Rattle.mt_fabrics.specs.Table as table
+use Rattle.mt_failsafe.specs.Facts.{is_saved}
+use Rattle.mt_failsafe.specs.Notes.{was_added}
 use Rattle.mt_meta.specs.Finding.{find_of}
 use Rattle.mt_meta.specs.Forms.{has_form}
 use Rattle.mt_meta.specs.Places.{all_places}
 use Rattle.mt_meta.specs.Stored.{is_stored}
 use Rattle.mt_meta.specs.declared.meta.Meta.{Meta}
-use Rattle.mt_model.specs.texts.Config.{are_credentials, ascend_from, has_identity, has_up_to, have_one_identity, have_one_label, is_entry, is_fabric, is_of, none_alike}
+use Rattle.mt_model.specs.texts.Config.{ascend_from, has_identity, has_up_to, have_one_identity, have_one_label, is_entry, is_fabric, is_of, none_alike}
 use Rattle.mt_model.specs.rows.Order.{are_ascending, fabrics_ascend}
 use Rattle.mt_model.specs.rows.Sight.{stands_at}
 use Rattle.mt_model.specs.declared.tables.access.AclEntry.{AclEntry}
@@ -25,6 +29,7 @@ use Rattle.mt_model.specs.declared.node.state.NodeState.{NodeState}
 use Rattle.mt_model.specs.declared.node.state.Standing.{Standing}
 use Rattle.mt_model.specs.declared.node.state.Standing.TheVariants.{Waits, Live, Ended}
 use Rattle.mt_model.specs.declared.messages.status.Status.{Status}
+use Rattle.mt_opcreds.specs.Laws.{are_credentials_if}
 use Rattle.mt_apps.specs.Computed.{computed_rows}
 use Rattle.mt_apps.specs.Parts.{Parts}
 
@@ -43,19 +48,13 @@ rows_of s place = if is_stored place then filter (stands_at place) s.rows else c
 
 -- Fabrics of the table.
 
-abbrev pub is_indexed : ℕ → Fabric → Bool
-is_indexed index fabric = fabric.index == index
-
 abbrev pub is_among : List Fabric → ℕ → Bool
-is_among fabrics index = list_any (is_indexed index) fabrics
+is_among fabrics index = table.is_used index fabrics
 
 abbrev pub is_member : ℕ → NodeState → Bool
 is_member fabric s = is_among s.fabrics fabric
 
 -- What holds of a state's parts.
-
-abbrev pub has_index_up_to : ℕ → Fabric → Bool
-has_index_up_to most fabric = nat_le fabric.index most
 
 -- an entry is of a fabric of the table
 abbrev pub is_owned : List Fabric → AclEntry → Bool
@@ -141,10 +140,6 @@ abbrev pub saves_identity : List Fabric → ℕ → Option Credentials → Bool
 saves_identity fabrics fabric None = false
 saves_identity fabrics fabric (Some saved) = list_any (λ (f : Fabric). f.index == fabric && has_identity saved.root_key saved.fabric_id f) fabrics
 
-abbrev pub is_saved : Option Credentials → Bool
-is_saved None = false
-is_saved (Some saved) = true
-
 abbrev pub is_updated : List Fabric → Armed → Option ℕ → Option ℕ → Bool
 is_updated fabrics armed added None = not (is_saved armed.saved_credentials)
 is_updated fabrics armed None (Some fabric) = armed.owner == fabric && (armed.context == fabric && saves_identity fabrics fabric armed.saved_credentials)
@@ -159,27 +154,11 @@ keeps_facts fabrics (Some armed) = is_added fabrics armed armed.added && is_upda
 abbrev pub are_networks : List Network → Bool
 are_networks networks = nat_le (length networks) 4 && (list_all is_network networks && none_alike have_one_id networks)
 
-abbrev pub are_kept : Option Credentials → Bool
-are_kept None = true
-are_kept (Some saved) = are_credentials saved
-
 abbrev pub saves_rightly : Option Armed → Bool
 saves_rightly None = true
-saves_rightly (Some armed) = are_networks armed.saved_networks && are_kept armed.saved_credentials
+saves_rightly (Some armed) = are_networks armed.saved_networks && are_credentials_if armed.saved_credentials
 
 -- A live session of PASE has no fabric, or the one that was added under the fail-safe.
-
-abbrev pub is_that : ℕ → Option ℕ → Bool
-is_that fabric None = false
-is_that fabric (Some other) = other == fabric
-
-abbrev pub was_added : ℕ → Option Armed → Bool
-was_added fabric None = false
-was_added fabric (Some armed) = is_that fabric armed.added
-
-abbrev pub was_updated : ℕ → Option Armed → Bool
-was_updated fabric None = false
-was_updated fabric (Some armed) = is_that fabric armed.updated
 
 abbrev pub follows : Option Armed → Auth → Standing → Bool
 follows armed Pase (Live fabric) = fabric == 0 || was_added fabric armed

@@ -1,11 +1,12 @@
 -- Which steps of commissioning may change what is a fabric's own, which a fabric makes, and which fabrics stay where they are.
 use Rattle.std.specs.Prelude.{◌≡◌, ℕ, ◌==◌, ◌&&◌, ◌||◌, not, is_some, Bool, true, false}
+use Rattle.mt_failsafe.specs.Notes.{was_added, was_updated}
+use Rattle.mt_failsafe.specs.Calls.{is_context}
 use Rattle.mt_fabrics.specs.Table.{least_unused}
 use Rattle.mt_model.specs.declared.node.action.NodeStep.{NodeStep}
 use Rattle.mt_model.specs.declared.node.action.NodeStep.TheVariants.{SetRow, SetEntries, Expire, Complete, AddFabric, UpdateFabric, RemoveFabric, Label}
 use Rattle.mt_model.specs.declared.node.state.NodeState.{NodeState}
-use Rattle.mt_machine.specs.Effects.{is_context}
-use Rattle.mt_machine.specs.State.{is_member, was_added, was_updated}
+use Rattle.mt_machine.specs.State.{is_member}
 
 -- Rows and entries that are set are those of the fabric that the step names. An expiry ends what is of nobody, which is PASE, and takes back what
 -- was done for the fabric that was added or updated; completing ends PASE that has the fabric for which commissioning went on. A fabric that

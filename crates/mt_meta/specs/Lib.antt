@@ -2,6 +2,7 @@ pub mod clusters
 pub mod Fields
 pub mod Finding
 pub mod Forms
+pub mod Given
 pub mod Places
 pub mod Rows
 pub mod Stored

@@ -31,6 +31,10 @@ fits (Some wanted) number = wanted == number
 abbrev pub is_named : Path → Place → Bool
 is_named path place = fits path.endpoint place.endpoint && (fits path.cluster place.cluster && fits path.leaf place.leaf)
 
+-- one of the paths names the place
+abbrev pub is_named_by : List Path → Place → Bool
+is_named_by paths place = list_any (λ path. is_named path place) paths
+
 -- the places that a path names
 abbrev pub places : Path → List Place
 places path = filter (is_named path) all_places

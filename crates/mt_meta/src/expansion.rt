@@ -3,7 +3,7 @@
 ghost use Rattle.std.specs.Prelude.{◌≡◌, ◌↔◌, ◌==◌, ◌++◌, ◌&&◌, All, IfOk, IsOk, IsTrue, OnOk, filter, map};
 ghost use Rattle.std.specs.List.{flat_map, list_any};
 ghost use Rattle.mt_meta.specs.Finding.{find_of};
-ghost use Rattle.mt_meta.specs.Places.{all_places, fits, is_global, is_named, is_not_global, place_of, places, places_of_cluster, places_of_endpoint};
+ghost use Rattle.mt_meta.specs.Places.{all_places, fits, is_global, is_named, is_named_by, is_not_global, place_of, places, places_of_cluster, places_of_endpoint};
 
 use crate::rows::AttributeRow;
 use crate::table::{attributes_of, clusters_of, endpoints, extensions_of, globals};
@@ -121,6 +121,13 @@ fn push_attributes(
         }
     }
     Ok(())
+}
+
+/// Whether one of the paths names the place.
+pub fn is_named_by(paths: &[Path], place: &Place) -> bool
+    ensures { result ≡ is_named_by paths.now place.now }
+{
+    paths.iter().any(|path| is_named(path, place))
 }
 
 // Whether the place has each field that the path has.

@@ -6,6 +6,7 @@
 //! - `clusters`: the clusters, a module each, with their numbers and rows;
 //! - `table`: the table, which looks up the rows by cluster;
 //! - `fields`, `targets`: the forms of what is given;
+//! - `given`: what stands in the fields of a command;
 //! - `finding`: what the table says of a place;
 //! - `first`: the rows of a new node;
 //! - `expansion`: the places that a path names;
@@ -17,16 +18,18 @@ mod expansion;
 mod fields;
 mod finding;
 mod first;
+mod given;
 mod laws;
 mod meta;
 mod rows;
 mod table;
 mod targets;
 
-pub use expansion::{ExpandFault, all_places, expand, is_global, is_not_global};
+pub use expansion::{ExpandFault, all_places, expand, is_global, is_named_by, is_not_global};
 pub use fields::{are_items, are_within, has_fields, has_type, is_item, is_within};
 pub use finding::{Asked, find, find_command, find_event, is_stored, privilege_asked, takes};
 pub use first::first_rows;
+pub use given::{flag_of, given_number, number_of, octets_of, text_of};
 pub use laws::{
     endpoints_have_devices, places_are_found, places_ascend, sensitive_fields_are_those_of_sight,
     stored_places_are_those_of_the_model, stored_places_begin, writable_attributes_take_something,

@@ -8,7 +8,7 @@ use Rattle.mt_meta.specs.Rows.{any_text, needed}
 use Rattle.mt_meta.specs.declared.rows.Field.{Field}
 use Rattle.mt_meta.specs.declared.rows.Form.TheVariants as forms
 use Rattle.mt_model.specs.Trees.{field_in}
-use Rattle.mt_opcreds.specs.Fields.{octets_of, text_of}
+use Rattle.mt_meta.specs.Given.{octets_in, text_in}
 
 -- one of the fields, in a structure that has them all
 
@@ -23,13 +23,13 @@ formed rows es form = and_parts (have_types rows es) (are_within rows es) form
 
 -- octets that must be there have the lengths of their form
 pub octets_fit : (number least most : ℕ) (field : Option Tree) → field_has_type (needed number (forms.Octets least most)) field ≡ true → field_is_within (needed number (forms.Octets least most)) field ≡ true
-    → (nat_le least (length (octets_of field)) && nat_le (length (octets_of field)) most) ≡ true
+    → (nat_le least (length (octets_in field)) && nat_le (length (octets_in field)) most) ≡ true
 octets_fit number least most None type limit = absurd (false≢true type)
 octets_fit number least most (Some (octets s)) type limit = limit
 octets_fit number least most (Some tree) type limit = absurd (false≢true type)
 
 -- a text that must be there is UTF-8
-pub text_is : (number : ℕ) (field : Option Tree) → field_has_type (needed number any_text) field ≡ true → is_utf8 (text_of field) ≡ true
+pub text_is : (number : ℕ) (field : Option Tree) → field_has_type (needed number any_text) field ≡ true → is_utf8 (text_in field) ≡ true
 text_is number None type = absurd (false≢true type)
 text_is number (Some (text s)) type = type
 text_is number (Some tree) type = absurd (false≢true type)

@@ -1,13 +1,15 @@
 -- The steps of each command are of one of the forms.
-use Rattle.std.proofs.Common.{◌≡◌, ℕ, ◌==◌, ◌&&◌, ◌||◌, nat_le, not, Bool, true, false, List, [], ◌∷◌, length, Option, Some, None, is_some, refl, arith, if◌then◌else◌}
+use Rattle.std.proofs.Common.{◌≡◌, ℕ, ◌==◌, ◌&&◌, nat_le, not, Bool, true, false, List, [], ◌∷◌, length, Option, Some, None, Result, Ok, Err, is_some, refl, arith, if◌then◌else◌}
 use Rattle.std.proofs.lemmas.Bool.{and_from}
 use Rattle.std.specs.List.{list_any}
 use Rattle.mt_tlv.specs.declared.value.Value.{Value}
 use Rattle.mt_fabrics.specs.Table.{credentials_at, has_others_label, is_used, least_unused}
-use Rattle.mt_failsafe.specs.Notes.{is_for_update, is_unused}
+use Rattle.mt_failsafe.specs.Calls.{is_context}
+use Rattle.mt_failsafe.specs.Notes.{is_for_update, was_added}
 use Rattle.mt_model.specs.messages.Effects.{refused_at}
 use Rattle.mt_model.specs.tables.Known.{Known}
 use Rattle.mt_model.specs.texts.Config.{is_pase}
+use Rattle.mt_model.specs.declared.messages.status.Status.{Status}
 use Rattle.mt_model.specs.declared.messages.status.Status.TheVariants.{ConstraintError, InvalidCommand, UnsupportedCommand}
 use Rattle.mt_model.specs.declared.node.action.Effect.{Effect}
 use Rattle.mt_model.specs.declared.node.action.NodeStep.TheVariants.{Expire, Label}
@@ -27,7 +29,7 @@ use Rattle.mt_opcreds.specs.Fields.{icac_in, noc_in}
 use Rattle.mt_opcreds.specs.Judged.{Judged, chain_verdict, csr_verdict, root_verdict}
 use Rattle.mt_opcreds.specs.Moves.{IsMove, StepsAreMoves, expires, expires_and_leaves, joins, leaves, names, nothing, renews, requests, trusts}
 use Rattle.mt_opcreds.specs.Owner.{owned_by}
-use Rattle.mt_opcreds.specs.RemoveFabric.{index_in, is_context, leaving, removal_steps, remove_effect, removed, was_added}
+use Rattle.mt_opcreds.specs.RemoveFabric.{index_in, leaving, removal_steps, remove_effect, removed}
 use Rattle.mt_opcreds.specs.Responses.{noc_done, noc_refused}
 use Rattle.mt_opcreds.specs.UpdateFabricLabel.{label_in, labelled, update_label_effect}
 use Rattle.mt_opcreds.specs.UpdateNoc.{renewed, update_if, update_judged, update_noc_effect, update_of, update_refusal, update_under, update_with}
@@ -45,12 +47,11 @@ module _ (judged : Judged) (known : Known) (actor : Actor) (command : Place) (fi
   csr_answered_moves None = nothing refl
   csr_answered_moves (Some row) = requests (nonce_in fields) (is_update_in fields) refl
 
-  csr_moves : (armed : Option Armed) → Moves (csr_under judged actor command fields armed)
-  csr_moves None = nothing refl
-  csr_moves (Some armed) =
-      either Moves (not (is_unused armed)) (refused_at command ConstraintError) _ (λ _. nothing refl) (λ _.
+  csr_moves : (armed : Result Armed Status) → Moves (csr_under judged actor command fields armed)
+  csr_moves (Err status) = nothing refl
+  csr_moves (Ok armed) =
       either Moves (is_update_in fields && is_pase actor.auth) (refused_at command InvalidCommand) _ (λ _. nothing refl) (λ _.
-      csr_answered_moves (csr_verdict judged (nonce_in fields))))
+      csr_answered_moves (csr_verdict judged (nonce_in fields)))
 
   add_if_moves : (index : ℕ) (given : Credentials) (refusal : Option CertificateFault) → Moves (add_if index command fields given refusal)
   add_if_moves index given (Some fault) = nothing refl
@@ -68,10 +69,10 @@ module _ (judged : Judged) (known : Known) (actor : Actor) (command : Place) (fi
   add_with_moves fabrics (Some csr) None = nothing refl
   add_with_moves fabrics (Some csr) (Some root) = add_judged_moves fabrics csr.0 root (root_verdict judged root) (chain_verdict judged root (noc_in fields) (icac_in fields))
 
-  add_moves : (armed : Option Armed) → Moves (add_under judged known.fabrics command fields armed)
-  add_moves None = nothing refl
-  add_moves (Some armed) =
-      either Moves (not (is_unused armed) || is_for_update armed.csr) (refused_at command ConstraintError) _ (λ _. nothing refl) (λ _.
+  add_moves : (armed : Result Armed Status) → Moves (add_under judged known.fabrics command fields armed)
+  add_moves (Err status) = nothing refl
+  add_moves (Ok armed) =
+      either Moves (is_for_update armed.csr) (refused_at command ConstraintError) _ (λ _. nothing refl) (λ _.
       add_with_moves known.fabrics armed.csr armed.root)
 
   update_if_moves : (given : Credentials) (refusal : Option CertificateFault) → Moves (update_if actor.fabric command given refusal)
@@ -92,20 +93,20 @@ module _ (judged : Judged) (known : Known) (actor : Actor) (command : Place) (fi
       either Moves (not csr.1) (refused_at command ConstraintError) _ (λ _. nothing refl) (λ _.
       update_of_moves csr.0 (credentials_at actor.fabric known.fabrics))
 
-  update_moves : (armed : Option Armed) → Moves (update_under judged known actor.fabric command fields armed)
-  update_moves None = nothing refl
-  update_moves (Some armed) =
-      either Moves (not (is_unused armed) || is_some armed.root) (refused_at command ConstraintError) _ (λ _. nothing refl) (λ _.
+  update_moves : (armed : Result Armed Status) → Moves (update_under judged known actor.fabric command fields armed)
+  update_moves (Err status) = nothing refl
+  update_moves (Ok armed) =
+      either Moves (is_some armed.root) (refused_at command ConstraintError) _ (λ _. nothing refl) (λ _.
       update_with_moves armed.csr)
 
   root_answered_moves : (cert : List ℕ) (row : Option RootRow) → Moves (root_answered command cert row)
   root_answered_moves cert None = nothing refl
   root_answered_moves cert (Some row) = trusts cert refl
 
-  root_moves : (armed : Option Armed) → Moves (root_under judged command fields armed)
-  root_moves None = nothing refl
-  root_moves (Some armed) =
-      either Moves (not (is_unused armed) || is_some armed.root) (refused_at command ConstraintError) _ (λ _. nothing refl) (λ _.
+  root_moves : (armed : Result Armed Status) → Moves (root_under judged command fields armed)
+  root_moves (Err status) = nothing refl
+  root_moves (Ok armed) =
+      either Moves (is_some armed.root) (refused_at command ConstraintError) _ (λ _. nothing refl) (λ _.
       root_answered_moves (cert_in fields) (root_verdict judged (cert_in fields)))
 
   label_moves : (label : List ℕ) → Moves (labelled known actor.fabric command label)

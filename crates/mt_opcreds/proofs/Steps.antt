@@ -1,5 +1,5 @@
 -- The steps of each command are well formed.
-use Rattle.std.proofs.Common.{◌≡◌, ℕ, ◌≤◌, ◌==◌, ◌&&◌, ◌||◌, nat_le, not, Bool, true, false, List, [], ◌∷◌, length, bytes_eq, Option, Some, None, is_some, refl, subst, if◌then◌else◌, eq-eqb, eqb-true, leb-true, arith}
+use Rattle.std.proofs.Common.{◌≡◌, ℕ, ◌≤◌, ◌==◌, ◌&&◌, nat_le, not, Bool, true, false, List, [], ◌∷◌, length, bytes_eq, Option, Some, None, Result, Ok, Err, is_some, refl, subst, if◌then◌else◌, eq-eqb, eqb-true, leb-true, arith}
 use Rattle.std.proofs.lemmas.Bool.{and_parts, false≢true}
 use Rattle.std.specs.List.{list_all, list_any}
 use Rattle.std.specs.Str.{chars, is_utf8}
@@ -7,7 +7,8 @@ use Rattle.mt_tlv.specs.View.{tree}
 use Rattle.mt_tlv.specs.declared.value.Value.{Value}
 use Rattle.mt_tlv.specs.declared.value.Value.TheVariants as values
 use Rattle.mt_fabrics.specs.Table.{credentials_at, has_others_label, is_used, least_unused}
-use Rattle.mt_failsafe.specs.Notes.{is_for_update, is_unused}
+use Rattle.mt_failsafe.specs.Calls.{is_context}
+use Rattle.mt_failsafe.specs.Notes.{is_for_update, was_added}
 use Rattle.mt_meta.specs.Fields.{has_fields}
 use Rattle.mt_meta.specs.Rows.{any_number, any_octets, any_text, needed, optional}
 use Rattle.mt_meta.specs.clusters.OperationalCredentials.{add_noc_fields, command_fields, csr_request_fields}
@@ -16,6 +17,7 @@ use Rattle.mt_model.specs.Trees.{field_in}
 use Rattle.mt_model.specs.messages.Effects.{refused_at}
 use Rattle.mt_model.specs.tables.Known.{Known}
 use Rattle.mt_model.specs.texts.Config.{are_credentials, is_certificate, is_entry, is_intermediate, is_operational, is_pase, may_be_subject}
+use Rattle.mt_model.specs.declared.messages.status.Status.{Status}
 use Rattle.mt_model.specs.declared.messages.status.Status.TheVariants.{ConstraintError, InvalidCommand, UnsupportedCommand}
 use Rattle.mt_model.specs.declared.node.action.Effect.{Effect}
 use Rattle.mt_model.specs.declared.node.action.NodeStep.TheVariants.{Expire, Label}
@@ -38,7 +40,7 @@ use Rattle.mt_opcreds.specs.Fields.{icac_in, noc_in}
 use Rattle.mt_opcreds.specs.Judged.{Judged, chain_verdict, csr_verdict, root_verdict}
 use Rattle.mt_opcreds.specs.Laws.{KeepsRules, StepsAreWellFormed, are_credentials_if, is_well_formed}
 use Rattle.mt_opcreds.specs.Owner.{owned_by}
-use Rattle.mt_opcreds.specs.RemoveFabric.{index_in, is_context, leaving, removal_steps, remove_effect, removed, was_added}
+use Rattle.mt_opcreds.specs.RemoveFabric.{index_in, leaving, removal_steps, remove_effect, removed}
 use Rattle.mt_opcreds.specs.Responses.{noc_done, noc_refused}
 use Rattle.mt_opcreds.specs.UpdateFabricLabel.{label_in, labelled, update_label_effect}
 use Rattle.mt_opcreds.specs.UpdateNoc.{renewed, update_if, update_judged, update_noc_effect, update_of, update_refusal, update_under, update_with}
@@ -73,12 +75,11 @@ csr_answered-fits : (command : Place) (fields : Value) (row : Option CsrRow) →
 csr_answered-fits command fields None nonce = refl
 csr_answered-fits command fields (Some row) nonce = λ i. nonce i && true
 
-csr_fits : (judged : Judged) (actor : Actor) (command : Place) (fields : Value) (armed : Option Armed) → (length (nonce_in fields) == 32) ≡ true → Fits (csr_under judged actor command fields armed)
-csr_fits judged actor command fields None nonce = refl
-csr_fits judged actor command fields (Some armed) nonce =
-    either Fits (not (is_unused armed)) (refused_at command ConstraintError) _ (λ _. refl) (λ _.
+csr_fits : (judged : Judged) (actor : Actor) (command : Place) (fields : Value) (armed : Result Armed Status) → (length (nonce_in fields) == 32) ≡ true → Fits (csr_under judged actor command fields armed)
+csr_fits judged actor command fields (Err status) nonce = refl
+csr_fits judged actor command fields (Ok armed) nonce =
     either Fits (is_update_in fields && is_pase actor.auth) (refused_at command InvalidCommand) _ (λ _. refl) (λ _.
-    csr_answered-fits command fields (csr_verdict judged (nonce_in fields)) nonce))
+    csr_answered-fits command fields (csr_verdict judged (nonce_in fields)) nonce)
 
 -- AddNOC
 
@@ -129,10 +130,10 @@ module _ (judged : Judged) (keeps : KeepsRules judged) (command : Place) (fields
   add_with-fits fabrics (Some csr) None ipk = refl
   add_with-fits fabrics (Some csr) (Some root) ipk = add_judged-fits fabrics csr.0 root _ _ refl refl ipk
 
-  add_fits : (fabrics : List Fabric) (armed : Option Armed) → (length (ipk_in fields) == 16) ≡ true → Fits (add_under judged fabrics command fields armed)
-  add_fits fabrics None ipk = refl
-  add_fits fabrics (Some armed) ipk =
-      either Fits (not (is_unused armed) || is_for_update armed.csr) (refused_at command ConstraintError) _ (λ _. refl) (λ _.
+  add_fits : (fabrics : List Fabric) (armed : Result Armed Status) → (length (ipk_in fields) == 16) ≡ true → Fits (add_under judged fabrics command fields armed)
+  add_fits fabrics (Err status) ipk = refl
+  add_fits fabrics (Ok armed) ipk =
+      either Fits (is_for_update armed.csr) (refused_at command ConstraintError) _ (λ _. refl) (λ _.
       add_with-fits fabrics armed.csr armed.root ipk)
 
   -- UpdateNOC
@@ -169,10 +170,10 @@ module _ (judged : Judged) (keeps : KeepsRules judged) (command : Place) (fields
       either Fits (not csr.1) (refused_at command ConstraintError) _ (λ _. refl) (λ _.
       update_of-fits index csr.0 (credentials_at index known.fabrics) rules)
 
-  update_fits : (known : Known) (index : ℕ) (armed : Option Armed) → are_credentials_if (credentials_at index known.fabrics) ≡ true → Fits (update_under judged known index command fields armed)
-  update_fits known index None rules = refl
-  update_fits known index (Some armed) rules =
-      either Fits (not (is_unused armed) || is_some armed.root) (refused_at command ConstraintError) _ (λ _. refl) (λ _.
+  update_fits : (known : Known) (index : ℕ) (armed : Result Armed Status) → are_credentials_if (credentials_at index known.fabrics) ≡ true → Fits (update_under judged known index command fields armed)
+  update_fits known index (Err status) rules = refl
+  update_fits known index (Ok armed) rules =
+      either Fits (is_some armed.root) (refused_at command ConstraintError) _ (λ _. refl) (λ _.
       update_with-fits known index armed.csr rules)
 
   -- AddTrustedRootCertificate
@@ -181,10 +182,10 @@ module _ (judged : Judged) (keeps : KeepsRules judged) (command : Place) (fields
   root_answered-fits cert None is = refl
   root_answered-fits cert (Some row) is = λ i. (root_judged judged keeps cert row is).0 i && true
 
-  root_fits : (armed : Option Armed) → Fits (root_under judged command fields armed)
-  root_fits None = refl
-  root_fits (Some armed) =
-      either Fits (not (is_unused armed) || is_some armed.root) (refused_at command ConstraintError) _ (λ _. refl) (λ _.
+  root_fits : (armed : Result Armed Status) → Fits (root_under judged command fields armed)
+  root_fits (Err status) = refl
+  root_fits (Ok armed) =
+      either Fits (is_some armed.root) (refused_at command ConstraintError) _ (λ _. refl) (λ _.
       root_answered-fits (cert_in fields) _ refl)
 
 -- UpdateFabricLabel

@@ -1,6 +1,6 @@
 -- The node may take the steps of each command as it stands.
-use Rattle.std.proofs.Common.{◌≡◌, ℕ, ◌==◌, ◌&&◌, ◌||◌, nat_le, not, Bool, true, false, List, [], ◌∷◌, length, bytes_eq, Option, Some, None, is_none, is_some, refl, sym, ap, subst, ◌∙◌, if◌then◌else◌, eq-eqb, eqb-true}
-use Rattle.std.proofs.lemmas.Bool.{cond-false, cond-true, or_parts, true≢false}
+use Rattle.std.proofs.Common.{◌≡◌, ℕ, ◌==◌, ◌&&◌, ◌||◌, nat_le, not, Bool, true, false, List, [], ◌∷◌, length, bytes_eq, Option, Some, None, Result, Ok, Err, is_none, is_some, refl, sym, ap, subst, ◌∙◌, if◌then◌else◌, eq-eqb, eqb-true}
+use Rattle.std.proofs.lemmas.Bool.{cond-false, true≢false}
 use Rattle.std.proofs.lemmas.Slice.Eq.{bytes_eq-Decides}
 use Rattle.std.specs.List.{find, list_all, list_any}
 use Rattle.std.specs.Option.{option_map}
@@ -8,12 +8,13 @@ use Rattle.mt_tlv.specs.declared.value.Value.{Value}
 use Rattle.mt_fabrics.specs.Table.{credentials_at, has_index, has_label, has_others_label, is_used, least_unused}
 use Rattle.mt_fabrics.specs.Table as table
 use Rattle.mt_fabrics.specs.declared.fault.FabricFault.TheVariants as conflicts
-use Rattle.mt_failsafe.specs.Notes.{is_for_new, is_for_update, is_unused, may_note_added, may_note_csr, may_note_root, may_note_updated}
-use Rattle.mt_failsafe.specs.Calls.{is_armed_by}
+use Rattle.mt_failsafe.specs.Notes.{is_for_new, is_for_update, is_unused, may_note_added, may_note_csr, may_note_root, may_note_updated, was_added}
+use Rattle.mt_failsafe.specs.Calls.{is_armed_by, is_context}
 use Rattle.mt_model.specs.messages.Effects.{refused_at}
 use Rattle.mt_model.specs.tables.Known.{Known}
 use Rattle.mt_model.specs.texts.Config.{has_identity, is_operational, is_pase, may_be_subject}
-use Rattle.mt_model.specs.declared.messages.status.Status.TheVariants.{ConstraintError, InvalidCommand, UnsupportedCommand}
+use Rattle.mt_model.specs.declared.messages.status.Status.{Status}
+use Rattle.mt_model.specs.declared.messages.status.Status.TheVariants.{ConstraintError, FailsafeRequired, InvalidCommand, UnsupportedCommand}
 use Rattle.mt_model.specs.declared.node.action.Effect.{Effect}
 use Rattle.mt_model.specs.declared.node.action.NodeStep.TheVariants.{Expire, Label}
 use Rattle.mt_model.specs.declared.rows.place.Place.{Place}
@@ -33,7 +34,7 @@ use Rattle.mt_opcreds.specs.Fields.{icac_in, noc_in}
 use Rattle.mt_opcreds.specs.Judged.{Judged, chain_verdict, csr_verdict, root_verdict}
 use Rattle.mt_opcreds.specs.Laws.{StepsFit, fits, is_identity_of}
 use Rattle.mt_opcreds.specs.Owner.{owned_by}
-use Rattle.mt_opcreds.specs.RemoveFabric.{index_in, is_context, leaving, removal_steps, remove_effect, removed, was_added}
+use Rattle.mt_opcreds.specs.RemoveFabric.{index_in, leaving, removal_steps, remove_effect, removed}
 use Rattle.mt_opcreds.specs.Responses.{noc_done, noc_refused}
 use Rattle.mt_opcreds.specs.UpdateFabricLabel.{label_in, labelled, update_label_effect}
 use Rattle.mt_opcreds.specs.UpdateNoc.{renewed, update_if, update_judged, update_noc_effect, update_of, update_refusal, update_under, update_with}
@@ -43,25 +44,18 @@ use Rattle.mt_opcreds.specs.declared.fault.CertificateFault.TheVariants.{FabricC
 abbrev Takes : Known → Effect → Type 0
 Takes known effect = list_all (fits known) effect.steps ≡ true
 
--- the fail-safe that a fabric armed is what is armed
-owned : (fabric : ℕ) (armed : Option Armed) (mine : Armed) → owned_by fabric armed ≡ Some mine → (armed ≡ Some mine) × ((mine.owner == fabric) ≡ true)
+-- the fail-safe under which a fabric may commission is what is armed, by that fabric, and none was added or updated under it
+owned : (fabric : ℕ) (armed : Option Armed) (mine : Armed) → owned_by fabric armed ≡ Ok mine → (armed ≡ Some mine) × ((mine.owner == fabric) ≡ true) × (is_unused mine ≡ true)
 owned fabric None mine is = absurd (cc)
-owned fabric (Some armed) mine is = by_owner (armed.owner == fabric) refl
+owned fabric (Some armed) mine is = by_tests (armed.owner == fabric) (is_unused armed) refl refl is
   where
-    by_owner : (own : Bool) → (armed.owner == fabric) ≡ own → (Some armed ≡ Some mine) × ((mine.owner == fabric) ≡ true)
-    by_owner true e =
-        let same : Some armed ≡ Some mine = sym (cond-true (armed.owner == fabric) (Some armed) None e) ∙ is in
+    by_tests : (own unused : Bool) → (armed.owner == fabric) ≡ own → is_unused armed ≡ unused
+        → (if not own then Err FailsafeRequired else if not unused then Err ConstraintError else Ok armed) ≡ Ok mine → (Some armed ≡ Some mine) × ((mine.owner == fabric) ≡ true) × (is_unused mine ≡ true)
+    by_tests false unused owns is_so e = absurd (cc)
+    by_tests true false owns is_so e = absurd (cc)
+    by_tests true true owns is_so e =
         let inside : armed ≡ mine = cc in
-        (same, subst (λ (a : Armed). (a.owner == fabric) ≡ true) inside e)
-    by_owner false e =
-        let other : None ≡ Some mine = sym (cond-false (armed.owner == fabric) (Some armed) None e) ∙ is in
-        absurd (cc)
-
--- the first refusal of a command that the fail-safe may not note
-unused_and : (armed : Armed) (other : Bool) → (not (is_unused armed) || other) ≡ false → (is_unused armed ≡ true) × (other ≡ false)
-unused_and armed other e =
-    let parts = or_parts (not (is_unused armed)) other e in
-    (not_true (is_unused armed) parts.0, parts.1)
+        (ap Some inside, subst (λ (a : Armed). (a.owner == fabric) ≡ true) inside owns, subst (λ (a : Armed). is_unused a ≡ true) inside is_so)
 
 -- CSRRequest
 
@@ -76,16 +70,15 @@ module _ (judged : Judged) (known : Known) (actor : Actor) (command : Place) (fi
   csr_answered-takes None may = refl
   csr_answered-takes (Some row) may = λ i. (may i && true) && true
 
-  csr_takes : (is_pase actor.auth || not (actor.fabric == 0)) ≡ true → (armed : Option Armed) → owned_by actor.fabric known.armed ≡ armed → Takes known (csr_under judged actor command fields armed)
-  csr_takes of None is = refl
-  csr_takes of (Some armed) is =
+  csr_takes : (is_pase actor.auth || not (actor.fabric == 0)) ≡ true → (armed : Result Armed Status) → owned_by actor.fabric known.armed ≡ armed → Takes known (csr_under judged actor command fields armed)
+  csr_takes of (Err status) is = refl
+  csr_takes of (Ok armed) is =
       let mine = owned actor.fabric known.armed armed is in
       let nobody : (armed.owner == 0) ≡ (actor.fabric == 0) = ap (λ (n : ℕ). n == 0) (eqb-true armed.owner actor.fabric mine.1) in
-      either (Takes known) (not (is_unused armed)) (refused_at command ConstraintError) _ (λ _. refl) (λ unused.
       either (Takes known) (is_update_in fields && is_pase actor.auth) (refused_at command InvalidCommand) _ (λ _. refl) (λ over.
       csr_answered-takes (csr_verdict judged (nonce_in fields))
-      (ap (may_note_csr (is_update_in fields)) mine.0 ∙ (λ i. not_true (is_unused armed) unused i && (not (is_update_in fields) || not (nobody i)))
-      ∙ csr_of (is_update_in fields) (is_pase actor.auth) (actor.fabric == 0) over of)))
+      (ap (may_note_csr (is_update_in fields)) mine.0 ∙ (λ i. mine.2 i && (not (is_update_in fields) || not (nobody i)))
+      ∙ csr_of (is_update_in fields) (is_pase actor.auth) (actor.fabric == 0) over of))
 
 -- AddNOC
 
@@ -135,12 +128,12 @@ module _ (judged : Judged) (known : Known) (command : Place) (fields : Value) wh
       add_judged-takes csr.0 root (root_verdict judged root) (chain_verdict judged root (noc_in fields) (icac_in fields))
       (ap may_note_added is ∙ (λ i. unused i && (is_some (root_is i) && new_csr armed.csr csr csr_is new i)))
 
-  add_takes : (fabric : ℕ) (armed : Option Armed) → owned_by fabric known.armed ≡ armed → Takes known (add_under judged known.fabrics command fields armed)
-  add_takes fabric None is = refl
-  add_takes fabric (Some armed) is =
-      either (Takes known) (not (is_unused armed) || is_for_update armed.csr) (refused_at command ConstraintError) _ (λ _. refl) (λ e.
-      let both = unused_and armed (is_for_update armed.csr) e in
-      add_with-takes armed (owned fabric known.armed armed is).0 both.0 both.1 armed.csr armed.root refl refl)
+  add_takes : (fabric : ℕ) (armed : Result Armed Status) → owned_by fabric known.armed ≡ armed → Takes known (add_under judged known.fabrics command fields armed)
+  add_takes fabric (Err status) is = refl
+  add_takes fabric (Ok armed) is =
+      let mine = owned fabric known.armed armed is in
+      either (Takes known) (is_for_update armed.csr) (refused_at command ConstraintError) _ (λ _. refl) (λ new.
+      add_with-takes armed mine.0 mine.2 new armed.csr armed.root refl refl)
 
   -- AddTrustedRootCertificate
 
@@ -148,12 +141,12 @@ module _ (judged : Judged) (known : Known) (command : Place) (fields : Value) wh
   root_answered-takes cert None may = refl
   root_answered-takes cert (Some row) may = λ i. (may i && true) && true
 
-  root_takes : (fabric : ℕ) (armed : Option Armed) → owned_by fabric known.armed ≡ armed → Takes known (root_under judged command fields armed)
-  root_takes fabric None is = refl
-  root_takes fabric (Some armed) is =
-      either (Takes known) (not (is_unused armed) || is_some armed.root) (refused_at command ConstraintError) _ (λ _. refl) (λ e.
-      let both = unused_and armed (is_some armed.root) e in
-      root_answered-takes (cert_in fields) (root_verdict judged (cert_in fields)) (ap may_note_root (owned fabric known.armed armed is).0 ∙ (λ i. both.0 i && none_there armed.root both.1 i)))
+  root_takes : (fabric : ℕ) (armed : Result Armed Status) → owned_by fabric known.armed ≡ armed → Takes known (root_under judged command fields armed)
+  root_takes fabric (Err status) is = refl
+  root_takes fabric (Ok armed) is =
+      let mine = owned fabric known.armed armed is in
+      either (Takes known) (is_some armed.root) (refused_at command ConstraintError) _ (λ _. refl) (λ rootless.
+      root_answered-takes (cert_in fields) (root_verdict judged (cert_in fields)) (ap may_note_root mine.0 ∙ (λ i. mine.2 i && none_there armed.root rootless i)))
 
 -- UpdateNOC
 
@@ -210,13 +203,12 @@ module _ (judged : Judged) (known : Known) (command : Place) (fields : Value) (i
       ∙ (λ i. (true && (of i && (true && true))) && true))
       refl)
 
-  update_takes : (armed : Option Armed) → owned_by index known.armed ≡ armed → Takes known (update_under judged known index command fields armed)
-  update_takes None is = refl
-  update_takes (Some armed) is =
+  update_takes : (armed : Result Armed Status) → owned_by index known.armed ≡ armed → Takes known (update_under judged known index command fields armed)
+  update_takes (Err status) is = refl
+  update_takes (Ok armed) is =
       let mine = owned index known.armed armed is in
-      either (Takes known) (not (is_unused armed) || is_some armed.root) (refused_at command ConstraintError) _ (λ _. refl) (λ e.
-      let both = unused_and armed (is_some armed.root) e in
-      update_with-takes armed mine.0 mine.1 both.0 (none_there armed.root both.1) armed.csr refl)
+      either (Takes known) (is_some armed.root) (refused_at command ConstraintError) _ (λ _. refl) (λ rootless.
+      update_with-takes armed mine.0 mine.1 mine.2 (none_there armed.root rootless) armed.csr refl)
 
 -- UpdateFabricLabel
 

@@ -1,13 +1,14 @@
 -- AddNOC: a new fabric, with its first access control entry.
-use Rattle.std.specs.Prelude.{ℕ, ◌||◌, nat_le, not, Bool, List, [], ◌∷◌, length, bytes_eq, Option, Some, None, if◌then◌else◌}
+use Rattle.std.specs.Prelude.{ℕ, nat_le, not, Bool, List, [], ◌∷◌, length, bytes_eq, Option, Some, None, Result, Ok, Err, if◌then◌else◌}
 use Rattle.std.specs.List.{list_any}
 use Rattle.mt_tlv.specs.declared.value.Value.{Value}
 use Rattle.mt_fabrics.specs.Table.{least_unused}
-use Rattle.mt_failsafe.specs.Notes.{is_for_update, is_unused}
+use Rattle.mt_failsafe.specs.Notes.{is_for_update}
 use Rattle.mt_model.specs.messages.Effects.{refused_at}
 use Rattle.mt_model.specs.tables.Known.{Known}
 use Rattle.mt_model.specs.texts.Config.{has_identity, is_operational, may_be_subject}
-use Rattle.mt_model.specs.declared.messages.status.Status.TheVariants.{ConstraintError, FailsafeRequired}
+use Rattle.mt_model.specs.declared.messages.status.Status.{Status}
+use Rattle.mt_model.specs.declared.messages.status.Status.TheVariants.{ConstraintError}
 use Rattle.mt_model.specs.declared.node.action.Effect.{Effect}
 use Rattle.mt_model.specs.declared.node.action.NodeStep.{NodeStep}
 use Rattle.mt_model.specs.declared.node.action.NodeStep.TheVariants.{AddFabric, SetEntries}
@@ -21,7 +22,8 @@ use Rattle.mt_model.specs.declared.tables.fabric.Fabric.{Fabric}
 use Rattle.mt_model.specs.declared.tables.network.Armed.{Armed}
 use Rattle.mt_model.specs.declared.texts.config.JoinRow.{JoinRow}
 use Rattle.mt_model.specs.declared.texts.config.RootRow.{RootRow}
-use Rattle.mt_opcreds.specs.Fields.{field_of, icac_in, noc_in, number_of, octets_of, short_of}
+use Rattle.mt_meta.specs.Given.{number_of, octets_of}
+use Rattle.mt_opcreds.specs.Fields.{icac_in, noc_in, short_of}
 use Rattle.mt_opcreds.specs.Judged.{Judged, chain_verdict, root_verdict}
 use Rattle.mt_opcreds.specs.Owner.{owned_by}
 use Rattle.mt_opcreds.specs.Responses.{noc_done, noc_refused}
@@ -29,14 +31,14 @@ use Rattle.mt_opcreds.specs.declared.fault.CertificateFault.{CertificateFault}
 use Rattle.mt_opcreds.specs.declared.fault.CertificateFault.TheVariants.{FabricConflict, InvalidAdminSubject, InvalidNoc, InvalidNodeOpId, InvalidPublicKey, MissingCsr, TableFull}
 
 abbrev pub ipk_in : Value → List ℕ
-ipk_in fields = octets_of (field_of 2 fields)
+ipk_in fields = octets_of 2 fields
 
 -- whom the fabric's first entry names
 abbrev pub subject_in : Value → ℕ
-subject_in fields = number_of (field_of 3 fields)
+subject_in fields = number_of 3 fields
 
 abbrev pub vendor_in : Value → ℕ
-vendor_in fields = short_of (number_of (field_of 4 fields))
+vendor_in fields = short_of (number_of 4 fields)
 
 -- What is added.
 
@@ -91,10 +93,10 @@ add_with judged fabrics command fields None root = noc_refused command MissingCs
 add_with judged fabrics command fields (Some csr) None = noc_refused command InvalidNoc
 add_with judged fabrics command fields (Some csr) (Some root) = add_judged fabrics command fields csr.0 root (root_verdict judged root) (chain_verdict judged root (noc_in fields) (icac_in fields))
 
-abbrev pub add_under : Judged → List Fabric → Place → Value → Option Armed → Effect
-add_under judged fabrics command fields None = refused_at command FailsafeRequired
-add_under judged fabrics command fields (Some armed) =
-    if not (is_unused armed) || is_for_update armed.csr then refused_at command ConstraintError  -- after AddNOC or UpdateNOC, or for it
+abbrev pub add_under : Judged → List Fabric → Place → Value → Result Armed Status → Effect
+add_under judged fabrics command fields (Err status) = refused_at command status
+add_under judged fabrics command fields (Ok armed) =
+    if is_for_update armed.csr then refused_at command ConstraintError  -- UpdateNOC is due
     else add_with judged fabrics command fields armed.csr armed.root
 
 abbrev pub add_noc_effect : Judged → Known → Actor → Place → Value → Effect

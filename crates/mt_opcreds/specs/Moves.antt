@@ -13,7 +13,9 @@ use Rattle.mt_model.specs.declared.tables.fabric.Credentials.{Credentials}
 use Rattle.mt_model.specs.declared.tables.fabric.Fabric.{Fabric}
 use Rattle.mt_opcreds.specs.Commands.{invoked}
 use Rattle.mt_opcreds.specs.Judged.{Judged}
-use Rattle.mt_opcreds.specs.RemoveFabric.{is_context, leaving, was_added}
+use Rattle.mt_failsafe.specs.Calls.{is_context}
+use Rattle.mt_failsafe.specs.Notes.{was_added}
+use Rattle.mt_opcreds.specs.RemoveFabric.{leaving}
 
 -- A command makes nothing, or one step; behind that by which a fabric joins entries of its own are set, and one that leaves is told of. A
 -- fabric for which commissioning goes on leaves once the fail-safe has expired, and by that alone where it was added under it. New

@@ -1,22 +1,24 @@
 -- RemoveFabric: a fabric leaves, which all are told.
-use Rattle.std.specs.Prelude.{ℕ, ◌==◌, Bool, false, List, [], ◌∷◌, Option, Some, None, if◌then◌else◌}
+use Rattle.std.specs.Prelude.{ℕ, List, [], ◌∷◌, Option, if◌then◌else◌}
 use Rattle.mt_tlv.specs.Tree.{uint, none, more}
 use Rattle.mt_tlv.specs.declared.value.Tag.TheVariants.{Context}
 use Rattle.mt_tlv.specs.declared.value.Value.{Value}
 use Rattle.mt_tlv.specs.declared.value.Value.TheVariants as values
 use Rattle.mt_fabrics.specs.Table.{is_used}
+use Rattle.mt_failsafe.specs.Calls.{is_context}
+use Rattle.mt_failsafe.specs.Notes.{was_added}
 use Rattle.mt_model.specs.tables.Known.{Known}
 use Rattle.mt_model.specs.declared.node.action.Effect.{Effect}
 use Rattle.mt_model.specs.declared.node.action.NodeStep.{NodeStep}
 use Rattle.mt_model.specs.declared.node.action.NodeStep.TheVariants.{Emit, Expire, RemoveFabric}
 use Rattle.mt_model.specs.declared.rows.place.Place.{Place}
 use Rattle.mt_model.specs.declared.tables.network.Armed.{Armed}
-use Rattle.mt_opcreds.specs.Fields.{field_of, number_of}
+use Rattle.mt_meta.specs.Given.{number_of}
 use Rattle.mt_opcreds.specs.Responses.{noc_done, noc_refused}
 use Rattle.mt_opcreds.specs.declared.fault.CertificateFault.TheVariants.{InvalidFabricIndex}
 
 abbrev pub index_in : Value → ℕ
-index_in fields = number_of (field_of 0 fields)
+index_in fields = number_of 0 fields
 
 -- the event Leave of Basic Information
 abbrev pub leave : Place
@@ -25,20 +27,6 @@ leave = record { endpoint = 0; cluster = 0x28; leaf = 2 }
 -- the fabric goes, and all are told its index; the event's priority is that of information
 abbrev pub leaving : ℕ → List NodeStep
 leaving index = RemoveFabric index ∷ Emit leave 1 0 (values.Struct (more (Context 0) (uint index) none)) ∷ []
-
--- whether commissioning goes on for this fabric
-abbrev pub is_context : ℕ → Option Armed → Bool
-is_context index None = false
-is_context index (Some armed) = armed.context == index
-
--- whether the fabric is what was added
-abbrev pub is_it : ℕ → Option ℕ → Bool
-is_it index None = false
-is_it index (Some added) = added == index
-
-abbrev pub was_added : ℕ → Option Armed → Bool
-was_added index None = false
-was_added index (Some armed) = is_it index armed.added
 
 -- The fail-safe expires first where commissioning goes on for the fabric. The fabric goes by that already where it was added
 -- under it.

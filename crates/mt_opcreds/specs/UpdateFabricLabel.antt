@@ -9,12 +9,12 @@ use Rattle.mt_model.specs.declared.messages.status.Status.TheVariants.{Constrain
 use Rattle.mt_model.specs.declared.node.action.Effect.{Effect}
 use Rattle.mt_model.specs.declared.node.action.NodeStep.TheVariants.{Label}
 use Rattle.mt_model.specs.declared.rows.place.Place.{Place}
-use Rattle.mt_opcreds.specs.Fields.{field_of, text_of}
+use Rattle.mt_meta.specs.Given.{text_of}
 use Rattle.mt_opcreds.specs.Responses.{noc_done, noc_refused}
 use Rattle.mt_opcreds.specs.declared.fault.CertificateFault.TheVariants.{LabelConflict}
 
 abbrev pub label_in : Value → List ℕ
-label_in fields = text_of (field_of 0 fields)
+label_in fields = text_of 0 fields
 
 -- no two fabrics have one label, unless it is empty
 abbrev pub labelled : Known → ℕ → Place → List ℕ → Effect

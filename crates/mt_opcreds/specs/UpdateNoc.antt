@@ -1,12 +1,12 @@
 -- UpdateNOC: new credentials of the fabric that asks, under its own root.
-use Rattle.std.specs.Prelude.{ℕ, ◌||◌, ◌==◌, not, is_some, Bool, List, [], ◌∷◌, bytes_eq, Option, Some, None, if◌then◌else◌}
+use Rattle.std.specs.Prelude.{ℕ, ◌==◌, not, is_some, Bool, List, [], ◌∷◌, bytes_eq, Option, Some, None, Result, Ok, Err, if◌then◌else◌}
 use Rattle.mt_tlv.specs.declared.value.Value.{Value}
 use Rattle.mt_fabrics.specs.Table.{credentials_at}
-use Rattle.mt_failsafe.specs.Notes.{is_unused}
 use Rattle.mt_model.specs.messages.Effects.{refused_at}
 use Rattle.mt_model.specs.tables.Known.{Known}
 use Rattle.mt_model.specs.texts.Config.{is_operational}
-use Rattle.mt_model.specs.declared.messages.status.Status.TheVariants.{ConstraintError, FailsafeRequired}
+use Rattle.mt_model.specs.declared.messages.status.Status.{Status}
+use Rattle.mt_model.specs.declared.messages.status.Status.TheVariants.{ConstraintError}
 use Rattle.mt_model.specs.declared.node.action.Effect.{Effect}
 use Rattle.mt_model.specs.declared.node.action.NodeStep.TheVariants.{UpdateFabric}
 use Rattle.mt_model.specs.declared.rows.place.Place.{Place}
@@ -54,10 +54,10 @@ update_with judged known index command fields (Some csr) =
     if not csr.1 then refused_at command ConstraintError  -- not for an update
     else update_of judged index command fields csr.0 (credentials_at index known.fabrics)
 
-abbrev pub update_under : Judged → Known → ℕ → Place → Value → Option Armed → Effect
-update_under judged known index command fields None = refused_at command FailsafeRequired
-update_under judged known index command fields (Some armed) =
-    if not (is_unused armed) || is_some armed.root then refused_at command ConstraintError  -- after AddNOC, UpdateNOC or a root
+abbrev pub update_under : Judged → Known → ℕ → Place → Value → Result Armed Status → Effect
+update_under judged known index command fields (Err status) = refused_at command status
+update_under judged known index command fields (Ok armed) =
+    if is_some armed.root then refused_at command ConstraintError  -- after a root
     else update_with judged known index command fields armed.csr
 
 abbrev pub update_noc_effect : Judged → Known → Actor → Place → Value → Effect

@@ -2,22 +2,23 @@
 
 ghost use Rattle.std.specs.Prelude.{◌≡◌, ◌<◌, ◌∷◌, [], IfOk, None, length, option_copied};
 ghost use Rattle.mt_fabrics.specs.Table.{least_unused};
-ghost use Rattle.mt_failsafe.specs.Notes.{is_for_update};
 ghost use Rattle.mt_model.specs.tables.Known.{known_in};
-ghost use Rattle.mt_model.specs.texts.Config.{is_cat, may_be_subject};
-ghost use Rattle.mt_model.specs.declared.tables.access.Auth.TheVariants.{Case};
 ghost use Rattle.mt_opcreds.specs.AddNoc.{add_judged, add_noc_effect, add_refusal, added_steps, first_entry, new_credentials, new_fabric, subject_in};
 ghost use Rattle.mt_opcreds.specs.Judged.{judged_by};
 ghost use Rattle.mt_opcreds.specs.Responses.{noc_done};
 
 use crate::fault::CertificateFault;
-use crate::fields::{icac, noc, number, octets, short};
-use crate::finding::{is_identity_used, is_unused, least_unused, owned};
+use crate::fields::{icac, noc, short};
+use crate::finding::owned;
 use crate::responses::{noc_done, noc_refused};
+use mt_acl::may_be_subject;
+use mt_fabrics::{is_identity_used, least_unused};
+use mt_failsafe::is_for_update;
+use mt_meta::{number_of, octets_of};
 use mt_model::limits::FABRICS;
 use mt_model::{
-    AclEntries, AclEntry, Actor, Armed, Auth, Credentials, Effect, Fabric, JoinRow, NodeStep,
-    Place, Privilege, RootRow, Status, Steps, Subjects, Targets, Verdicts, View, is_operational,
+    AclEntries, AclEntry, Actor, Auth, Credentials, Effect, Fabric, JoinRow, NodeStep, Place,
+    Privilege, RootRow, Status, Steps, Subjects, Targets, Verdicts, View, is_operational,
 };
 use mt_tlv::{Bytes, Value};
 use std::alloc::{AllocError, Global};
@@ -35,10 +36,11 @@ pub(crate) fn add_noc_effect<V: Verdicts>(
     ensures { let judged = judged_by (V.roots verdicts.now) (V.csrs verdicts.now) (V.joins verdicts.now) in
         IfOk result (λ effect. effect ≡ add_noc_effect judged (known_in actor.now.fabric view.now) actor.now command.now fields.now) }
 {
-    let Some(armed) = owned(view, actor.fabric) else {
-        return Ok(Effect::refused_at(alloc, command, Status::FailsafeRequired));
+    let armed = match owned(view, actor.fabric) {
+        Ok(armed) => armed,
+        Err(status) => return Ok(Effect::refused_at(alloc, command, status)),
     };
-    if !is_unused(armed) || is_for_update(armed) {
+    if is_for_update(armed) {
         return Ok(Effect::refused_at(alloc, command, Status::ConstraintError));
     }
     let Some((nonce, _)) = &armed.csr else {
@@ -59,16 +61,6 @@ pub(crate) fn add_noc_effect<V: Verdicts>(
         judged_root,
         chain,
     )
-}
-
-// Whether the signing request of this context was for UpdateNOC.
-fn is_for_update(armed: &Armed) -> bool
-    ensures { result ≡ is_for_update armed.now.csr }
-{
-    match &armed.csr {
-        Some((_, update)) => *update,
-        None => false,
-    }
 }
 
 // By the verdicts on the root certificate and on the chain.
@@ -113,7 +105,7 @@ fn add_refusal(
     if !is_operational(chain.node_id) {
         return Some(CertificateFault::InvalidNodeOpId);
     }
-    if !may_administer(subject(fields)) {
+    if !may_be_subject(Auth::Case, subject(fields)) {
         return Some(CertificateFault::InvalidAdminSubject);
     }
     if is_identity_used(fabrics, judged_root.key.as_slice(), chain.fabric_id) {
@@ -128,23 +120,7 @@ fn add_refusal(
 fn subject(fields: &Value) -> u64
     ensures { result ≡ subject_in fields.now }
 {
-    number(fields, 3)
-}
-
-// Whether an entry for CASE may have this subject.
-fn may_administer(subject: u64) -> bool
-    ensures { result ≡ may_be_subject Case subject }
-{
-    is_operational(subject) || is_cat(subject)
-}
-
-// The upper 32 bits of a subject that is a CAT.
-const CAT: u64 = 0xffff_fffd;
-
-fn is_cat(subject: u64) -> bool
-    ensures { result ≡ is_cat subject }
-{
-    subject / 0x1_0000_0000 == CAT && subject % 0x1_0000 != 0
+    number_of(fields, 3)
 }
 
 // The credentials under the root certificate, by the verdicts on it and on the chain.
@@ -164,7 +140,7 @@ fn new_credentials(
         node_id: chain.node_id,
         noc: Bytes::from_slice(alloc, noc(fields))?,
         icac: Bytes::from_slice(alloc, icac(fields))?,
-        ipk: Bytes::from_slice(alloc, octets(fields, 2))?,
+        ipk: Bytes::from_slice(alloc, octets_of(fields, 2))?,
     })
 }
 

@@ -5,8 +5,8 @@ ghost use Rattle.mt_model.specs.tables.Known.{known_in};
 ghost use Rattle.mt_opcreds.specs.AddTrustedRoot.{add_root_effect, root_answered};
 ghost use Rattle.mt_opcreds.specs.Judged.{judged_by};
 
-use crate::fields::octets;
-use crate::finding::{is_unused, owned};
+use crate::finding::owned;
+use mt_meta::octets_of;
 use mt_model::{Actor, Effect, NodeStep, Place, RootRow, Status, Steps, Verdicts, View};
 use mt_tlv::{Bytes, Value};
 use std::alloc::{AllocError, Global};
@@ -23,13 +23,14 @@ pub(crate) fn add_root_effect<V: Verdicts>(
     ensures { let judged = judged_by (V.roots verdicts.now) (V.csrs verdicts.now) (V.joins verdicts.now) in
         IfOk result (λ effect. effect ≡ add_root_effect judged (known_in actor.now.fabric view.now) actor.now command.now fields.now) }
 {
-    let Some(armed) = owned(view, actor.fabric) else {
-        return Ok(Effect::refused_at(alloc, command, Status::FailsafeRequired));
+    let armed = match owned(view, actor.fabric) {
+        Ok(armed) => armed,
+        Err(status) => return Ok(Effect::refused_at(alloc, command, status)),
     };
-    if !is_unused(armed) || armed.root.is_some() {
+    if armed.root.is_some() {
         return Ok(Effect::refused_at(alloc, command, Status::ConstraintError));
     }
-    let cert = octets(fields, 0);
+    let cert = octets_of(fields, 0);
     root_answered(alloc, command, cert, verdicts.root(cert))
 }
 

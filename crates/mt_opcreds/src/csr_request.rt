@@ -7,9 +7,9 @@ ghost use Rattle.mt_model.specs.declared.node.action.NodeStep.TheVariants.{Csr};
 ghost use Rattle.mt_opcreds.specs.CsrRequest.{csr_answered, csr_request_effect, is_update_in, nonce_in};
 ghost use Rattle.mt_opcreds.specs.Judged.{judged_by};
 
-use crate::fields::{flag, octets};
-use crate::finding::{is_unused, owned};
+use crate::finding::owned;
 use crate::responses::csr_done;
+use mt_meta::{flag_of, octets_of};
 use mt_model::{Actor, Auth, CsrRow, Effect, NodeStep, Place, Status, Steps, Verdicts, View};
 use mt_tlv::{Bytes, Value};
 use std::alloc::{AllocError, Global};
@@ -26,11 +26,8 @@ pub(crate) fn csr_request_effect<V: Verdicts>(
     ensures { let judged = judged_by (V.roots verdicts.now) (V.csrs verdicts.now) (V.joins verdicts.now) in
         IfOk result (λ effect. effect ≡ csr_request_effect judged (known_in actor.now.fabric view.now) actor.now command.now fields.now) }
 {
-    let Some(armed) = owned(view, actor.fabric) else {
-        return Ok(Effect::refused_at(alloc, command, Status::FailsafeRequired));
-    };
-    if !is_unused(armed) {
-        return Ok(Effect::refused_at(alloc, command, Status::ConstraintError));
+    if let Err(status) = owned(view, actor.fabric) {
+        return Ok(Effect::refused_at(alloc, command, status));
     }
     if is_update(fields) && is_pase(actor.auth) {
         return Ok(Effect::refused_at(alloc, command, Status::InvalidCommand));
@@ -41,13 +38,13 @@ pub(crate) fn csr_request_effect<V: Verdicts>(
 fn nonce(fields: &Value) -> &[u8]
     ensures { result.now ≡ nonce_in fields.now }
 {
-    octets(fields, 0)
+    octets_of(fields, 0)
 }
 
 fn is_update(fields: &Value) -> bool
     ensures { result ≡ is_update_in fields.now }
 {
-    flag(fields, 1)
+    flag_of(fields, 1)
 }
 
 fn is_pase(auth: Auth) -> bool

@@ -2,14 +2,15 @@
 
 ghost use Rattle.std.specs.Prelude.{◌≡◌, ◌++◌, IfOk, OnOk, option_copied};
 ghost use Rattle.mt_model.specs.tables.Known.{known_in};
-ghost use Rattle.mt_opcreds.specs.RemoveFabric.{is_context, is_it, leaving, removal_steps, remove_effect, was_added};
+ghost use Rattle.mt_opcreds.specs.RemoveFabric.{leaving, removal_steps, remove_effect};
 
 use crate::fault::CertificateFault;
-use crate::fields::number;
 use crate::finding::used_index;
 use crate::responses::{noc_done, noc_refused};
+use mt_failsafe::{is_context, was_added};
 use mt_meta::clusters::BASIC_INFORMATION;
 use mt_meta::clusters::basic_information::LEAVE;
+use mt_meta::number_of;
 use mt_model::{Effect, NodeStep, Place, Steps, View};
 use mt_tlv::{Members, Tag, Value};
 use std::alloc::{AllocError, Global};
@@ -25,7 +26,7 @@ pub(crate) fn remove_effect(
 ) -> Result<Effect, AllocError>
     ensures { IfOk result (λ effect. effect ≡ remove_effect (known_in fabric view.now) command.now fields.now) }
 {
-    let Some(index) = used_index(view.fabrics.as_slice(), number(fields, 0)) else {
+    let Some(index) = used_index(view.fabrics.as_slice(), number_of(fields, 0)) else {
         return noc_refused(alloc, command, CertificateFault::InvalidFabricIndex);
     };
     let steps = removal_steps(alloc, view, index)?;
@@ -37,41 +38,14 @@ fn removal_steps(alloc: Global, view: &View, index: u8) -> Result<Steps, AllocEr
     ensures { IfOk result (λ steps. steps ≡ removal_steps index (option_copied view.now.armed)) }
 {
     let mut steps = Steps::new(alloc);
-    if is_context(view, index) {
+    if is_context(index, view.armed) {
         steps.push(NodeStep::Expire)?;
-        if was_added(view, index) {
+        if was_added(index, view.armed) {
             return Ok(steps);
         }
     }
     push_leaving(alloc, index, &mut steps)?;
     Ok(steps)
-}
-
-fn is_context(view: &View, index: u8) -> bool
-    ensures { result ≡ is_context index (option_copied view.now.armed) }
-{
-    match view.armed {
-        Some(armed) => armed.context == index,
-        None => false,
-    }
-}
-
-fn was_added(view: &View, index: u8) -> bool
-    ensures { result ≡ was_added index (option_copied view.now.armed) }
-{
-    match view.armed {
-        Some(armed) => is_it(index, armed.added),
-        None => false,
-    }
-}
-
-fn is_it(index: u8, added: Option<u8>) -> bool
-    ensures { result ≡ is_it index added }
-{
-    match added {
-        Some(added) => added == index,
-        None => false,
-    }
 }
 
 // The fabric goes, and all are told its index.

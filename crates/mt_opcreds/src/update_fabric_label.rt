@@ -5,9 +5,9 @@ ghost use Rattle.mt_model.specs.tables.Known.{known_in};
 ghost use Rattle.mt_opcreds.specs.UpdateFabricLabel.{update_label_effect};
 
 use crate::fault::CertificateFault;
-use crate::fields::text;
-use crate::finding::is_label_of_another;
 use crate::responses::{noc_done, noc_refused};
+use mt_fabrics::is_label_of_another;
+use mt_meta::text_of;
 use mt_model::limits::LABEL_BYTES;
 use mt_model::{Effect, NodeStep, Place, Status, Steps, View};
 use mt_tlv::{Bytes, Value};
@@ -24,7 +24,7 @@ pub(crate) fn update_label_effect(
 ) -> Result<Effect, AllocError>
     ensures { IfOk result (λ effect. effect ≡ update_label_effect (known_in index view.now) index command.now fields.now) }
 {
-    let label = text(fields, 0);
+    let label = text_of(fields, 0);
     if label.len() > LABEL_BYTES {
         return Ok(Effect::refused_at(alloc, command, Status::ConstraintError));
     }

@@ -9,7 +9,7 @@ ghost use Rattle.mt_opcreds.specs.UpdateNoc.{renewed, update_judged, update_noc_
 
 use crate::fault::CertificateFault;
 use crate::fields::{icac, noc};
-use crate::finding::{credentials_at, is_unused, owned};
+use crate::finding::{credentials_at, owned};
 use crate::responses::{noc_done, noc_refused};
 use mt_model::{
     Actor, Credentials, Effect, JoinRow, NodeStep, Place, Status, Steps, Verdicts, View,
@@ -31,10 +31,11 @@ pub(crate) fn update_noc_effect<V: Verdicts>(
     ensures { let judged = judged_by (V.roots verdicts.now) (V.csrs verdicts.now) (V.joins verdicts.now) in
         IfOk result (λ effect. effect ≡ update_noc_effect judged (known_in actor.now.fabric view.now) actor.now command.now fields.now) }
 {
-    let Some(armed) = owned(view, actor.fabric) else {
-        return Ok(Effect::refused_at(alloc, command, Status::FailsafeRequired));
+    let armed = match owned(view, actor.fabric) {
+        Ok(armed) => armed,
+        Err(status) => return Ok(Effect::refused_at(alloc, command, status)),
     };
-    if !is_unused(armed) || armed.root.is_some() {
+    if armed.root.is_some() {
         return Ok(Effect::refused_at(alloc, command, Status::ConstraintError));
     }
     let Some((nonce, update)) = &armed.csr else {

@@ -2,7 +2,7 @@
 use Rattle.std.proofs.Common.{◌≡◌, ◌⊎◌, inl, inr, ℕ, ◌||◌, not, Bool, true, false, List, [], ◌∷◌, Option, Some, None, Result, Ok, Err, refl, sym, ap, ◌∙◌, arith, if◌then◌else◌}
 use Rattle.std.specs.List.{list_any}
 use Rattle.std.specs.Result.{result_unwrap_or}
-use Rattle.mt_acl.specs.Access.{implicit_grants, own_entry_grants}
+use Rattle.mt_acl.specs.Access.{implicit_grants, is_granted_if_asked, own_entry_grants}
 use Rattle.mt_meta.specs.Finding.{attribute_of, find_of, found, has_cluster, is_endpoint, of_found}
 use Rattle.mt_meta.specs.declared.meta.Meta.{Meta}
 use Rattle.mt_model.specs.messages.Blocks.{path_of}
@@ -18,7 +18,7 @@ use Rattle.mt_model.specs.declared.node.state.Version.{Version}
 use Rattle.mt_model.specs.declared.messages.status.Status.{Status}
 use Rattle.mt_model.specs.declared.messages.status.Status.TheVariants.{UnsupportedAccess, UnsupportedAttribute, UnsupportedCluster, UnsupportedEndpoint}
 use Rattle.mt_read.specs.Denials.{DeniesExactly, IsDenied, LeavesOutExactly}
-use Rattle.mt_read.specs.Reading.{concrete_items, data_items, found_items, granted_items, is_allowed, is_known, may_read, value_of, wildcard_items}
+use Rattle.mt_read.specs.Reading.{concrete_items, data_items, found_items, granted_items, is_known, may_read, value_of, wildcard_items}
 
 -- Some privilege is asked everywhere.
 asked_of : (there : Result Meta Status) → (p : Privilege) × (result_unwrap_or (of_found (λ (meta : Meta). Some meta.read) there) (Some View) ≡ Some p)
@@ -30,14 +30,17 @@ or_false true b h = absurd (cc)
 or_false false b h = (refl, h)
 
 module _ (seen : Seen) (actor : Actor) (place : Place) where
+  abbrev allowed : Option Privilege → Bool
+  allowed asked = is_granted_if_asked seen.entries actor place asked false
+
   to_denied : may_read seen actor place ≡ false → IsDenied seen actor place
   to_denied h =
       let asked = asked_of (find_of place) in
-      let nothing = or_false (implicit_grants actor false) (list_any (own_entry_grants actor place asked.0) seen.entries) (sym (ap (is_allowed seen actor place) asked.1) ∙ h) in
+      let nothing = or_false (implicit_grants actor false) (list_any (own_entry_grants actor place asked.0) seen.entries) (sym (ap allowed asked.1) ∙ h) in
       record { asked = asked.0; is = asked.1; implicit = nothing.0; entries = nothing.1 }
 
   from_denied : IsDenied seen actor place → may_read seen actor place ≡ false
-  from_denied d = ap (is_allowed seen actor place) d.is ∙ (λ i. d.implicit i || d.entries i)
+  from_denied d = ap allowed d.is ∙ (λ i. d.implicit i || d.entries i)
 
 -- the code of a refusal, and something else where there is none
 abbrev code_in : List Item → ℕ

@@ -1,13 +1,13 @@
 -- What a read answers (Matter Core Specification, section 8.4, Read Interaction), made of what the reader's
 -- fabric sees.
-use Rattle.std.specs.Prelude.{◌==◌, ◌&&◌, Bool, true, false, List, [], ◌∷◌, Option, Some, None, Result, Ok, Err, filter, if◌then◌else◌}
+use Rattle.std.specs.Prelude.{◌==◌, ◌&&◌, Bool, false, List, [], ◌∷◌, Option, Some, None, Result, Ok, Err, filter, if◌then◌else◌}
 use Rattle.std.specs.List.{flat_map, list_any}
 use Rattle.mt_tlv.specs.Tree.{Elements, none, more}
 use Rattle.mt_tlv.specs.View.{tree}
 use Rattle.mt_tlv.specs.declared.value.Tag.TheVariants.{Anonymous}
 use Rattle.mt_tlv.specs.declared.value.Value.{Value}
 use Rattle.mt_tlv.specs.declared.value.Value.TheVariants as values
-use Rattle.mt_acl.specs.Access.{is_granted}
+use Rattle.mt_acl.specs.Access.{is_granted_if_asked}
 use Rattle.mt_meta.specs.Finding.{find_of, privilege_of}
 use Rattle.mt_meta.specs.Places.{is_not_global, places}
 use Rattle.mt_meta.specs.declared.clusters.TheConstants.{OPERATIONAL_CREDENTIALS}
@@ -17,7 +17,6 @@ use Rattle.mt_model.specs.messages.Blocks.{path_of, place_named}
 use Rattle.mt_model.specs.rows.Seen.{Seen}
 use Rattle.mt_model.specs.messages.Status.{code_of}
 use Rattle.mt_model.specs.declared.tables.access.Actor.{Actor}
-use Rattle.mt_model.specs.declared.tables.access.Privilege.{Privilege}
 use Rattle.mt_model.specs.declared.messages.message.Item.{Item}
 use Rattle.mt_model.specs.declared.messages.message.Item.TheVariants.{Attribute, Refused}
 use Rattle.mt_model.specs.declared.messages.message.Path.{Path}
@@ -29,14 +28,9 @@ use Rattle.mt_model.specs.declared.messages.status.Status.TheVariants.{Unsupport
 
 -- Access.
 
--- whether an entry grants the privilege, which nobody needs for what asks for none
-abbrev pub is_allowed : Seen → Actor → Place → Option Privilege → Bool
-is_allowed seen actor place None = true
-is_allowed seen actor place (Some privilege) = is_granted seen.entries actor place privilege false
-
 -- whether the reader may read the place, or, where there is nothing, may learn that
 abbrev pub may_read : Seen → Actor → Place → Bool
-may_read seen actor place = is_allowed seen actor place (privilege_of place Read)
+may_read seen actor place = is_granted_if_asked seen.entries actor place (privilege_of place Read) false
 
 -- Values.
 

@@ -5,14 +5,15 @@ ghost use Rattle.std.specs.List.{list_any};
 ghost use Rattle.mt_fabrics.specs.Table.{IsTable, is_used};
 ghost use Rattle.mt_failsafe.specs.Facts.{keeps_facts};
 ghost use Rattle.mt_failsafe.specs.Notes.{may_note_added, with_added};
-ghost use Rattle.mt_machine.specs.Effects.{is_context, is_pase, is_renewed_by, joined, labelled_in, plain_joined, session_joined, updated_in, without_fabric};
+ghost use Rattle.mt_machine.specs.Effects.{is_pase, is_renewed_by, joined, labelled_in, plain_joined, session_joined, updated_in, without_fabric};
 ghost use Rattle.mt_machine.specs.State as states;
 ghost use Rattle.mt_steps.specs.Table.{credentials_before, index_for, left, with_joined, with_removed, with_updated};
 
 use crate::expiry::{entries_behind, is_used, rows_left};
-use crate::failsafe::{is_armed_by, may_note_added, may_note_updated, note_added, note_updated};
+use crate::failsafe::{note_added, note_updated};
 use crate::sessions::{is_pase, plain_joined, plain_without, sessions_joined, sessions_without};
 use mt_fabrics::{FabricFault, FabricTable};
+use mt_failsafe::{is_armed_by, is_context, may_note_added, may_note_updated};
 use mt_model::{Actor, Armed, Credentials, ExactCopy, Fabric, Fabrics, NodeState, Roots};
 use mt_tlv::Bytes;
 use std::alloc::{AllocError, Global};
@@ -30,7 +31,7 @@ pub(crate) fn add_fabric(
     requires facts { IsTrue (keeps_facts state.old.armed) }
     ensures { OnOk result (state.new ≡ joined asking fabric state.old) }
 {
-    if !may_note_added(&state.armed) {
+    if !may_note_added(state.armed.as_ref()) {
         return Ok(());
     }
     let joining = fabric.copy()?;
@@ -89,8 +90,8 @@ pub(crate) fn update_fabric(alloc: Global, index: u8, given: Credentials, state:
     requires facts { IsTrue (keeps_facts state.old.armed) }
     ensures { state.new ≡ updated_in index given state.old }
 {
-    if !may_note_updated(&state.armed)
-        || !is_armed_by(index, &state.armed)
+    if !may_note_updated(state.armed.as_ref())
+        || !is_armed_by(index, state.armed.as_ref())
         || !is_renewed(index, &given, state.fabrics.as_slice())
     {
         return;
@@ -150,22 +151,13 @@ pub(crate) fn remove_fabric(
     requires { IsTable state.old.fabrics }
     ensures { OnOk result (state.new ≡ without_fabric index state.old) }
 {
-    if is_context(index, &state.armed) {
+    if is_context(index, state.armed.as_ref()) {
         return Ok(());
     }
     if !take_out(alloc, index, &mut state.fabrics) {
         return Ok(());
     }
     leave(alloc, index, state)
-}
-
-fn is_context(index: u8, armed: &Option<Armed>) -> bool
-    ensures { result ≡ is_context index armed.now }
-{
-    match armed {
-        Some(armed) => armed.context == index,
-        None => false,
-    }
 }
 
 // Takes the fabric of this index out of the table, and answers whether there was one.

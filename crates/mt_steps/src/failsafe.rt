@@ -2,15 +2,15 @@
 
 ghost use Rattle.std.specs.Prelude.{◌≡◌, IsTrue, OnOk, bytes_eq, option_map};
 ghost use Rattle.std.specs.List.{list_any};
-ghost use Rattle.mt_failsafe.specs.Calls.{is_armed_by, renewed};
+ghost use Rattle.mt_failsafe.specs.Calls.{renewed};
 ghost use Rattle.mt_failsafe.specs.Facts.{keeps_facts};
-ghost use Rattle.mt_failsafe.specs.Notes.{is_for_new, is_for_update, is_unused, may_note_added, may_note_csr, may_note_root, may_note_updated, with_added, with_updated};
+ghost use Rattle.mt_failsafe.specs.Notes.{may_note_added, may_note_csr, may_note_root, may_note_updated, with_added, with_updated};
 ghost use Rattle.mt_failsafe.specs.Notes as notes;
 ghost use Rattle.mt_machine.specs.Effects.{armed_behind, completed, trusting, with_request, with_root};
 
 use crate::expiry::roots_behind;
 use crate::sessions::{plain_without, sessions_completed};
-use mt_failsafe::{Failsafe, Saved};
+use mt_failsafe::{Failsafe, Saved, may_note_csr, may_note_root};
 use mt_model::{Armed, Credentials, ExactCopy, NodeState, Roots};
 use mt_tlv::Bytes;
 use std::alloc::{AllocError, Global};
@@ -80,7 +80,7 @@ pub(crate) fn trust(cert: Bytes, state: &mut NodeState) -> Result<(), AllocError
     requires { IsTrue (keeps_facts state.old.armed) }
     ensures { OnOk result (state.new ≡ trusting cert state.old) }
 {
-    if !may_note_root(&state.armed) {
+    if !may_note_root(state.armed.as_ref()) {
         return Ok(());
     }
     add_root(&cert, &mut state.roots)?;
@@ -119,28 +119,12 @@ fn note_root(cert: Bytes, armed: &mut Option<Armed>)
     *armed = failsafe.into_armed();
 }
 
-fn may_note_root(armed: &Option<Armed>) -> bool
-    ensures { result ≡ may_note_root armed.now }
-{
-    match armed {
-        Some(armed) => is_unused(armed) && armed.root.is_none(),
-        None => false,
-    }
-}
-
-// Whether no fabric was added or updated since it was armed.
-fn is_unused(armed: &Armed) -> bool
-    ensures { result ≡ is_unused armed.now }
-{
-    armed.added.is_none() && armed.updated.is_none()
-}
-
 /// Notes that a signing request of this nonce was answered, where that may be.
 pub(crate) fn request(nonce: Bytes, update: bool, state: &mut NodeState)
     requires { IsTrue (keeps_facts state.old.armed) }
     ensures { state.new ≡ with_request nonce update state.old }
 {
-    if may_note_csr(update, &state.armed) {
+    if may_note_csr(update, state.armed.as_ref()) {
         note_csr(nonce, update, &mut state.armed);
     }
 }
@@ -155,15 +139,6 @@ fn note_csr(nonce: Bytes, update: bool, armed: &mut Option<Armed>)
     *armed = failsafe.into_armed();
 }
 
-fn may_note_csr(update: bool, armed: &Option<Armed>) -> bool
-    ensures { result ≡ may_note_csr update armed.now }
-{
-    match armed {
-        Some(armed) => is_unused(armed) && (!update || armed.owner != 0),
-        None => false,
-    }
-}
-
 /// Notes the fabric that was added, and whether over PASE.
 pub(crate) fn note_added(index: u8, pase: bool, armed: &mut Option<Armed>)
     requires facts { IsTrue (keeps_facts armed.old) }
@@ -175,25 +150,6 @@ pub(crate) fn note_added(index: u8, pase: bool, armed: &mut Option<Armed>)
     *armed = failsafe.into_armed();
 }
 
-/// Whether a fabric may be added under it.
-pub(crate) fn may_note_added(armed: &Option<Armed>) -> bool
-    ensures { result ≡ may_note_added armed.now }
-{
-    match armed {
-        Some(armed) => is_unused(armed) && armed.root.is_some() && is_for_new(&armed.csr),
-        None => false,
-    }
-}
-
-fn is_for_new(csr: &Option<(Bytes, bool)>) -> bool
-    ensures { result ≡ is_for_new csr.now }
-{
-    match csr {
-        Some((_, update)) => !*update,
-        None => false,
-    }
-}
-
 /// Notes that its owner got new credentials in the place of these.
 pub(crate) fn note_updated(before: Credentials, armed: &mut Option<Armed>)
     requires facts { IsTrue (keeps_facts armed.old) }
@@ -203,38 +159,4 @@ pub(crate) fn note_updated(before: Credentials, armed: &mut Option<Armed>)
     let mut failsafe = Failsafe::from_armed(armed.take());
     failsafe.note_updated(before);
     *armed = failsafe.into_armed();
-}
-
-/// Whether its owner may get new credentials under it.
-pub(crate) fn may_note_updated(armed: &Option<Armed>) -> bool
-    ensures { result ≡ may_note_updated armed.now }
-{
-    match armed {
-        Some(armed) => {
-            is_unused(armed)
-                && armed.owner != 0
-                && armed.root.is_none()
-                && is_for_update(&armed.csr)
-        },
-        None => false,
-    }
-}
-
-fn is_for_update(csr: &Option<(Bytes, bool)>) -> bool
-    ensures { result ≡ is_for_update csr.now }
-{
-    match csr {
-        Some((_, update)) => *update,
-        None => false,
-    }
-}
-
-/// Whether the fabric of this index has armed it.
-pub(crate) fn is_armed_by(index: u8, armed: &Option<Armed>) -> bool
-    ensures { result ≡ is_armed_by index armed.now }
-{
-    match armed {
-        Some(armed) => armed.owner == index,
-        None => false,
-    }
 }

@@ -2,7 +2,8 @@
 
 ghost use Rattle.std.specs.Prelude.{◌≡◌, IfOk, OnOk, filter, map};
 ghost use Rattle.std.specs.List.{list_any};
-ghost use Rattle.mt_machine.specs.Effects.{connected_to, has_id, moved_to, others_than, with_network, with_new, with_secret};
+ghost use Rattle.mt_commission.specs.NetworkCommissioning.{has_id};
+ghost use Rattle.mt_machine.specs.Effects.{connected_to, moved_to, others_than, with_network, with_new, with_secret};
 
 use mt_model::limits::NETWORKS;
 use mt_model::{ExactCopy, Network, Networks};

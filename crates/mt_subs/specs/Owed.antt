@@ -1,35 +1,25 @@
 -- What is owed to a subscription, and when it is due.
-use Rattle.std.specs.Prelude.{ℕ, ◌-◌, ◌*◌, ◌&&◌, ◌||◌, nat_le, Bool, true, false, IsTrue, List, length, Option, Some, None, filter, if◌then◌else◌}
-use Rattle.std.specs.List.{list_any}
-use Rattle.mt_acl.specs.Access.{is_granted}
+use Rattle.std.specs.Prelude.{ℕ, ◌-◌, ◌*◌, ◌&&◌, ◌||◌, nat_le, Bool, false, IsTrue, List, length, Option, Some, None, filter, if◌then◌else◌}
+use Rattle.mt_acl.specs.Access.{is_granted_if_asked}
 use Rattle.mt_meta.specs.Finding.{privilege_of}
-use Rattle.mt_meta.specs.Places.{all_places, is_named}
+use Rattle.mt_meta.specs.Places.{all_places, is_named_by}
 use Rattle.mt_meta.specs.declared.finding.Asked.TheVariants.{Read}
-use Rattle.mt_model.specs.declared.messages.message.Path.{Path}
 use Rattle.mt_model.specs.declared.node.state.ChangeNumber.{ChangeNumber}
 use Rattle.mt_model.specs.declared.rows.place.Place.{Place}
 use Rattle.mt_model.specs.declared.tables.access.AclEntry.{AclEntry}
 use Rattle.mt_model.specs.declared.tables.access.Actor.{Actor}
-use Rattle.mt_model.specs.declared.tables.access.Privilege.{Privilege}
 use Rattle.mt_subs.specs.Changes.{is_among, later}
 use Rattle.mt_subs.specs.declared.subscription.Kept.{Kept}
 
 -- Places. The entries are those of the subscriber's fabric.
 
-abbrev pub is_granted_for : List AclEntry → Actor → Place → Option Privilege → Bool
-is_granted_for entries actor place None = true
-is_granted_for entries actor place (Some privilege) = is_granted entries actor place privilege false
-
 -- whether the subscriber may read the place now
 abbrev pub may_read : List AclEntry → Actor → Place → Bool
-may_read entries actor place = is_granted_for entries actor place (privilege_of place Read)
-
-abbrev pub is_subscribed : List Path → Place → Bool
-is_subscribed paths place = list_any (λ path. is_named path place) paths
+may_read entries actor place = is_granted_if_asked entries actor place (privilege_of place Read) false
 
 -- The place has changed since the last report, is subscribed to, and may be read now.
 abbrev pub is_owed : List AclEntry → Kept → List ChangeNumber → Place → Bool
-is_owed entries kept changes place = is_among place (later kept.change changes) && (is_subscribed kept.sub.paths place && may_read entries kept.sub.actor place)
+is_owed entries kept changes place = is_among place (later kept.change changes) && (is_named_by kept.sub.paths place && may_read entries kept.sub.actor place)
 
 -- the places that are owed, ascending and each once
 abbrev pub owed : List AclEntry → Kept → List ChangeNumber → List Place

@@ -1,16 +1,15 @@
 //! What is owed to a subscription, and whether it is time.
 
 ghost use Rattle.std.specs.Prelude.{◌≡◌, ◌&&◌, Some, IfOk};
-ghost use Rattle.std.specs.List.{list_any};
-ghost use Rattle.mt_meta.specs.Places.{fits, is_named};
+ghost use Rattle.mt_meta.specs.Places.{is_named_by};
 ghost use Rattle.mt_subs.specs.Changes.{is_among};
-ghost use Rattle.mt_subs.specs.Owed.{due_of, has_passed, is_subscribed, may_read, owed};
+ghost use Rattle.mt_subs.specs.Owed.{due_of, has_passed, may_read, owed};
 
 use crate::changes::Changes;
 use crate::subscription::Kept;
-use mt_acl::grants;
-use mt_meta::{Asked, all_places, privilege_asked};
-use mt_model::{AclEntry, Actor, ChangeNumber, Path, Place, Places};
+use mt_acl::grants_if_asked;
+use mt_meta::{Asked, all_places, is_named_by, privilege_asked};
+use mt_model::{AclEntry, Actor, ChangeNumber, Place, Places};
 use std::alloc::{AllocError, Global};
 
 // What is owed to a subscription, None where it is not due. The entries are those of its fabric.
@@ -63,10 +62,10 @@ fn owed(
 
 // Whether a place is owed, where these changes are later than the last report.
 fn is_owed(later: &[ChangeNumber], entries: &[AclEntry], kept: &Kept, place: &Place) -> bool
-    ensures { result ≡ (is_among place.now later.now && (is_subscribed kept.now.sub.paths place.now && may_read entries.now kept.now.sub.actor place.now)) }
+    ensures { result ≡ (is_among place.now later.now && (is_named_by kept.now.sub.paths place.now && may_read entries.now kept.now.sub.actor place.now)) }
 {
     is_among(later, place)
-        && is_subscribed(kept.sub.paths.as_slice(), place)
+        && is_named_by(kept.sub.paths.as_slice(), place)
         && may_read(entries, &kept.sub.actor, place)
 }
 
@@ -76,44 +75,14 @@ fn is_among(changes: &[ChangeNumber], place: &Place) -> bool
     changes.iter().any(|change| change.place == *place)
 }
 
-fn is_subscribed(paths: &[Path], place: &Place) -> bool
-    ensures { result ≡ is_subscribed paths.now place.now }
-{
-    paths.iter().any(|path| is_named(path, place))
-}
-
 fn may_read(entries: &[AclEntry], actor: &Actor, place: &Place) -> bool
     ensures { result ≡ may_read entries.now actor.now place.now }
 {
-    match privilege_asked(place, Asked::Read) {
-        Some(privilege) => grants(entries, actor, place, privilege, false).is_some(),
-        None => true,
-    }
-}
-
-// Whether the place has each field that the path has.
-fn is_named(path: &Path, place: &Place) -> bool
-    ensures { result ≡ is_named path.now place.now }
-{
-    fits_endpoint(path.endpoint, place.endpoint)
-        && fits_number(path.cluster, place.cluster)
-        && fits_number(path.leaf, place.leaf)
-}
-
-fn fits_endpoint(wanted: Option<u16>, endpoint: u16) -> bool
-    ensures { result ≡ fits wanted endpoint }
-{
-    match wanted {
-        None => true,
-        Some(wanted) => wanted == endpoint,
-    }
-}
-
-fn fits_number(wanted: Option<u32>, number: u32) -> bool
-    ensures { result ≡ fits wanted number }
-{
-    match wanted {
-        None => true,
-        Some(wanted) => wanted == number,
-    }
+    grants_if_asked(
+        entries,
+        actor,
+        place,
+        privilege_asked(place, Asked::Read),
+        false,
+    )
 }

@@ -1,7 +1,7 @@
 -- A write is denied exactly where nothing grants.
 use Rattle.std.proofs.Common.{◌≡◌, ℕ, ◌==◌, ◌||◌, ◌&&◌, ◌-◌, ◌++◌, is_none, length, not, Bool, true, false, List, [], ◌∷◌, Option, Some, None, Result, Ok, Err, refl, sym, ap, ◌∙◌, if◌then◌else◌}
 use Rattle.std.specs.List.{list_any}
-use Rattle.mt_acl.specs.Access.{implicit_grants, own_entry_grants}
+use Rattle.mt_acl.specs.Access.{implicit_grants, is_granted_if_asked, own_entry_grants}
 use Rattle.mt_meta.specs.Finding.{attribute_of, find_of, found, has_cluster, is_endpoint, privilege_of}
 use Rattle.mt_meta.specs.Forms.{count_in}
 use Rattle.mt_meta.specs.Table.{fields_of}
@@ -30,7 +30,7 @@ use Rattle.mt_meta.specs.Fields.{all_elements, has_type, is_item, is_within}
 use Rattle.mt_write.specs.Items.{given_items, in_front, is_append, kept_each, kept_item, new_items, with_room}
 use Rattle.mt_write.specs.Laws.{DeniesExactly, IsDenied}
 use Rattle.mt_write.specs.Latest.{entries_now, rows_now}
-use Rattle.mt_write.specs.Writing.{array_of, array_with, behind, entries_step, entries_written, fabric_of, is_allowed, is_entry_list, is_numbered, is_outdated, is_scoped, list_with, may_write, members_of, new_rows, new_value, open_at, own_values, row_step, rows_written, staying, written_at}
+use Rattle.mt_write.specs.Writing.{array_of, array_with, behind, entries_step, entries_written, fabric_of, is_entry_list, is_numbered, is_outdated, is_scoped, list_with, may_write, members_of, new_rows, new_value, open_at, own_values, row_step, rows_written, staying, written_at}
 
 -- What is no denial.
 
@@ -159,14 +159,14 @@ or_false : (a b : Bool) → (a || b) ≡ false → (a ≡ false) × (b ≡ false
 or_false true b h = absurd (cc)
 or_false false b h = (refl, h)
 
-denied_by : (seen : Seen) (actor : Actor) (place : Place) (asked : Option Privilege) → privilege_of place Write ≡ asked → is_allowed seen actor place asked ≡ false → IsDenied seen actor place
+denied_by : (seen : Seen) (actor : Actor) (place : Place) (asked : Option Privilege) → privilege_of place Write ≡ asked → is_granted_if_asked seen.entries actor place asked (is_scoped (find_of place)) ≡ false → IsDenied seen actor place
 denied_by seen actor place None is h = absurd (cc)
 denied_by seen actor place (Some asked) is h =
     let nothing = or_false (implicit_grants actor (is_scoped (find_of place))) (list_any (own_entry_grants actor place asked) seen.entries) h in
     record { asked = asked; is = is; implicit = nothing.0; entries = nothing.1 }
 
 not_granted : (seen : Seen) (actor : Actor) (place : Place) → IsDenied seen actor place → may_write seen actor place ≡ false
-not_granted seen actor place d = ap (is_allowed seen actor place) d.is ∙ (λ i. d.implicit i || d.entries i)
+not_granted seen actor place d = ap (λ asked. is_granted_if_asked seen.entries actor place asked (is_scoped (find_of place))) d.is ∙ (λ i. d.implicit i || d.entries i)
 
 module _ (seen : Seen) (actor : Actor) (timed : Bool) (steps : List NodeStep) (item : WriteItem) (place : Place) where
   abbrev outcome : Bool → Result NodeStep Status

@@ -2,7 +2,7 @@
 use Rattle.std.proofs.Common.{◌≡◌, ◌∙◌, ◌&&◌, ◌||◌, ◌==◌, not, is_none, is_ok, ℕ, Bool, true, false, List, [], Option, Some, None, Result, Ok, Err, refl, sym, ap, subst, if◌then◌else◌}
 use Rattle.std.specs.Result.{result_unwrap_or}
 use Rattle.std.proofs.lemmas.Bool.{and_parts, not_from_false}
-use Rattle.mt_acl.specs.Access.{is_granted, is_over_pase}
+use Rattle.mt_acl.specs.Access.{is_granted, is_granted_if_asked, is_over_pase}
 use Rattle.mt_meta.specs.Finding.{find_of, of_found, privilege_of}
 use Rattle.mt_meta.specs.Stored.{is_stored}
 use Rattle.mt_meta.specs.Writable.{fits_found, takes_of, takes_rightly}
@@ -20,7 +20,7 @@ use Rattle.mt_model.specs.declared.messages.status.Status.{Status}
 use Rattle.mt_tlv.specs.declared.value.Value.{Value}
 use Rattle.mt_write.specs.Latest.{entries_now, rows_now}
 use Rattle.mt_write.specs.Laws.{NobodySetsScoped, is_unscoped_step}
-use Rattle.mt_write.specs.Writing.{entries_written, fabric_of, is_allowed, is_entry_list, is_scoped, may_write, own_values, row_step, rows_written, written_at}
+use Rattle.mt_write.specs.Writing.{entries_written, fabric_of, is_entry_list, is_scoped, may_write, own_values, row_step, rows_written, written_at}
 use Rattle.mt_write.proofs.Steps.{Passes, each_passes}
 use Rattle.mt_write.proofs.KeptForms.{impossible}
 use Rattle.mt_write.proofs.Sound.{entry-list}
@@ -37,7 +37,7 @@ granted-nobody entries actor place asked scoped zero none granted =
     let by_pase : is_granted [] actor place asked scoped ≡ true = subst (λ (es : List AclEntry). is_granted es actor place asked scoped ≡ true) none granted in
     over-pase (is_over_pase actor) scoped (subst (λ (n : ℕ). ((is_over_pase actor && (not (n == 0) || not scoped)) || false) ≡ true) zero by_pase)
 
-allowed-nobody : (seen : Seen) (actor : Actor) (place : Place) (asked : Option Privilege) → actor.fabric ≡ 0 → seen.entries ≡ [] → is_none asked ≡ false → is_allowed seen actor place asked ≡ true → is_scoped (find_of place) ≡ false
+allowed-nobody : (seen : Seen) (actor : Actor) (place : Place) (asked : Option Privilege) → actor.fabric ≡ 0 → seen.entries ≡ [] → is_none asked ≡ false → is_granted_if_asked seen.entries actor place asked (is_scoped (find_of place)) ≡ true → is_scoped (find_of place) ≡ false
 allowed-nobody seen actor place None zero none writable may = impossible (sym writable)
 allowed-nobody seen actor place (Some asked) zero none writable may = granted-nobody seen.entries actor place asked (is_scoped (find_of place)) zero none may
 
@@ -54,7 +54,7 @@ module _ (law : (place : Place) → is_ok (find_of place) ≡ true → takes_rig
   unscoped-at : (place : Place) (meta : Meta) → find_of place ≡ Ok meta → may_write seen actor place ≡ true → is_none meta.write ≡ false → is_scoped (find_of place) ≡ false
   unscoped-at place meta there may writable =
       let asked : privilege_of place Write ≡ meta.write = ap (λ (r : Result Meta Status). result_unwrap_or (of_found (λ (m : Meta). m.write) r) (Some View)) there in
-      allowed-nobody seen actor place meta.write zero none writable (subst (λ (p : Option Privilege). is_allowed seen actor place p ≡ true) asked may)
+      allowed-nobody seen actor place meta.write zero none writable (subst (λ (p : Option Privilege). is_granted_if_asked seen.entries actor place p (is_scoped (find_of place)) ≡ true) asked may)
 
   step-unscoped : (steps : List NodeStep) (item : WriteItem) (place : Place) (meta : Meta) → find_of place ≡ Ok meta → may_write seen actor place ≡ true → is_none meta.write ≡ false
       → Passes is_unscoped_step (written_at seen actor steps item place (Ok meta))

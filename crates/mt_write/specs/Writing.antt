@@ -11,7 +11,6 @@ use Rattle.mt_model.specs.rows.Seen.{Seen}
 use Rattle.mt_model.specs.messages.Status.{code_of}
 use Rattle.mt_model.specs.declared.tables.access.AclEntry.{AclEntry}
 use Rattle.mt_model.specs.declared.tables.access.Actor.{Actor}
-use Rattle.mt_model.specs.declared.tables.access.Privilege.{Privilege}
 use Rattle.mt_model.specs.declared.node.action.NodeStep.{NodeStep}
 use Rattle.mt_model.specs.declared.node.action.NodeStep.TheVariants.{SetRow, SetEntries}
 use Rattle.mt_model.specs.declared.messages.message.Index.{Index}
@@ -24,7 +23,7 @@ use Rattle.mt_model.specs.declared.rows.place.Place.{Place}
 use Rattle.mt_model.specs.declared.rows.place.Row.{Row}
 use Rattle.mt_model.specs.declared.messages.status.Status.{Status}
 use Rattle.mt_model.specs.declared.messages.status.Status.TheVariants.{Success, UnsupportedAccess, InvalidAction, UnsupportedWrite, NeedsTimedInteraction, DataVersionMismatch, InvalidDataType, ConstraintError}
-use Rattle.mt_acl.specs.Access.{is_granted}
+use Rattle.mt_acl.specs.Access.{is_granted_if_asked}
 use Rattle.mt_meta.specs.Finding.{find_of, privilege_of}
 use Rattle.mt_meta.specs.Forms.{count_in}
 use Rattle.mt_meta.specs.Table.{fields_of}
@@ -49,13 +48,9 @@ abbrev pub is_scoped : Result Meta Status → Bool
 is_scoped (Ok meta) = meta.scoped
 is_scoped (Err status) = false
 
--- nobody needs a privilege for what is not writable, which is refused as such
-abbrev pub is_allowed : Seen → Actor → Place → Option Privilege → Bool
-is_allowed seen actor place None = true
-is_allowed seen actor place (Some privilege) = is_granted seen.entries actor place privilege (is_scoped (find_of place))
-
+-- no privilege is asked for what is not writable, which is refused as such
 abbrev pub may_write : Seen → Actor → Place → Bool
-may_write seen actor place = is_allowed seen actor place (privilege_of place Write)
+may_write seen actor place = is_granted_if_asked seen.entries actor place (privilege_of place Write) (is_scoped (find_of place))
 
 -- What stands in the way of an attribute that is there.
 

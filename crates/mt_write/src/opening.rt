@@ -5,7 +5,7 @@ ghost use Rattle.mt_model.specs.rows.Seen.{seen_as};
 ghost use Rattle.mt_meta.specs.Finding.{find_of};
 ghost use Rattle.mt_write.specs.Writing.{is_numbered, is_outdated, is_scoped, may_write, open_at, opened};
 
-use mt_acl::grants;
+use mt_acl::grants_if_asked;
 use mt_meta::{Asked, Meta, find, privilege_asked};
 use mt_model::{Actor, Index, Place, Sight, Status, WriteItem};
 
@@ -33,13 +33,10 @@ fn may_write<S: Sight>(sight: &S, actor: &Actor, place: &Place) -> bool
     ensures { let seen = seen_as actor.now.fabric (S.rows_of sight.now) (S.versions sight.now) (S.all_entries sight.now) in
         result ≡ may_write seen actor.now place.now }
 {
-    match privilege_asked(place, Asked::Write) {
-        Some(privilege) => {
-            let scoped = is_scoped(place);
-            grants(sight.entries(actor.fabric), actor, place, privilege, scoped).is_some()
-        },
-        None => true,
-    }
+    let entries = sight.entries(actor.fabric);
+    let asked = privilege_asked(place, Asked::Write);
+    let scoped = is_scoped(place);
+    grants_if_asked(entries, actor, place, asked, scoped)
 }
 
 // A place that is not there is not scoped.

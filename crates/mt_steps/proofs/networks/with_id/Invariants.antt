@@ -1,5 +1,5 @@
 use Rattle.std.proofs.Common.{◌≡◌, ◌++◌, drop, filter}
-use Rattle.mt_machine.specs.Effects.{has_id}
+use Rattle.mt_commission.specs.NetworkCommissioning.{has_id}
 use Rattle.mt_steps.proofs.networks.with_id.Given as goal
 
 -- those so far, and what becomes of those to come

@@ -1,10 +1,10 @@
 use Rattle.std.proofs.Common.{◌≡◌, ◌==◌, ◌&&◌, ◌∙◌, List, [], ◌∷◌, length, filter, ap, true, arith, refl, eqb-true, rules, sym}
 use Rattle.std.proofs.lemmas.Fn.{filter_same}
-use Rattle.mt_meta.specs.Places.{all_places}
+use Rattle.mt_meta.specs.Places.{all_places, is_named_by}
 use Rattle.mt_model.specs.declared.node.state.ChangeNumber.{ChangeNumber}
 use Rattle.mt_model.specs.declared.rows.place.Place.{Place}
 use Rattle.mt_subs.specs.Changes.{is_among, later}
-use Rattle.mt_subs.specs.Owed.{is_owed, is_subscribed, may_read}
+use Rattle.mt_subs.specs.Owed.{is_owed, may_read}
 use Rattle.mt_subs.proofs.Lists.{none_stays}
 use Rattle.mt_subs.proofs.owing.owed.Goals as goal
 
@@ -16,7 +16,7 @@ pub returns-then-is_empty : goal.returns-then-is_empty
 returns-then-is_empty c =
     let none : later c.args.kept.now.change c.args.changes.now ≡ [] = sym c.later-later.ensures ∙ nothing c.later-later.result.now (sym c.is_empty.ensures ∙ c.if-is_empty.true) in
     c.new.ensures
-    ∙ sym (none_stays (is_owed c.args.entries.now c.args.kept.now c.args.changes.now) all_places (λ place. ap (λ (l : List ChangeNumber). is_among place l && (is_subscribed c.args.kept.now.sub.paths place && may_read c.args.entries.now c.args.kept.now.sub.actor place)) none))
+    ∙ sym (none_stays (is_owed c.args.entries.now c.args.kept.now c.args.changes.now) all_places (λ place. ap (λ (l : List ChangeNumber). is_among place l && (is_named_by c.args.kept.now.sub.paths place && may_read c.args.entries.now c.args.kept.now.sub.actor place)) none))
 
 pub returns : goal.returns
 returns c =

@@ -1,18 +1,14 @@
--- The fields of a command. Their form is asked before; here what has another form is read as what is not there: as 0, as no
--- bytes, or as what is not given.
-use Rattle.std.specs.Prelude.{ℕ, List, [], Option, Some, None, unwrap_or}
-use Rattle.mt_tlv.specs.Tree.{Tree, uint, text, octets, Elements}
+-- What stands in the fields of a command. Their form is asked before; here what is missing or has another form is read as 0, as
+-- no bytes, as false, or as what is not given.
+use Rattle.std.specs.Prelude.{ℕ, Bool, false, List, [], Option, Some, None, option_and_then, unwrap_or}
+use Rattle.mt_tlv.specs.Tree.{Tree, uint, bool, text, octets}
 use Rattle.mt_tlv.specs.View.{tree}
 use Rattle.mt_tlv.specs.declared.value.Value.{Value}
 use Rattle.mt_model.specs.Trees.{field_in, structure_in}
 
-abbrev pub field_among : ℕ → Option Elements → Option Tree
-field_among number None = None
-field_among number (Some es) = field_in number es
-
 -- the first field of this number
 abbrev pub field_of : ℕ → Value → Option Tree
-field_of number fields = field_among number (structure_in (tree fields))
+field_of number fields = option_and_then (field_in number) (structure_in (tree fields))
 
 -- Numbers.
 
@@ -42,3 +38,12 @@ text_in field = []
 
 abbrev pub text_of : ℕ → Value → List ℕ
 text_of number fields = text_in (field_of number fields)
+
+-- Truth values.
+
+abbrev pub flag_in : Option Tree → Bool
+flag_in (Some (bool flag)) = flag
+flag_in field = false
+
+abbrev pub flag_of : ℕ → Value → Bool
+flag_of number fields = flag_in (field_of number fields)
