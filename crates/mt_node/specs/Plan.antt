@@ -1,6 +1,6 @@
 -- What an outcome stands for.
 use Rattle.std.specs.Prelude.{◌≡◌, ℕ, ◌+◌, ◌≤◌, ◌==◌, ◌&&◌, ⊤, not, true, List, [], ◌∷◌, Option, None, Some, filter, if◌then◌else◌, length, vec_capacity}
-use Rattle.std.specs.Global.{Vec}
+use Rattle.std.specs.Global.{Box, Vec}
 use Rattle.std.specs.List.{list_all, sum_by}
 use Rattle.std.specs.Option.{option_and_then}
 use Rattle.mt_model.specs.rows.Setting.{is_other_at, with_rows}
@@ -13,7 +13,7 @@ use Rattle.mt_model.specs.declared.rows.place.Place.{Place}
 use Rattle.mt_model.specs.declared.rows.place.Row.{Row}
 use Rattle.mt_model.specs.declared.node.state.NodeState.{NodeState}
 use Rattle.mt_machine.specs.Changes.{changed_at}
-use Rattle.mt_machine.specs.Effects.{after_all, is_setting_step}
+use Rattle.mt_machine.specs.Effects.{after_all, events_in, is_setting_step}
 use Rattle.mt_machine.specs.Given.{Given}
 use Rattle.mt_machine.specs.Isolation.{has_fabric}
 use Rattle.mt_machine.specs.Leaving.{has_left}
@@ -28,12 +28,20 @@ use Rattle.mt_node.specs.declared.outcome.Outcome.{Outcome}
 abbrev pub made_by : Outcome → NodeState → NodeState
 made_by outcome s = changed_at outcome.places s (after_all outcome.asking outcome.steps s)
 
-abbrev pub applied_as : Option NodeState → Outcome → NodeState → NodeState
+abbrev pub applied_as : Option (Box NodeState) → Outcome → NodeState → NodeState
 applied_as None outcome s = made_by outcome (at_time outcome.clock s)
-applied_as (Some behind) outcome s = behind
+applied_as (Some behind) outcome s = behind.value
 
 abbrev pub applied : Outcome → NodeState → NodeState
 applied outcome s = applied_as outcome.behind outcome s
+
+-- the events that an outcome tells; one that brings a state keeps them alone of its steps
+abbrev pub told_as : Option (Box NodeState) → List NodeStep → List NodeStep
+told_as None steps = events_in steps
+told_as (Some behind) steps = steps
+
+abbrev pub told_by : Outcome → List NodeStep
+told_by outcome = told_as outcome.behind outcome.steps
 
 -- on whose session it was asked, which sessions end, which fabric goes
 abbrev pub aside_in : Outcome → Aside
@@ -87,31 +95,26 @@ pub record HasRoom (s : NodeState) (outcome : Outcome) : Type 0 where
 
 -- An outcome that brings no state makes steps that set rows and entries, in the room that it brings.
 
-abbrev pub IsReadyAs : Option NodeState → NodeState → Outcome → Type 0
+abbrev pub IsReadyAs : Option (Box NodeState) → NodeState → Outcome → Type 0
 IsReadyAs None s outcome = (list_all is_setting_step outcome.steps ≡ true) × HasRoom s outcome
 IsReadyAs (Some behind) s outcome = ⊤
 
 abbrev pub IsReady : NodeState → Outcome → Type 0
 IsReady s outcome = IsReadyAs outcome.behind s outcome
 
--- An outcome that brings no state makes these steps as it is put in place.
-abbrev pub MakesSteps : Option NodeState → Outcome → List NodeStep → Type 0
-MakesSteps None outcome steps = outcome.steps ≡ steps
-MakesSteps (Some behind) outcome steps = ⊤
-
--- The outcome is that of an answer to whoever is taken as asking, at this time, whose steps it makes.
+-- The outcome is that of an answer to whoever is taken as asking, at this time, whose steps it makes. It tells the same events.
 pub record IsMade (s : NodeState) (asking : Option Actor) (answered : Effect) (now : ℕ) (outcome : Outcome) : Type 0 where
   pub reply : outcome.reply ≡ answered.reply
-  pub steps : MakesSteps outcome.behind outcome answered.steps
+  pub told : told_by outcome ≡ events_in answered.steps
   pub aside : aside_in outcome ≡ aside_between (option_and_then (λ (actor : Actor). actor.session) asking) s (after_steps asking answered.steps (at_time now s))
   pub state : applied outcome s ≡ after_steps asking answered.steps (at_time now s)
   pub ready : IsReady s outcome
 
--- The outcome is that of this action at this time, where this is given. The state behind it is valid, and the fabric that leaves the table,
--- where one does, is the one that is gone.
+-- The outcome is that of this action at this time, where this is given: what is answered, the events that are told, the state. The state
+-- behind it is valid, and the fabric that leaves the table, where one does, is the one that is gone.
 pub record IsPlan (given : Given) (s : NodeState) (action : Action) (now : ℕ) (outcome : Outcome) : Type 0 where
   pub reply : outcome.reply ≡ reply_of given s action now
-  pub steps : MakesSteps outcome.behind outcome (steps_of given s action now)
+  pub told : told_by outcome ≡ events_in (steps_of given s action now)
   pub aside : aside_in outcome ≡ aside_of given s action now
   pub state : applied outcome s ≡ after_action given s action now
   pub ready : IsReady s outcome

@@ -81,7 +81,8 @@ fn member(state: &NodeState, actor: &Actor) -> Option<Actor>
     None
 }
 
-fn has_fabric(fabrics: &[Fabric], index: u8) -> bool
+/// Whether a fabric of this index is in the table.
+pub(crate) fn has_fabric(fabrics: &[Fabric], index: u8) -> bool
     ensures { result ≡ is_among fabrics.now index }
 {
     fabrics.iter().any(|fabric| fabric.index == index)

@@ -2,6 +2,7 @@
 //! in place takes no memory.
 
 ghost use Rattle.std.specs.Prelude.{◌≡◌, true, IfOk};
+ghost use Rattle.mt_machine.specs.Effects.{events_in};
 ghost use Rattle.mt_machine.specs.Step.{after_steps, at_time};
 ghost use Rattle.mt_machine.specs.Taking.{may_take_all};
 ghost use Rattle.mt_node.specs.Plan.{IsMade};
@@ -11,9 +12,9 @@ use crate::effects::{session_of, settle};
 use crate::node::Node;
 use crate::outcome::Outcome;
 use mt_machine::{states_are_valid, steps_leave_states_valid};
-use mt_model::{Actor, Effect, ExactCopy, NodeState, Places, Steps};
+use mt_model::{Actor, Effect, ExactCopy, NodeState, NodeStep, Places, Steps};
 use mt_steps::make_all;
-use std::alloc::AllocError;
+use std::alloc::{AllocError, Global};
 
 /// The outcome of an answer whose steps the state takes: sessions may end, and a fabric may leave.
 pub(crate) fn made_whole(
@@ -27,6 +28,7 @@ pub(crate) fn made_whole(
 {
     let alloc = node.alloc;
     let Effect { reply, steps } = answered;
+    let told = events_in(alloc, steps.as_slice())?;
     let behind = state_behind(node, asking, steps, now)?;
     let before = &node.state;
     let closed = closed_between(
@@ -41,13 +43,37 @@ pub(crate) fn made_whole(
         closed,
         gone,
         asking,
-        behind: Some(behind),
-        steps: Steps::new(alloc),
+        behind: Some(Box::new(alloc, behind)?),
+        steps: told,
         places: Places::new(alloc),
         rows_rooms: Vec::new(alloc),
         entries_room: Vec::new(alloc),
         clock: now,
     })
+}
+
+// The events among steps.
+fn events_in(alloc: Global, steps: &[NodeStep]) -> Result<Steps, AllocError>
+    ensures { IfOk result (λ told. told ≡ events_in steps.now) }
+{
+    let mut told = Steps::new(alloc);
+    for step in steps {
+        if let NodeStep::Emit {
+            place,
+            priority,
+            fabric,
+            value,
+        } = step
+        {
+            told.push(NodeStep::Emit {
+                place: *place,
+                priority: *priority,
+                fabric: *fabric,
+                value: value.copy()?,
+            })?;
+        }
+    }
+    Ok(told)
 }
 
 // The state behind the steps, with the versions and change numbers that follow.

@@ -5,9 +5,10 @@ ghost use Rattle.mt_model.specs.rows.Order.{fabrics_ascend};
 ghost use Rattle.mt_model.specs.rows.Same.{are_same_rows};
 ghost use Rattle.mt_model.specs.texts.Config.{ascend_from};
 ghost use Rattle.mt_machine.specs.Changes.{differing, differs};
-ghost use Rattle.mt_machine.specs.State.{IsValid, is_among};
+ghost use Rattle.mt_machine.specs.State.{IsValid};
 ghost use Rattle.mt_machine.specs.Step.{closed_between, gone_between, is_live};
 
+use crate::actors::has_fabric;
 use crate::node::Node;
 use crate::sight::view_of;
 use mt_apps::rows_at;
@@ -135,15 +136,9 @@ pub(crate) fn gone_between(fabrics: &[Fabric], behind: &[Fabric]) -> Option<u8>
     ensures { result ≡ gone_between fabrics.now behind.now }
 {
     for fabric in fabrics {
-        if !is_among(behind, fabric.index) {
+        if !has_fabric(behind, fabric.index) {
             return Some(fabric.index);
         }
     }
     None
-}
-
-fn is_among(fabrics: &[Fabric], index: u8) -> bool
-    ensures { result ≡ is_among fabrics.now index }
-{
-    fabrics.iter().any(|fabric| fabric.index == index)
 }

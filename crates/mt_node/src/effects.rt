@@ -167,7 +167,7 @@ pub(crate) fn apply(alloc: Global, state: &mut NodeState, outcome: Outcome)
         ..
     } = outcome;
     match behind {
-        Some(behind) => *state = behind,
+        Some(behind) => *state = Box::into_inner(behind),
         None => {
             state.clock = clock;
             make(alloc, state, steps, rows_rooms, entries_room);
@@ -176,7 +176,7 @@ pub(crate) fn apply(alloc: Global, state: &mut NodeState, outcome: Outcome)
     }
 }
 
-// Makes the steps. Where there is none, nothing is moved.
+// Makes the steps, of which those on entries want these in the room that is there for them. Where there is no step, nothing is moved.
 fn make(
     alloc: Global,
     state: &mut NodeState,
@@ -195,25 +195,6 @@ fn make(
     if steps.is_empty() {
         return;
     }
-    make_in_room(alloc, state, steps, rows_rooms, entries_room);
-}
-
-// Moves the entries into the room that is there for them, and makes the steps.
-fn make_in_room(
-    alloc: Global,
-    state: &mut NodeState,
-    steps: Steps,
-    rows_rooms: Vec<Vec<Row>>,
-    entries_room: Vec<AclEntry>,
-)
-    requires steps { list_all is_setting_step steps ≡ true }
-    requires ascending { IsTrue (ascend_from 0 state.old.entries) }
-    requires rows { HaveRoom state.old.rows steps rows_rooms.items }
-    requires no_entries { entries_room.items ≡ [] }
-    requires entries { length state.old.entries + sum_by entries_in steps ≤ vec_capacity entries_room }
-    ensures made { (asking : Option Actor) → state.new ≡ after_all asking steps state.old }
-    ensures kept { state.new ≡ record state.old { rows = state.new.rows; entries = state.new.entries } }
-{
     let entries = replace(&mut state.entries, AclEntries::new(alloc));
     let mut entries = moved(entries.into_vec(), entries_room);
     make_steps(steps, rows_rooms, &mut state.rows, &mut entries);

@@ -1,6 +1,6 @@
 //! The node.
 
-ghost use Rattle.std.specs.Prelude.{◌≡◌, ◌↔◌, ◌∷◌, [], None, Some, true, false, IfOk, if◌then◌else◌};
+ghost use Rattle.std.specs.Prelude.{◌≡◌, ◌↔◌, ◌∷◌, [], None, Some, true, false, IfOk, if◌then◌else◌, option_copied};
 ghost use Rattle.mt_model.specs.declared.node.action.NodeStep.TheVariants.{Expire};
 ghost use Rattle.mt_machine.specs.Given.{Given};
 ghost use Rattle.mt_machine.specs.Rollback.{is_due};
@@ -177,6 +177,13 @@ impl Node {
         ensures { IsValid self.now.state }
     {
         let _ = &self.state;
+    }
+
+    /// The fail-safe, None exactly where nobody has armed it.
+    pub fn armed(&self) -> Option<&Armed>
+        ensures { option_copied result ≡ self.now.state.armed }
+    {
+        self.state.armed.as_ref()
     }
 
     /// The actor of a session, None exactly where the session may not be used.

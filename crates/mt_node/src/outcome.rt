@@ -15,9 +15,10 @@ pub struct Outcome {
     pub gone: Option<u8>,
     /// Who is taken as asking.
     pub(crate) asking: Option<Actor>,
-    /// The state behind the action, where that is made whole; None where the steps make it.
-    pub(crate) behind: Option<NodeState>,
-    /// What is made of the state, step by step.
+    /// The state behind the action, where that is made whole; None where the steps make it. It is apart, since an outcome is
+    /// handed on often and seldom has one.
+    pub(crate) behind: Option<Box<NodeState>>,
+    /// What is made of the state, step by step; where the state is made whole, the events alone.
     pub(crate) steps: Steps,
     /// The attributes that differ behind the steps.
     pub(crate) places: Places,

@@ -1,6 +1,6 @@
 //! The whole.
 
-ghost use Rattle.std.specs.Prelude.{◌≡◌, IfOk};
+ghost use Rattle.std.specs.Prelude.{◌≡◌, IfOk, option_copied};
 ghost use Rattle.mt_machine.specs.Lines.{is_built_payload};
 ghost use Rattle.mt_im.specs.Reading.{request_in};
 ghost use Rattle.mt_whole.specs.Kept.{given_to, in_state, started};
@@ -10,7 +10,7 @@ use crate::lines::{line_actor, planned_line};
 use crate::outcome::WholeOutcome;
 use crate::ticks::planned_tick;
 use mt_im::{ImFault, decode};
-use mt_model::{Actor, Config, Event, PlainDeadlines, Request, Verdicts};
+use mt_model::{Actor, Armed, Config, Event, PlainDeadlines, Request, Verdicts};
 use mt_node::{Node, is_built_request};
 use mt_tlv::Bytes;
 use std::alloc::{AllocError, Global};
@@ -81,6 +81,13 @@ impl Whole {
             Event::Resend { .. } => Ok(None),
             Event::Stop { .. } => Ok(None),
         }
+    }
+
+    /// The fail-safe, None exactly where nobody has armed it.
+    pub fn armed(&self) -> Option<&Armed>
+        ensures { option_copied result ≡ self.now.state.node.armed }
+    {
+        self.node.armed()
     }
 
     // Plans a line of a plain actor, None where its payload asks what is not built.

@@ -25,7 +25,7 @@ returns c =
     let session = option_and_then (λ (actor : Actor). actor.session) asking in
     record {
       reply = refl;
-      steps = refl;
+      told = refl;
       aside = (λ i. record { session = c.session_of.ensures i; closed = c.new.ensures i; gone = None }) ∙ sym (c.actions_set_values.ensures.nothing_ends session asking steps s c.args.now c.requires);
       state =
           let differ = c.in_ok-places.ensures asking c.args.now (subst (λ (l : List NodeStep). list_all is_setting_step l ≡ true) (sym same) c.requires) in

@@ -17,7 +17,7 @@ returns c = λ s.
     let session = option_and_then (λ (actor : Actor). actor.session) asking in
     record {
       reply = refl;
-      steps = refl;
+      told = refl;
       aside = (λ i. record { session = c.session_of.ensures i; closed = c.new.ensures i; gone = None }) ∙ sym (c.actions_set_values.ensures.nothing_ends session asking steps s c.args.now settings);
       state = none_made c.actions_set_values.ensures.settled c.actions_set_values.ensures.nowhere asking steps c.new-2.result (at_time c.args.now s) c.requires c.new-2.ensures;
       ready = (

@@ -1,6 +1,6 @@
 use Rattle.std.proofs.Common.{◌≡◌, ◌∙◌, sym}
 use Rattle.mt_machine.specs.Effects.{after_all}
-use Rattle.mt_node.proofs.effects.make_in_room.Goals as goal
+use Rattle.mt_node.proofs.effects.make.Goals as goal
 
 pub returns-clause-made : goal.returns-clause-made
 returns-clause-made c = λ asking.
