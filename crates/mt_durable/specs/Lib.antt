@@ -1,4 +1,9 @@
 pub mod Changes
+pub mod Images
+pub mod Keepers
+pub mod Keeping
 pub mod Keys
 pub mod Maps
+pub mod Reading
+pub mod Readings
 pub mod Setting

@@ -1,10 +1,11 @@
 //! A change as bytes.
 
-ghost use Rattle.std.specs.Prelude.{◌≡◌, ◌++◌, IfOk, OnOk};
+ghost use Rattle.std.specs.Prelude.{◌≡◌, ◌++◌, IfOk, IsTrue, OnOk};
 ghost use Rattle.mt_durable.specs.Changes.{change_bytes, entry_tree, entry_trees};
+ghost use Rattle.mt_durable.specs.Maps.{have_values, keys_ascend};
 ghost use Rattle.mt_tlv.specs.View.{elements, tree};
 
-use crate::durable::{Change, Entry};
+use crate::durable::{Change, Durable, Entry};
 use mt_tlv::{Members, Tag, Value, write};
 use std::alloc::{AllocError, Global};
 
@@ -19,6 +20,15 @@ pub fn write_change(alloc: Global, change: Change, out: &mut Vec<u8>) -> Result<
     }
     let array = Value::Array(Members::from_vec(structures));
     write(&Tag::Anonymous, &array, out)
+}
+
+/// Writes the image of a map at the end: the bytes of the change that leads to it from the empty map.
+pub fn write_image(alloc: Global, map: &Durable, out: &mut Vec<u8>) -> Result<(), AllocError>
+    ensures written { OnOk result (out.new.items ≡ out.old.items ++ change_bytes map.now) }
+    ensures ascend { OnOk result (IsTrue (keys_ascend map.now)) }
+    ensures whole { OnOk result (IsTrue (have_values map.now)) }
+{
+    write_change(alloc, map.copy()?.into_change(), out)
 }
 
 // An entry as a structure.

@@ -17,6 +17,22 @@ pub struct Entry {
     pub value: Option<Value>,
 }
 
+impl Entry {
+    /// The same entry, in memory of the same allocators.
+    pub fn copy(&self) -> Result<Self, AllocError>
+        ensures { IfOk result (λ entry. entry ≡ self.now) }
+    {
+        let value = match &self.value {
+            Some(value) => Some(value.copy()?),
+            None => None,
+        };
+        Ok(Entry {
+            key: self.key.copy()?,
+            value,
+        })
+    }
+}
+
 /// A change: entries whose keys ascend.
 #[derive(Drop)]
 pub struct Change {
@@ -117,16 +133,59 @@ impl Durable {
         self.entries.as_slice()
     }
 
+    /// The same map, in memory of the same allocator.
+    pub fn copy(&self) -> Result<Self, AllocError>
+        ensures { IfOk result (λ map. map ≡ self.now) }
+    {
+        let mut entries = Vec::with_capacity(*self.entries.allocator(), self.entries.len())?;
+        for entry in &self.entries {
+            entries.push(entry.copy()?)?;
+        }
+        Ok(Durable { entries })
+    }
+
+    /// The change that leads to the map from the empty one, in the same memory.
+    pub fn into_change(self) -> Change
+        ensures { result ≡ self }
+    {
+        Change {
+            entries: self.entries,
+        }
+    }
+
+    /// The value under a key, None where there is none.
+    pub fn get(&self, key: &[u8]) -> Option<&Value>
+        ensures { option_map (λ value. value.now) result ≡ value_under key.now self.now }
+    {
+        value_under(key, self.entries.as_slice())
+    }
+
     /// Merges a change: under each key that it names stands what it says, and all others stay. Where no
     /// memory is left, the map stays as it is.
     pub fn merge(&mut self, change: Change) -> Result<(), AllocError>
         ensures merged { OnOk result (Merged change self.old self.new) }
+        // That is the map after its entries, one after the other.
+        ensures one_by_one { OnOk result (self.new ≡ with_all change self.old) }
         ensures err { OnErr result (self.new ≡ self.old) }
     {
         let change = change.into_vec();
         self.entries.reserve(change.len())?;
         set_all(&mut self.entries, change);
         Ok(())
+    }
+}
+
+// The value under a key.
+fn value_under<'a>(key: &[u8], entries: &'a [Entry]) -> Option<&'a Value>
+    ensures { option_map (λ value. value.now) result ≡ value_under key.now entries.now }
+{
+    let [first, rest @ ..] = entries else {
+        return None;
+    };
+    if is_same(key, first.key.as_slice()) {
+        first.value.as_ref()
+    } else {
+        value_under(key, rest)
     }
 }
 

@@ -3,16 +3,26 @@
 //!
 //! - `key`: the order of keys;
 //! - `durable`: the map, and a change merged into it;
-//! - `change`: a change as bytes.
+//! - `change`: a change as bytes, `reading`: a change from its bytes;
+//! - `keeper`: what keeps the map, `list_keeper`: a form of it in memory, some of whose calls fail;
+//! - `laws`: what holds of maps and changes, whatever they are.
 #![tactic(auto)]
 
 mod change;
 mod durable;
+mod keeper;
 mod key;
+mod laws;
+mod list_keeper;
+mod reading;
 
-pub use change::write_change;
+pub use change::{write_change, write_image};
 pub use durable::{Change, Durable, Entry};
+pub use keeper::Keeper;
 pub use key::is_before;
+pub use laws::{changes_lead_on, maps_have_images};
+pub use list_keeper::ListKeeper;
+pub use reading::{ChangeFault, bytes_of_a_change_are_read, read_change};
 
 #[cfg(test)]
 mod tests;

@@ -1,6 +1,9 @@
-use crate::change::write_change;
+use crate::change::{write_change, write_image};
 use crate::durable::{Change, Durable, Entry};
+use crate::keeper::Keeper;
 use crate::key::is_before;
+use crate::list_keeper::ListKeeper;
+use crate::reading::{ChangeFault, read_change};
 use mt_tlv::{Bytes, Value};
 use std::alloc::{AllocError, Global};
 use std::test::Fail;
@@ -53,5 +56,37 @@ fn changes_are_merged_and_written(rt: HostRuntime) -> Result<(), Fail> {
         b"\x16\x15\x30\x00\x01\x02\x25\x01\x00\x04\x18\x15\x30\x00\x01\x03\x18\x18".as_slice()
     );
     assert_eq!(rt; is_before(b"\x01\x02".as_slice(), b"\x02".as_slice()), true);
+    Ok(())
+}
+
+// A change, with a byte behind it, with a number in four bytes and with a key that stands twice.
+#[test]
+fn changes_are_read(rt: HostRuntime) -> Result<(), Fail> {
+    let alloc = rt.alloc();
+    let bytes = b"\x16\x15\x30\x00\x01\x02\x25\x01\x00\x04\x18\x18".as_slice();
+    let mut map = Durable::new(alloc);
+    if let Ok(change) = read_change(alloc, bytes) {
+        map.merge(change)?;
+    }
+    assert_eq!(rt; map.get(b"\x02".as_slice()).is_some(), true);
+    assert_eq!(rt; map.get(b"\x01".as_slice()).is_none(), true);
+    let mut again = Vec::new(alloc);
+    write_image(alloc, &map, &mut again)?;
+    assert_eq!(rt; again.as_slice(), bytes);
+
+    let none = [
+        b"\x16\x15\x30\x00\x01\x02\x25\x01\x00\x04\x18\x18\x00".as_slice(),
+        b"\x16\x15\x30\x00\x01\x02\x26\x01\x00\x04\x00\x00\x18\x18".as_slice(),
+        b"\x16\x15\x30\x00\x01\x02\x18\x15\x30\x00\x01\x02\x18\x18".as_slice(),
+    ];
+    for bytes in none {
+        assert_eq!(rt;
+            read_change(alloc, bytes).err(),
+            Some(ChangeFault::NotAChange)
+        );
+    }
+    let keeper = ListKeeper::new(alloc, &map, &[])?;
+    assert_eq!(rt; keeper.map().as_slice().len(), 1);
+    assert_eq!(rt; keeper.faults(), 0);
     Ok(())
 }

@@ -25,3 +25,9 @@ returns-clause-merged c =
     subst (λ (l : List Entry). Merged l c.args.self.now c.set_all.new.entries.items) c.into_vec-change.ensures.value
     (subst (λ (l : List Entry). Merged change l c.set_all.new.entries.items) c.self.view_is
     (subst (λ (l : List Entry). Merged change old l) (sym items) made))
+
+pub returns-clause-one_by_one : goal.returns-clause-one_by_one
+returns-clause-one_by_one c =
+    c.set_all.ensures.items
+    ∙ ap (λ (l : List Entry). with_all c.into_vec-change.result.items l) (c.reserve.ensures.items ∙ c.self.view_is)
+    ∙ ap (λ (l : List Entry). with_all l c.args.self.now) c.into_vec-change.ensures.value

@@ -1,0 +1,35 @@
+//! What keeps durable state, change by change.
+
+ghost use Rattle.std.specs.Prelude.{◌≡◌, ◌≤◌, Bool, List, ℕ, Option, false, is_err, length, IsErr, IsTrue, OnErr, OnOk};
+ghost use Rattle.mt_durable.specs.Keeping.{Committed, HasRoom, IsChange, WasOrCommitted};
+ghost use Rattle.mt_durable.specs.declared.durable.Entry.{Entry};
+ghost use Rattle.mt_outside.specs.Stream.{HasCause};
+
+use mt_outside::Failed;
+
+/// What keeps durable state: what was committed is there after any loss of power.
+pub trait Keeper {
+    /// The entries of the map to which its commits have led, where it can tell.
+    ghost map: { Self → Option (List Entry) };
+
+    /// Whether a commit has failed. Then each further one fails, until the keeper is made again.
+    ghost failed: { Self → Bool };
+
+    /// How many calls have failed, up to 2^64 - 1.
+    ghost faults: { Self → ℕ };
+
+    /// Commits a change: the bytes of one, as `write_change` writes them. After `Failed` the map is the one
+    /// with the change or the one without it, and the keeper commits no more.
+    fn commit(&mut self, change: &[u8]) -> Result<(), Failed>
+        requires form { IsChange change.now }
+        requires room { HasRoom change.now (map self.old) }
+        ensures committed { OnOk result (Committed change.now (map self.old) (map self.new)) }
+        ensures part { OnErr result (WasOrCommitted change.now (map self.old) (map self.new)) }
+        ensures failed { failed self.new ≡ is_err result }
+        ensures stays { IsTrue (failed self.old) → IsErr result × (map self.new ≡ map self.old) × (faults self.new ≡ faults self.old) }
+        ensures cause { failed self.old ≡ false → HasCause (faults self.old) (faults self.new) result };
+
+    /// How many calls have failed, up to 2^64 - 1.
+    fn faults(&self) -> u64
+        ensures { result ≡ faults self.now };
+}

@@ -1,0 +1,9 @@
+use Rattle.std.proofs.Common.{◌≡◌, ◌≤◌, ◌^◌, length}
+use Rattle.mt_file_disk.proofs.file_disk.read_all_at.Given as goal
+
+abbrev pub invariant-loop : goal.invariant-loop
+invariant-loop l = record {
+  within : l.at ≤ 2 ^ 62;
+  read : l.count ≤ length l.into;
+  into : length l.into ≡ length l.fn.into;
+}

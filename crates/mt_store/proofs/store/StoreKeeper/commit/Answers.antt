@@ -1,0 +1,22 @@
+use Rattle.std.proofs.Common.{◌≡◌, List, ap, ◌∙◌}
+use Rattle.std.specs.Prelude.{Some}
+use Rattle.mt_durable.specs.Reading.{said}
+use Rattle.mt_durable.specs.Setting.{with_all}
+use Rattle.mt_durable.specs.declared.durable.Entry.{Entry}
+use Rattle.mt_store.proofs.Maps.{said_is}
+use Rattle.mt_store.proofs.store.StoreKeeper.commit.Goals as goal
+
+pub returns-in_err-put-clause-moments : goal.returns-in_err-put-clause-moments
+returns-in_err-put-clause-moments g c = λ keeps.
+    (let next : said c.as_slice.result.now ≡ with_all (said c.args.change.now) c.args.self.now.image =
+    said_is c.bytes_of_a_change_are_read.ensures.read c.follow.new.self c.as_slice.result.now c.as_slice.ensures.says ∙ c.follow.ensures.value in
+    c.in_err-put.ensures.moments c.args.self.now.image next keeps)
+
+pub returns-clause-committed : goal.returns-clause-committed
+returns-clause-committed g c = (c.follow.new.self, c.follow.ensures.leads, ap (λ (m : List Entry). Some m) c.swap.ensures.x_after)
+
+pub returns-clause-moments : goal.returns-clause-moments
+returns-clause-moments g c = λ keeps.
+    (let next : said c.as_slice.result.now ≡ with_all (said c.args.change.now) c.args.self.now.image =
+    said_is c.bytes_of_a_change_are_read.ensures.read c.follow.new.self c.as_slice.result.now c.as_slice.ensures.says ∙ c.follow.ensures.value in
+    c.in_ok-put.ensures.moments c.args.self.now.image next keeps)

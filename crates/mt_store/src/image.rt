@@ -1,0 +1,87 @@
+//! The image of a map, in memory of which there is always enough.
+
+ghost use Rattle.std.specs.Prelude.{◌≡◌, ◌<◌, Some, length, IfOk, IsTrue};
+ghost use Rattle.mt_durable.specs.Changes.{change_bytes, entry_trees};
+ghost use Rattle.mt_durable.specs.Keeping.{HasRoom, IsChange, LeadsTo};
+ghost use Rattle.mt_durable.specs.Maps.{have_values};
+ghost use Rattle.mt_durable.specs.Reading.{Says, said};
+ghost use Rattle.mt_durable.specs.Setting.{with_all};
+ghost use Rattle.mt_store.specs.Leading.{IfNotAChange};
+ghost use Rattle.mt_tlv.specs.Limits.{IsAllowed, deepest};
+ghost use Rattle.mt_tlv.specs.Tree.{array};
+
+use crate::map_form::MapForm;
+use mt_durable::{
+    ChangeFault, Durable, bytes_of_a_change_are_read, changes_lead_on, maps_have_images,
+    write_image,
+};
+use std::alloc::Global;
+use std::marker::Model;
+
+// How long an image is at most, as an element.
+const LONGEST: usize = 65_535;
+
+/// A map as its image, the bytes of the change that leads to it from the empty map. Contracts see the
+/// entries of the map. There is room for the longest image.
+#[derive(Drop)]
+pub struct Image {
+    bytes: Vec<u8>,
+}
+
+impl Model for Image {
+    ghost use Rattle.std.specs.Prelude.{List, ◌≤◌, vec_capacity};
+    ghost use Rattle.std.specs.Coded.{codes};
+    ghost use Rattle.mt_tlv.specs.contracts.value.Value as values;
+    ghost use Rattle.mt_durable.specs.Images.{IsImage};
+    ghost use Rattle.mt_durable.specs.Reading.{said};
+    ghost use Rattle.mt_durable.specs.declared.durable.Entry.{Entry};
+
+    ghost Value = { List Entry };
+
+    ghost coded = { Prim.hlevel (codes, values.the_row.coded) };
+
+    ghost view = { λ image. said image.bytes.items };
+
+    ghost invariant = { λ image. IsImage image.bytes.items × (65535 ≤ vec_capacity image.bytes) };
+}
+
+impl Image {
+    /// The image of a map whose values may stand in an element. NotAChange says that it would be longer than
+    /// an element may be.
+    pub fn of_map(alloc: Global, map: &Durable) -> Result<Self, ChangeFault>
+        requires { IsAllowed (array (entry_trees map.now)) deepest }
+        ensures value { IfOk result (λ image. image ≡ map.now) }
+        ensures refused { IfNotAChange result (65535 < length (change_bytes map.now)) }
+    {
+        bytes_of_a_change_are_read();
+        maps_have_images();
+        let mut bytes = Vec::new(alloc);
+        write_image(alloc, map, &mut bytes)?;
+        if bytes.len() > LONGEST {
+            return Err(ChangeFault::NotAChange);
+        }
+        bytes.reserve(LONGEST - bytes.len())?;
+        Ok(Image { bytes })
+    }
+
+    /// The bytes.
+    pub fn as_slice(&self) -> &[u8]
+        ensures says { Says self.now result.now }
+        ensures whole { IsTrue (have_values self.now) }
+    {
+        self.bytes.as_slice()
+    }
+
+    /// Becomes the image of the map to which a change leads from that of another image. It takes no memory.
+    pub fn follow<F: MapForm>(&mut self, from: &Image, change: &[u8])
+        requires change { IsChange change.now }
+        requires room { HasRoom change.now (Some from.now) }
+        ensures value { self.new ≡ with_all (said change.now) from.now }
+        ensures leads { LeadsTo change.now from.now self.new }
+    {
+        bytes_of_a_change_are_read();
+        changes_lead_on();
+        maps_have_images();
+        F::merge(&from.bytes, change, &mut self.bytes);
+    }
+}

@@ -1,0 +1,191 @@
+//! Recovering a map, and committing a change of it.
+
+ghost use Rattle.std.specs.Prelude.{◌≡◌, ◌<◌, ◌⊎◌, ℕ, List, Some, Err, false, is_err, length, IfErr, IfOk, OnErr, OnOk, IsErr, IsTrue};
+ghost use Rattle.mt_durable.specs.Changes.{change_bytes, entry_trees};
+ghost use Rattle.mt_durable.specs.Images.{IsImage};
+ghost use Rattle.mt_durable.specs.Keeping.{Committed, HasRoom, IsChange, WasOrCommitted};
+ghost use Rattle.mt_durable.specs.Reading.{said};
+ghost use Rattle.mt_durable.specs.Readings.{Gives};
+ghost use Rattle.mt_durable.specs.Setting.{with_all};
+ghost use Rattle.mt_durable.specs.declared.durable.Entry.{Entry};
+ghost use Rattle.mt_journal.specs.Layout.{journal_at};
+ghost use Rattle.mt_journal.specs.Recovering.{FaultHasCause, HasPlace, OnlyRead};
+ghost use Rattle.mt_outside.specs.Disk.{LeavesOnly};
+ghost use Rattle.mt_outside.specs.Stream.{HasCause};
+ghost use Rattle.mt_store.specs.Leading.{Holds, HoldsEither, IfNotAChange, Keeps, LeadsNowhere, end_of, map_of};
+ghost use Rattle.mt_tlv.specs.Limits.{IsAllowed, deepest};
+ghost use Rattle.mt_tlv.specs.Tree.{array};
+
+use crate::image::Image;
+use crate::map_form::MapForm;
+use mt_durable::{
+    ChangeFault, Durable, Keeper, bytes_of_a_change_are_read, changes_lead_on, maps_have_images,
+    read_change,
+};
+use mt_journal::{Journal, JournalFault, Place};
+use mt_outside::{Disk, Failed};
+use mt_tlv::Bytes;
+use std::alloc::Global;
+use std::mem;
+
+/// Durable state on a disk. Contracts see the journal, and the image of the map.
+#[derive(Drop)]
+pub struct Store<D: Disk, F: MapForm> {
+    pub journal: Journal<D, F>,
+    pub image: Image,
+    next: Image,
+}
+
+impl<D: Disk, F: MapForm> Store<D, F> {
+    ghost use Rattle.mt_journal.specs.Layout.{journal_at};
+    ghost use Rattle.mt_journal.specs.Recovering.{FaultHasCause, HasPlace, OnlyRead};
+    ghost use Rattle.mt_store.specs.Leading.{Holds, Keeps, LeadsNowhere};
+
+    /// Recovers the map of a disk: that to which the journal's changes lead from the empty map. It writes
+    /// nothing, and begins with a sync. With a fault the disk is handed back. All memory that commits need
+    /// is taken here.
+    pub fn recover(alloc: Global, disk: D) -> Result<(Self, Durable), (D, JournalFault)>
+        ensures recovered { (file : List ℕ) → D.contents disk ≡ Some file → IfOk result (λ store. Holds F.image F.change store.1 file
+            × Keeps D.contents D.images F.image F.change store.0.journal.disk store.0.journal.place store.1) }
+        ensures image { IfOk result (λ store. store.0.image ≡ store.1) }
+        ensures ready { IfOk result (λ store. store.0.journal.failed ≡ false) }
+        // It names the place from which on the file is no journal, or where it ends, if it leads to no map.
+        ensures refused { (file : List ℕ) → D.contents disk ≡ Some file
+            → IfErr result (λ e. HasPlace e.1 (λ at. (journal_at F.image F.change file ≡ Err at) ⊎ LeadsNowhere D.contents D.images F.image F.change e.0 at)) }
+        ensures only_read { IfOk result (λ store. OnlyRead D.contents D.images D.moment D.images_since disk store.0.journal.disk) }
+        ensures only_read_err { IfErr result (λ e. OnlyRead D.contents D.images D.moment D.images_since disk e.0) }
+        // The disk has failed where that is the fault, and not otherwise.
+        ensures calm { IfOk result (λ store. D.faults store.0.journal.disk ≡ D.faults disk) }
+        ensures cause { IfErr result (λ e. FaultHasCause (D.faults disk) (D.faults e.0) e.1) }
+    {
+        let (journal, list) = Journal::recover(alloc, disk)?;
+        let end = end_of(journal.place);
+        match images_of(alloc, list) {
+            Ok((map, image, next)) => {
+                let store = Store {
+                    journal,
+                    image,
+                    next,
+                };
+                Ok((store, map))
+            }
+            Err(ChangeFault::NotAChange) => {
+                Err((journal.into_disk(), JournalFault::NotAJournal(end)))
+            }
+            Err(ChangeFault::Memory) => Err((journal.into_disk(), JournalFault::Memory)),
+        }
+    }
+
+    /// The disk, as it is.
+    pub fn into_disk(self) -> D
+        ensures { result ≡ self.journal.disk }
+    {
+        self.journal.into_disk()
+    }
+}
+
+impl<D: Disk, F: MapForm> Keeper for Store<D, F> {
+    ghost map = { λ store. Some store.image };
+
+    ghost failed = { λ store. store.journal.failed };
+
+    ghost faults = { λ store. D.faults store.journal.disk };
+
+    /// It takes no memory. A change that does not fit into the current slot of the journal goes into the
+    /// other, as the image of the map after it.
+    fn commit(&mut self, change: &[u8]) -> Result<(), Failed>
+        requires form { IsChange change.now }
+        requires room { HasRoom change.now (Some self.old.image) }
+        ensures committed { OnOk result (Committed change.now (Some self.old.image) (Some self.new.image)) }
+        ensures part { OnErr result (WasOrCommitted change.now (Some self.old.image) (Some self.new.image)) }
+        ensures failed { self.new.journal.failed ≡ is_err result }
+        ensures stays { IsTrue self.old.journal.failed → IsErr result × (Some self.new.image ≡ Some self.old.image) × (D.faults self.new.journal.disk ≡ D.faults self.old.journal.disk) }
+        ensures cause { self.old.journal.failed ≡ false → HasCause (D.faults self.old.journal.disk) (D.faults self.new.journal.disk) result }
+
+        // Where a call has failed, none is made.
+        ensures still { IsTrue self.old.journal.failed → self.new ≡ self.old }
+        // After Ok a crash leaves a file that leads to the new map, and nothing else.
+        ensures kept { Keeps D.contents D.images F.image F.change self.old.journal.disk self.old.journal.place self.old.image
+            → OnOk result (Keeps D.contents D.images F.image F.change self.new.journal.disk self.new.journal.place self.new.image) }
+        // A crash at any moment leaves one that leads to the map with the change or without it.
+        ensures moments { Keeps D.contents D.images F.image F.change self.old.journal.disk self.old.journal.place self.old.image
+            → LeavesOnly D.moment D.images_since self.old.journal.disk self.new.journal.disk
+            (HoldsEither F.image F.change self.old.image (with_all (said change.now) self.old.image)) }
+    {
+        bytes_of_a_change_are_read();
+        changes_lead_on();
+        if self.journal.failed {
+            return Err(Failed);
+        }
+        self.next.follow::<F>(&self.image, change);
+        put(&mut self.journal, change, self.next.as_slice())?;
+        mem::swap(&mut self.image, &mut self.next);
+        Ok(())
+    }
+
+    fn faults(&self) -> u64 {
+        self.journal.disk.faults()
+    }
+}
+
+// Adds a change to the list, or puts the image after it in the place of all where it does not fit.
+fn put<D: Disk, F: MapForm>(
+    journal: &mut Journal<D, F>,
+    change: &[u8],
+    image: &[u8],
+) -> Result<(), Failed>
+    requires form { IsChange change.now }
+    requires image_form { IsImage image.now }
+    ensures kept { (map : List Entry) → said image.now ≡ with_all (said change.now) map
+        → Keeps D.contents D.images F.image F.change journal.old.disk journal.old.place map
+        → OnOk result (Keeps D.contents D.images F.image F.change journal.new.disk journal.new.place (with_all (said change.now) map)) }
+    ensures moments { (map : List Entry) → said image.now ≡ with_all (said change.now) map
+        → Keeps D.contents D.images F.image F.change journal.old.disk journal.old.place map
+        → LeavesOnly D.moment D.images_since journal.old.disk journal.new.disk (HoldsEither F.image F.change map (with_all (said change.now) map)) }
+    ensures failed { journal.new.failed ≡ is_err result }
+    ensures cause { journal.old.failed ≡ false → HasCause (D.faults journal.old.disk) (D.faults journal.new.disk) result }
+{
+    bytes_of_a_change_are_read();
+    changes_lead_on();
+    if journal.fits(change.len()) {
+        journal.append(change)
+    } else {
+        journal.switch(image)
+    }
+}
+
+// Where the next record of a journal goes, and so where it ends.
+fn end_of(place: Place) -> u64
+    ensures { result ≡ end_of place }
+{
+    match place {
+        Place::Fresh => 0,
+        Place::Begun => 8,
+        Place::Log { gate } | Place::InUse { gate, .. } => gate,
+    }
+}
+
+// The map of a list, its image, and room for the next.
+fn images_of(alloc: Global, list: Vec<Bytes>) -> Result<(Durable, Image, Image), ChangeFault>
+    ensures map { IfOk result (λ x. map_of list.items ≡ Some x.0) }
+    ensures image { IfOk result (λ x. x.1 ≡ x.0) }
+    ensures refused { IfNotAChange result ((map : List Entry) → map_of list.items ≡ Some map → 65535 < length (change_bytes map)) }
+{
+    let map = map_of(alloc, list)?;
+    let image = Image::of_map(alloc, &map)?;
+    let next = Image::of_map(alloc, &map)?;
+    Ok((map, image, next))
+}
+
+// The map to which a list leads.
+fn map_of(alloc: Global, list: Vec<Bytes>) -> Result<Durable, ChangeFault>
+    ensures exact { Gives (λ map. map) result (map_of list.items) }
+    ensures allowed { IfOk result (λ map. IsAllowed (array (entry_trees map)) deepest) }
+{
+    maps_have_images();
+    let mut map = Durable::new(alloc);
+    for change in list {
+        map.merge(read_change(alloc, change.as_slice())?)?;
+    }
+    Ok(map)
+}
