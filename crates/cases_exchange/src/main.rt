@@ -13,13 +13,18 @@
 //! - `counter`: the next own counter;
 //! - `copy`: the lines behind it go to copies; `drop`: all that is to be sent again is let go;
 //! - any other line is a title.
+//!
+//! Each line of data/talks.txt is something that is heard or said over a session: `CASE`, `PASE`, `answer`, `report`, `resend`,
+//! `ends`, `copy` and `drop` likewise, and `hear live|waits port datagram`.
 #![tactic(auto)]
 
 mod stand;
+mod talking;
 mod words;
 
 use stand::Stand;
 use std::{fs, io};
+use talking::Talking;
 
 fn main(rt: HostRuntime) -> io::Result<()> {
     let happenings = fs::read_to_string(&rt, "happenings.txt")?;
@@ -28,6 +33,17 @@ fn main(rt: HostRuntime) -> io::Result<()> {
         println!(rt; "{line}")?;
         let words: Vec<&str> = line.split(' ').collect(rt.alloc())?;
         stand.happen(&rt, &words)?;
+    }
+    talks(&rt)
+}
+
+fn talks(rt: &HostRuntime) -> io::Result<()> {
+    let talks = fs::read_to_string(rt, "talks.txt")?;
+    let mut talking = Talking::new(rt.alloc(), false, 5000);
+    for line in talks.as_str().lines() {
+        println!(rt; "{line}")?;
+        let words: Vec<&str> = line.split(' ').collect(rt.alloc())?;
+        talking.happen(rt, &words)?;
     }
     Ok(())
 }

@@ -1,5 +1,8 @@
 //! A session with its exchanges, and what happens on it.
 
+ghost use Rattle.std.specs.Prelude.{◌≢◌};
+ghost use Rattle.mt_model.specs.declared.tables.access.Auth.TheVariants.{Group};
+
 use crate::words::{bytes, header, key, number, payloads, time, word};
 use mt_exchange::Exchanges;
 use mt_model::{Auth, ExactCopy, SessionRow};
@@ -7,6 +10,30 @@ use mt_session::{Opened, SealFault, Session};
 use mt_tlv::Bytes;
 use std::alloc::Global;
 use std::io;
+
+/// The row of a session of node 10 with node 1.
+pub(crate) fn row(alloc: Global, is_pase: bool, counter_out: u32) -> SessionRow
+    ensures session { result.session ≢ 0 }
+    ensures peer_session { result.peer_session ≢ 0 }
+    ensures auth { result.auth ≢ Group }
+{
+    let auth = if is_pase { Auth::Pase } else { Auth::Case };
+    SessionRow {
+        session: 1,
+        peer_session: 101,
+        boot: 1,
+        auth,
+        root_key: Bytes::new(alloc),
+        fabric_id: 1,
+        own_node: 10,
+        peer_node: 1,
+        cats: [0; 3],
+        key_in: [0x51; 16],
+        key_out: [0x52; 16],
+        counter_in: 1000,
+        counter_out,
+    }
+}
 
 /// A session of node 10 with node 1, and its exchanges.
 #[derive(Drop)]
@@ -18,24 +45,8 @@ pub struct Stand {
 impl Stand {
     /// A new session on which nothing has happened, whose first own counter is given.
     pub(crate) fn new(alloc: Global, is_pase: bool, counter_out: u32) -> Stand {
-        let auth = if is_pase { Auth::Pase } else { Auth::Case };
-        let session = Session::new(SessionRow {
-            session: 1,
-            peer_session: 101,
-            boot: 1,
-            auth,
-            root_key: Bytes::new(alloc),
-            fabric_id: 1,
-            own_node: 10,
-            peer_node: 1,
-            cats: [0; 3],
-            key_in: [0x51; 16],
-            key_out: [0x52; 16],
-            counter_in: 1000,
-            counter_out,
-        });
         Stand {
-            session,
+            session: Session::new(row(alloc, is_pase, counter_out)),
             exchanges: Exchanges::new(alloc),
         }
     }
@@ -157,6 +168,6 @@ fn print_sent(rt: &HostRuntime, answer: Result<Option<Bytes>, SealFault>) -> io:
     }
 }
 
-fn print_bytes(rt: &HostRuntime, bytes: &[u8]) -> io::Result<()> {
+pub(crate) fn print_bytes(rt: &HostRuntime, bytes: &[u8]) -> io::Result<()> {
     println!(rt; "  {}", hex::encode(rt.alloc(), bytes)?)
 }

@@ -1,0 +1,78 @@
+-- What is said over a session of the node, in lists that nothing stores.
+use Rattle.std.specs.Prelude.{◌≡◌, ℕ, List, [], ◌∷◌, ◌++◌, Option, None, Result, Ok, Err}
+use Rattle.mt_outside.specs.declared.network.Peer.{Peer}
+use Rattle.mt_model.specs.declared.texts.config.SessionRow.{SessionRow}
+use Rattle.mt_model.specs.declared.messages.message.Payload.{Payload}
+use Rattle.mt_session.specs.declared.fault.SealFault.{SealFault}
+use Rattle.mt_session.specs.declared.fault.SealFault.TheVariants.{TooLong}
+use Rattle.mt_exchange.specs.declared.exchange.Exchange.{Exchange}
+use Rattle.mt_exchange.specs.declared.exchange.Key.{Key}
+use Rattle.mt_exchange.specs.Runs.{Happening, IsRunOf, IsSessionOf, answer_of, answered, dropped, report_of, reported, resend_step, run}
+use Rattle.mt_exchange.specs.Resending.{due_again, ended_by}
+use Rattle.mt_talk.specs.declared.talk.Talk as code
+
+-- A talk: all that happened on its session, and from where the latest fresh message came.
+pub record Talk : Type 0 where
+  pub happenings : List Happening
+  pub latest : Option Peer
+
+abbrev pub begun_talk : Talk
+begun_talk = record { happenings = []; latest = None }
+
+-- the open exchanges
+abbrev pub open_in : SessionRow → Talk → List Exchange
+open_in row t = (run row t.happenings).open_ones
+
+-- a talk behind what happens
+abbrev pub behind : Happening → Talk → Talk
+behind happening t = record t { happenings = t.happenings ++ happening ∷ [] }
+
+-- The node answers on an exchange, and acknowledges this counter. What the session says to that:
+abbrev pub answer_in : SessionRow → Talk → Key → Option ℕ → List Payload → Result (Option (List ℕ)) SealFault
+answer_in row t key acknowledge payloads = answer_of row (run row t.happenings) key acknowledge payloads
+
+-- the datagram that is sent, where there is one: what the session refuses is not sent
+abbrev pub sent_by : Result (Option (List ℕ)) SealFault → Option (List ℕ)
+sent_by (Ok sent) = sent
+sent_by (Err fault) = None
+
+-- with a message that is too long nothing has happened
+abbrev pub behind_unless_too_long : Result (Option (List ℕ)) SealFault → Happening → Talk → Talk
+behind_unless_too_long (Err TooLong) happening t = t
+behind_unless_too_long answer happening t = behind happening t
+
+abbrev pub after_answer : SessionRow → Key → Option ℕ → List Payload → ℕ → Talk → Talk
+after_answer row key acknowledge payloads now t =
+    behind_unless_too_long (answer_in row t key acknowledge payloads) (answered key acknowledge payloads now) t
+
+-- A subscription reports. With a report that is refused nothing has happened.
+abbrev pub report_in : SessionRow → Talk → List Payload → Result (Option (List ℕ)) SealFault
+report_in row t payloads = report_of row (run row t.happenings) payloads
+
+abbrev pub behind_unless_refused : Result (Option (List ℕ)) SealFault → Happening → Talk → Talk
+behind_unless_refused (Ok sent) happening t = behind happening t
+behind_unless_refused (Err fault) happening t = t
+
+abbrev pub after_report : SessionRow → ℕ → List Payload → ℕ → Talk → Talk
+after_report row subscription payloads now t = behind_unless_refused (report_in row t payloads) (reported subscription payloads now) t
+
+-- What is owed and due is sent again, and exchanges on which that was in vain close, with their subscriptions.
+
+abbrev pub resent_in : SessionRow → ℕ → Talk → List (List ℕ)
+resent_in row now t = due_again now (open_in row t)
+
+abbrev pub ended_in : SessionRow → ℕ → Talk → List ℕ
+ended_in row now t = ended_by now (open_in row t)
+
+abbrev pub after_resend : ℕ → Talk → Talk
+after_resend now t = behind (resend_step now) t
+
+-- Nothing is to be sent, owed or awaited any more.
+abbrev pub after_drop : Talk → Talk
+after_drop t = behind dropped t
+
+-- A talk as the code has it stands for this one, over the session of this row.
+pub record IsTalkOf (talk : code.Talk) (row : SessionRow) (t : Talk) : Type 0 where
+  pub session : IsSessionOf talk.session row t.happenings
+  pub exchanges : IsRunOf talk.exchanges row t.happenings
+  pub latest : talk.latest ≡ t.latest
