@@ -13,6 +13,3 @@ mod tables;
 pub use block::aes_block;
 pub use laws::{bytes_have_one_plaintext, inverse_is_inverse, opens_what_is_sealed};
 pub use sealing::{seal, unseal};
-
-#[cfg(test)]
-mod tests;

@@ -26,6 +26,3 @@ pub use laws::{
 };
 pub use message::{read_message, write_message};
 pub use protocol::{read_protocol, write_protocol};
-
-#[cfg(test)]
-mod tests;
