@@ -4,6 +4,7 @@ ghost use Rattle.std.specs.Prelude.{◌≡◌, Bool, false, ◌==◌, ◌&&◌, 
 ghost use Rattle.cases_journal.specs.Form.{is_image, is_change};
 
 use mt_journal::Form;
+use std::alloc::{AllocError, Global};
 
 /// Images begin with 16, changes with 16 or 17.
 pub struct TestForm;
@@ -13,17 +14,31 @@ impl Form for TestForm {
 
     ghost change = { is_change };
 
-    fn is_image(bytes: &[u8]) -> bool {
-        match bytes {
-            [first, ..] => *first == 0x16,
-            [] => false,
-        }
+    fn is_image(_alloc: Global, bytes: &[u8]) -> Result<bool, AllocError> {
+        Ok(is_image(bytes))
     }
 
-    fn is_change(bytes: &[u8]) -> bool {
-        match bytes {
-            [first, ..] => *first == 0x16 || *first == 0x17,
-            [] => false,
-        }
+    fn is_change(_alloc: Global, bytes: &[u8]) -> Result<bool, AllocError> {
+        Ok(is_change(bytes))
+    }
+}
+
+/// Whether bytes are an image.
+pub(crate) fn is_image(bytes: &[u8]) -> bool
+    ensures { result ≡ is_image bytes.now }
+{
+    match bytes {
+        [first, ..] => *first == 0x16,
+        [] => false,
+    }
+}
+
+/// Whether bytes are a change.
+pub(crate) fn is_change(bytes: &[u8]) -> bool
+    ensures { result ≡ is_change bytes.now }
+{
+    match bytes {
+        [first, ..] => *first == 0x16 || *first == 0x17,
+        [] => false,
     }
 }

@@ -1,6 +1,6 @@
-//! Prints what a journal on a disk in memory answers. Each line of its input is a case, and what must be
-//! printed for it is worked out outside of the program. A case is the bytes of a file in hex, `-` for none, and
-//! then what is done, a word each:
+//! Prints what a journal answers, on a disk in memory and, at the end, on a file. Each line of its input is a
+//! case of the disk in memory, and what must be printed for it is worked out outside of the program. A case is
+//! the bytes of a file in hex, `-` for none, and then what is done, a word each:
 //!
 //! - `s16..18`: an image; `a17..18`: a change, where it fits; `b60000`: a change of so many bytes, where it fits;
 //! - `x3kept`, `x3lost`, `x3torn`: the disk stops at that one of the writes and syncs to come, with this fate;
@@ -11,6 +11,7 @@
 //! The journal is recovered at first, and each time it is, its list is printed.
 #![tactic(auto)]
 
+mod file;
 mod form;
 mod play;
 
@@ -23,5 +24,5 @@ fn main(rt: HostRuntime) -> io::Result<()> {
         play::play(&rt, case)?;
         println!(rt; "")?;
     }
-    Ok(())
+    file::play(&rt)
 }

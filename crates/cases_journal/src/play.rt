@@ -1,7 +1,7 @@
 //! One journal, call by call.
 
-use crate::form::TestForm;
-use mt_journal::{Form, Journal, JournalFault};
+use crate::form::{TestForm, is_change, is_image};
+use mt_journal::{Journal, JournalFault};
 use mt_outside::{Disk, Fate, MemDisk};
 use mt_tlv::Bytes;
 use std::io;
@@ -114,7 +114,7 @@ fn written(rt: &HostRuntime, journal: &mut TestJournal, word: &str) -> io::Resul
 }
 
 fn switched(rt: &HostRuntime, journal: &mut TestJournal, image: &[u8]) -> io::Result<()> {
-    if !TestForm::is_image(image) || image.len() > 65_536 {
+    if !is_image(image) || image.len() > 65_536 {
         return print!(rt; " none");
     }
     match journal.switch(image) {
@@ -124,7 +124,7 @@ fn switched(rt: &HostRuntime, journal: &mut TestJournal, image: &[u8]) -> io::Re
 }
 
 fn appended(rt: &HostRuntime, journal: &mut TestJournal, change: &[u8]) -> io::Result<()> {
-    if !TestForm::is_change(change) || change.len() > 65_536 {
+    if !is_change(change) || change.len() > 65_536 {
         return print!(rt; " none");
     }
     if !journal.fits(change.len()) {

@@ -3,6 +3,7 @@
 use Rattle.std.specs.Prelude.{ℕ, ◌≡◌, ◌/◌, ◌%◌, ◌^◌, ◌==◌, nat_le, not, ◌&&◌, ◌||◌, if◌then◌else◌, Bool, true, false, IsTrue, IsFalse, List, [], ◌∷◌, Option, Some, None, position, slice_get}
 use Rattle.std.specs.List.{AllWithin, list_any}
 use Rattle.std.specs.Option.{option_map}
+use Rattle.mt_model.specs.Optional.{fits, is_that}
 use Rattle.mt_model.specs.tables.Access.{includes}
 use Rattle.mt_model.specs.rows.Devices.{device_of}
 use Rattle.mt_model.specs.declared.tables.access.AclEntry.{AclEntry}
@@ -42,22 +43,13 @@ fits_subjects (subject ∷ subjects) actor = list_any (names_actor actor) (subje
 
 -- Targets.
 
--- a field that is not there fits everything
-abbrev pub fits_number : Option ℕ → ℕ → Bool
-fits_number None number = true
-fits_number (Some wanted) number = wanted == number
-
-abbrev pub is_number : ℕ → Option ℕ → Bool
-is_number wanted None = false
-is_number wanted (Some number) = wanted == number
-
 -- the device type of an endpoint that is not there fits no field
 abbrev pub fits_device : Option ℕ → Option ℕ → Bool
 fits_device None device = true
-fits_device (Some wanted) device = is_number wanted device
+fits_device (Some wanted) device = is_that wanted device
 
 abbrev pub fits_target : Place → Target → Bool
-fits_target place target = fits_number target.endpoint place.endpoint && (fits_number target.cluster place.cluster && fits_device target.device (device_of place.endpoint))
+fits_target place target = fits target.endpoint place.endpoint && (fits target.cluster place.cluster && fits_device target.device (device_of place.endpoint))
 
 -- no targets stand for every place
 abbrev pub fits_targets : List Target → Place → Bool

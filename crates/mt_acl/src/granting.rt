@@ -3,7 +3,7 @@
 ghost use Rattle.std.specs.Prelude.{◌≡◌, ◌↔◌, IsTrue, IsFalse, IfSome, All, is_some, position};
 ghost use Rattle.std.specs.List.{list_any};
 ghost use Rattle.mt_model.specs.rows.Devices.{device_of};
-ghost use Rattle.mt_acl.specs.Access.{NamesFirst, entry_grants, fits_device, fits_number, fits_subjects, fits_target, fits_targets, grant_of, implicit_grants, is_granted, is_granted_if_asked, names_actor, names_cat, own_entry_grants, same_auth};
+ghost use Rattle.mt_acl.specs.Access.{NamesFirst, entry_grants, fits_device, fits_subjects, fits_target, fits_targets, grant_of, implicit_grants, is_granted, is_granted_if_asked, names_actor, names_cat, own_entry_grants, same_auth};
 
 use mt_model::{AclEntry, Actor, Auth, Place, Privilege, Target, device_type};
 
@@ -155,27 +155,9 @@ fn fits_any(targets: &[Target], place: &Place) -> bool
 fn fits_target(place: &Place, target: &Target) -> bool
     ensures { result ≡ fits_target place.now target.now }
 {
-    fits_endpoint(target.endpoint, place.endpoint)
-        && fits_cluster(target.cluster, place.cluster)
+    place.fits_endpoint(target.endpoint)
+        && place.fits_cluster(target.cluster)
         && fits_device(target.device, device_type(place.endpoint))
-}
-
-fn fits_endpoint(wanted: Option<u16>, endpoint: u16) -> bool
-    ensures { result ≡ fits_number wanted endpoint }
-{
-    match wanted {
-        None => true,
-        Some(wanted) => wanted == endpoint,
-    }
-}
-
-fn fits_cluster(wanted: Option<u32>, cluster: u32) -> bool
-    ensures { result ≡ fits_number wanted cluster }
-{
-    match wanted {
-        None => true,
-        Some(wanted) => wanted == cluster,
-    }
 }
 
 fn fits_device(wanted: Option<u32>, device: Option<u32>) -> bool
@@ -184,6 +166,6 @@ fn fits_device(wanted: Option<u32>, device: Option<u32>) -> bool
     match (wanted, device) {
         (None, _) => true,
         (Some(_), None) => false,
-        (Some(wanted), Some(device)) => wanted == device,
+        (Some(wanted), Some(device)) => device == wanted,
     }
 }

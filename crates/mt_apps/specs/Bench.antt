@@ -6,6 +6,7 @@ use Rattle.mt_tlv.specs.declared.value.Tag.TheVariants.{Context}
 use Rattle.mt_tlv.specs.declared.value.Value.{Value}
 use Rattle.mt_tlv.specs.declared.value.Value.TheVariants as values
 use Rattle.mt_model.specs.messages.Effects.{answered_with, refused_at}
+use Rattle.mt_model.specs.rows.Shown.{first_value}
 use Rattle.mt_model.specs.declared.messages.status.Status.TheVariants.{Success, UnsupportedCommand}
 use Rattle.mt_model.specs.declared.node.action.Effect.{Effect}
 use Rattle.mt_model.specs.declared.node.action.NodeStep.{NodeStep}
@@ -16,10 +17,6 @@ use Rattle.mt_model.specs.declared.rows.place.Row.{Row}
 -- the number of an endpoint, an attribute
 abbrev pub number_at : ℕ → Place
 number_at endpoint = record { endpoint = endpoint; cluster = 0xfff1fc00; leaf = 1 }
-
-abbrev pub number_of : List Row → Value
-number_of [] = values.Null
-number_of (row ∷ rows) = row.value
 
 -- the event Rung of an endpoint
 abbrev pub rung_at : ℕ → Place
@@ -36,5 +33,5 @@ rung endpoint number fabric = Emit (rung_at endpoint) 1 fabric (rung_value numbe
 -- what a command of a fabric comes to, where these rows stand at each place
 abbrev pub bench_effect : (Place → List Row) → ℕ → Place → Effect
 bench_effect rows_at fabric command =
-    if command.leaf == 0 then answered_with command Success (rung command.endpoint (number_of (rows_at (number_at command.endpoint))) fabric ∷ [])  -- Ring
+    if command.leaf == 0 then answered_with command Success (rung command.endpoint (first_value (rows_at (number_at command.endpoint))) fabric ∷ [])  -- Ring
     else refused_at command UnsupportedCommand

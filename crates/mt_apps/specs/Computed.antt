@@ -1,6 +1,7 @@
 -- The rows that are not stored but follow from the other parts of the state, and what never changes (Matter Core
 -- Specification, chapters 7, 9 and 11). What each cluster has of them stands in the file of its name.
 use Rattle.std.specs.Prelude.{◌==◌, List, [], ◌∷◌, Option, Some, None, map, if◌then◌else◌}
+use Rattle.std.specs.Option.{option_or}
 use Rattle.mt_tlv.specs.declared.value.Value.{Value}
 use Rattle.mt_model.specs.rows.Order.{row_at}
 use Rattle.mt_model.specs.rows.Sight.{is_acl, is_nocs}
@@ -23,11 +24,6 @@ use Rattle.mt_apps.specs.Parts.{Parts}
 
 -- Attributes that are not fabric-scoped: the value, None where there is none or where it is stored.
 
--- a global attribute, or one of the cluster's own
-abbrev pub or_else : {X : Type 0} → Option X → Option X → Option X
-or_else (Some x) other = Some x
-or_else None other = other
-
 abbrev pub particular_value : Parts → Place → Option Value
 particular_value parts place =
     if place.cluster == descriptor.cluster then descriptor_value place.endpoint place.leaf
@@ -38,8 +34,9 @@ particular_value parts place =
     else if place.cluster == operational_credentials.cluster then operational_credentials_value parts place.leaf
     else None
 
+-- a global attribute, or one of the cluster's own
 abbrev pub computed_value : Parts → Place → Option Value
-computed_value parts place = or_else (global_value place.cluster place.leaf) (particular_value parts place)
+computed_value parts place = option_or (global_value place.cluster place.leaf) (particular_value parts place)
 
 abbrev pub value_rows : Place → Option Value → List Row
 value_rows place None = []

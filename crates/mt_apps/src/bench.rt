@@ -1,7 +1,8 @@
 //! Bench: its command.
 
 ghost use Rattle.std.specs.Prelude.{◌≡◌, IfOk, ◌∷◌, []};
-ghost use Rattle.mt_apps.specs.Bench.{bench_effect, number_at, number_of, rung, rung_at, rung_value};
+ghost use Rattle.mt_model.specs.rows.Shown.{first_value};
+ghost use Rattle.mt_apps.specs.Bench.{bench_effect, number_at, rung, rung_at, rung_value};
 ghost use Rattle.mt_apps.specs.Seen.{nobodys_rows};
 
 use crate::lists::FABRIC_INDEX;
@@ -23,7 +24,7 @@ pub(crate) fn bench_effect(
     if command.leaf != RING {
         return Ok(Effect::refused_at(alloc, command, Status::UnsupportedCommand));
     }
-    let number = number_of(view.rows.of(&number_at(command.endpoint), 0))?;
+    let number = first_value(view.rows.of(&number_at(command.endpoint), 0))?;
     let mut steps = Steps::new(alloc);
     steps.push(rung(alloc, command.endpoint, number, fabric)?)?;
     Ok(Effect::answered_with(command, Status::Success, steps))
@@ -40,8 +41,8 @@ fn number_at(endpoint: u16) -> Place
     }
 }
 
-fn number_of(rows: &[Row]) -> Result<Value, AllocError>
-    ensures { IfOk result (λ number. number ≡ number_of rows.now) }
+fn first_value(rows: &[Row]) -> Result<Value, AllocError>
+    ensures { IfOk result (λ number. number ≡ first_value rows.now) }
 {
     match rows.first() {
         Some(row) => row.value.copy(),

@@ -1,8 +1,9 @@
 -- What is read of fields that have their form.
 use Rattle.std.proofs.Common.{◌≡◌, ℕ, ◌^◌, ◌&&◌, nat_le, nat_lt, Bool, true, false, List, length, Option, Some, None, refl, arith}
-use Rattle.std.specs.Prelude.{unwrap_or}
+use Rattle.std.specs.Prelude.{[], option_and_then, unwrap_or}
 use Rattle.std.specs.Str.{is_utf8}
 use Rattle.std.proofs.lemmas.Bool.{and_from, and_parts}
+use Rattle.mt_tlv.specs.Scalars.{text_in, unsigned_in}
 use Rattle.mt_tlv.specs.Tree.{Tree, int, uint, bool, text, octets, null, bits32, bits64, structure, array, list, Elements}
 use Rattle.mt_tlv.specs.View.{tree}
 use Rattle.mt_tlv.specs.declared.value.Value.{Value}
@@ -11,7 +12,6 @@ use Rattle.mt_meta.specs.Fields.{has_fields, have_types, are_within, field_has_t
 use Rattle.mt_meta.specs.Rows.{any_number, needed}
 use Rattle.mt_meta.specs.declared.rows.Field.{Field}
 use Rattle.mt_meta.specs.declared.rows.Form.TheVariants as forms
-use Rattle.mt_meta.specs.Given.{number_in, text_in}
 
 impossible : {X : Type 0} → false ≡ true → X
 impossible h = absurd (cc)
@@ -28,7 +28,7 @@ fits_or_zero (Some n) h = h
 within_bits : (n : ℕ) → nat_le n 0xffffffffffffffff ≡ true → nat_lt n (2 ^ 64) ≡ true
 within_bits n h = grind (arith, h)
 
-pub number_fits : (number : ℕ) (is_needed : Bool) (field : Option Tree) → field_has_type (record { number = number; needed = is_needed; form = any_number }) field ≡ true → fits (number_in field) ≡ true
+pub number_fits : (number : ℕ) (is_needed : Bool) (field : Option Tree) → field_has_type (record { number = number; needed = is_needed; form = any_number }) field ≡ true → fits (option_and_then unsigned_in field) ≡ true
 number_fits number is_needed None h = refl
 number_fits number is_needed (Some (int z)) h = refl
 number_fits number is_needed (Some (uint n)) h = within_bits n h
@@ -47,7 +47,7 @@ abbrev pub is_country : List ℕ → Bool
 is_country bytes = nat_le (length bytes) 2 && is_utf8 bytes
 
 pub text_fits : (number : ℕ) (field : Option Tree) → field_has_type (needed number (forms.Text 2 2)) field ≡ true → field_is_within (needed number (forms.Text 2 2)) field ≡ true
-    → is_country (text_in field) ≡ true
+    → is_country (unwrap_or (option_and_then text_in field) []) ≡ true
 text_fits number None is within = impossible is
 text_fits number (Some (int z)) is within = impossible is
 text_fits number (Some (uint n)) is within = impossible is

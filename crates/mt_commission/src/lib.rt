@@ -18,3 +18,4 @@ mod network_commissioning;
 pub use codes::{CommissioningError, NetworkStatus};
 pub use commands::invoke;
 pub use laws::{steps_are_sound, steps_stand_first};
+pub use network_commissioning::has_id;

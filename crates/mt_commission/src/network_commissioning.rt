@@ -219,7 +219,8 @@ fn first_with(networks: &[Network], id: &[u8]) -> Option<usize>
     networks.iter().position(|network| has_id(id, network))
 }
 
-fn has_id(id: &[u8], network: &Network) -> bool
+/// Whether a network has this id, which names it.
+pub fn has_id(id: &[u8], network: &Network) -> bool
     ensures { result ≡ has_id id.now network.now }
 {
     is_same(network.id.as_slice(), id)

@@ -1,5 +1,5 @@
 -- Rules on lists, tested item by item.
-use Rattle.std.proofs.Common.{◌≡◌, ℕ, suc, ◌+◌, ◌<◌, ◌==◌, Bool, true, false, not, ◌&&◌, List, ◌∷◌, length, drop, get_or, refl, sym, ap, ◌∙◌, add-one}
+use Rattle.std.proofs.Common.{◌≡◌, ℕ, suc, ◌+◌, ◌<◌, ◌==◌, Bool, not, ◌&&◌, List, ◌∷◌, length, drop, get_or, sym, ap, ◌∙◌, add-one}
 use Rattle.std.specs.List.{list_any}
 use Rattle.std.proofs.Math.Seq.{drop-cons}
 use Rattle.mt_model.specs.texts.Config.{are_numbered_from, none_alike}
@@ -16,8 +16,3 @@ numbered_at fabrics i index fabric lt is = ap (are_numbered_from index) (drop_at
 pub apart_at : {X : Type 0} (alike : X → X → Bool) (xs : List X) (i : ℕ) (x : X) → i < length xs → x ≡ get_or xs i x
     → none_alike alike (drop i xs) ≡ (not (list_any (alike x) (drop (i + 1) xs)) && none_alike alike (drop (i + 1) xs))
 apart_at alike xs i x lt is = ap (none_alike alike) (drop_at xs i x lt is)
-
--- a test whose meaning does not hold answers no
-pub answers_no : (test : Bool) → ¬ (test ≡ true) → false ≡ test
-answers_no true fails = absurd (fails refl)
-answers_no false fails = refl

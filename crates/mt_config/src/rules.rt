@@ -2,7 +2,6 @@
 
 ghost use Rattle.std.specs.Prelude.{◌≡◌, bytes_eq, count_by, nat_le};
 ghost use Rattle.std.specs.List.{list_all, list_any};
-ghost use Rattle.std.specs.Str.{is_utf8};
 ghost use Rattle.mt_model.specs.texts.Config.{are_both_pase, are_credentials, are_csrs, are_entries, are_fabrics, are_joins, are_network_ids, are_numbered_from, are_roots, are_sessions, has_up_to, have_one_fabric, have_one_identity, have_one_label, have_one_session, is_cat_or_none, is_certificate, is_csr, is_entry, is_established, is_fabric, is_intermediate, is_join, is_label, is_of, is_root, is_session, none_alike};
 
 use mt_acl::valid;
@@ -13,7 +12,7 @@ use mt_model::limits::{
 };
 use mt_model::{
     AclEntry, Auth, Credentials, CsrRow, Fabric, JoinRow, RootRow, SessionRow, entries_ascend_from,
-    is_operational,
+    is_operational, is_utf8,
 };
 use mt_tlv::Bytes;
 
@@ -86,15 +85,6 @@ fn is_label(bytes: &[u8]) -> bool
     ensures { result ≡ is_label bytes.now }
 {
     bytes.len() <= LABEL_BYTES && is_utf8(bytes)
-}
-
-fn is_utf8(bytes: &[u8]) -> bool
-    ensures { result ≡ is_utf8 bytes.now }
-{
-    match std::str::from_utf8(bytes) {
-        Ok(_) => true,
-        Err(_) => false,
-    }
 }
 
 #[tactic(auto, using(crate::proofs::Walks::apart_at))]

@@ -24,4 +24,5 @@ mod turn;
 pub use exchange::{Exchange, Key, Owed};
 pub use exchanges::Exchanges;
 pub use lists::{Datagrams, EndTime, EndTimes, Ends};
+pub use receiving::key_of;
 pub use turn::Turn;

@@ -77,8 +77,8 @@ fn received<'a>(
     Ok(turn)
 }
 
-// The exchange of a message: the peer began it where the initiator flag is set.
-fn key_of(header: &ProtocolHeader) -> Key
+/// The exchange of a message: the peer began it where the initiator flag is set.
+pub fn key_of(header: &ProtocolHeader) -> Key
     ensures { result ≡ key_of_header header.now }
 {
     Key {

@@ -1,6 +1,7 @@
 -- What the commands of commissioning note in an armed fail-safe, and when they may (Matter Core Specification, chapter 11,
 -- Operational Credentials Cluster).
-use Rattle.std.specs.Prelude.{ℕ, ◌==◌, ◌&&◌, ◌||◌, not, is_none, is_some, Bool, true, false, List, Option, Some, None, if◌then◌else◌}
+use Rattle.std.specs.Prelude.{ℕ, ◌==◌, ◌&&◌, ◌||◌, not, is_none, is_some, Bool, false, List, Option, Some, None, if◌then◌else◌}
+use Rattle.mt_model.specs.Optional.{is_that}
 use Rattle.mt_model.specs.declared.tables.fabric.Credentials.{Credentials}
 use Rattle.mt_model.specs.declared.tables.network.Armed.{Armed}
 
@@ -9,9 +10,6 @@ abbrev pub is_unused : Armed → Bool
 is_unused armed = is_none armed.added && is_none armed.updated
 
 -- whether this fabric was added since it was armed, or updated
-abbrev pub is_that : ℕ → Option ℕ → Bool
-is_that fabric None = false
-is_that fabric (Some other) = other == fabric
 
 abbrev pub was_added : ℕ → Option Armed → Bool
 was_added fabric None = false

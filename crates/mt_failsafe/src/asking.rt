@@ -1,8 +1,9 @@
 //! What is asked of a fail-safe as a node keeps it, None where none is armed.
 
 ghost use Rattle.std.specs.Prelude.{◌≡◌, option_copied};
+ghost use Rattle.mt_model.specs.Optional.{is_that};
 ghost use Rattle.mt_failsafe.specs.Calls.{is_armed_by, is_context, is_of_context};
-ghost use Rattle.mt_failsafe.specs.Notes.{is_for_new, is_for_update, is_that, is_unused, may_note_added, may_note_csr, may_note_root, may_note_updated, was_added};
+ghost use Rattle.mt_failsafe.specs.Notes.{is_for_new, is_for_update, is_unused, may_note_added, may_note_csr, may_note_root, may_note_updated, was_added};
 
 use mt_model::{Actor, Armed, Auth};
 use mt_tlv::Bytes;

@@ -9,6 +9,7 @@ use Rattle.mt_tlv.specs.declared.reading.Kind.TheVariants as containers
 use Rattle.mt_tlv.specs.Limits.{is_same_tag, is_tag_in, IsAllowed, AreAllowed, deepest}
 use Rattle.mt_tlv.specs.Tree.{Tree, uint, bool, structure, array, Elements, none, more}
 use Rattle.mt_tlv.specs.View.{tree}
+use Rattle.mt_model.specs.Trees.{untagged}
 use Rattle.mt_model.specs.messages.Blocks.{optional_number, index_field, path_tree, event_path_tree}
 use Rattle.mt_model.specs.declared.messages.message.Index.{Index}
 use Rattle.mt_model.specs.declared.messages.message.Index.TheVariants.{Whole, Append, At}
@@ -18,7 +19,7 @@ use Rattle.mt_model.specs.declared.messages.message.Request.TheVariants as reque
 use Rattle.mt_model.specs.declared.messages.message.WriteItem.{WriteItem}
 use Rattle.mt_model.specs.declared.rows.place.Place.{Place}
 use Rattle.mt_model.specs.declared.node.state.Version.{Version}
-use Rattle.mt_im.specs.Requests.{revision, blocks, optional_blocks, event_filter_tree, event_filters, cluster_path_tree, version_filter_tree, write_tree, command_path_tree, command_tree, request_fields, request_tree}
+use Rattle.mt_im.specs.Requests.{revision, optional_blocks, event_filter_tree, event_filters, cluster_path_tree, version_filter_tree, write_tree, command_path_tree, command_tree, request_fields, request_tree}
 use Rattle.mt_im.specs.Limits.{IsIndex, IsPath, IsEventPath, IsVersion, IsWriteItem, IsCommand, Fits, room_inside}
 use Rattle.mt_im.proofs.Written.{filters_fit}
 
@@ -72,14 +73,14 @@ follow_number : (room n : ℕ) (o : Option ℕ) (es : Elements) → n < 2 ^ 8 �
 follow_number room n None es fits h rest = follow_lower room (n + 1) n es (omega arith) rest
 follow_number room n (Some k) es fits h rest = follow_field room n (uint k) es fits h rest
 
-are_blocks_allowed : {X : Type 0} (room : ℕ) (P : X → Type 0) (block : X → Tree) → ((x : X) → P x → IsAllowed (block x) room) → (xs : List X) (tags : List Tag) → All P xs → AreAllowed (blocks block xs) containers.Array tags room
+are_blocks_allowed : {X : Type 0} (room : ℕ) (P : X → Type 0) (block : X → Tree) → ((x : X) → P x → IsAllowed (block x) room) → (xs : List X) (tags : List Tag) → All P xs → AreAllowed (untagged block xs) containers.Array tags room
 are_blocks_allowed room P block each [] tags h = tt
 are_blocks_allowed room P block each (x ∷ xs) tags h = (tt, refl, each x (All-head P x xs h), are_blocks_allowed room P block each xs (tags ++ Anonymous ∷ []) (All-tail P x xs h))
 
 follow_blocks : {X : Type 0} (room n : ℕ) (P : X → Type 0) (block : X → Tree) → ((x : X) → P x → IsAllowed (block x) room) → (xs : List X) (es : Elements) → n < 2 ^ 8 → All P xs → Follow (suc room) (n + 1) es
     → Follow (suc room) n (optional_blocks n block xs es)
 follow_blocks room n P block each [] es fits h rest = follow_lower (suc room) (n + 1) n es (omega arith) rest
-follow_blocks room n P block each (x ∷ xs) es fits h rest = follow_field (suc room) n (array (blocks block (x ∷ xs))) es fits (are_blocks_allowed room P block each (x ∷ xs) [] h) rest
+follow_blocks room n P block each (x ∷ xs) es fits h rest = follow_field (suc room) n (array (untagged block (x ∷ xs))) es fits (are_blocks_allowed room P block each (x ∷ xs) [] h) rest
 
 begins : (room n : ℕ) (es : Elements) → Follow room n es → IsAllowed (structure es) (suc room)
 unfolding Follow AreBelow
@@ -173,7 +174,7 @@ message_allowed (requests.Subscribe keep floor ceiling paths events minimum filt
 message_allowed (requests.Write suppress timed items) h =
     follow_field 15 0 (bool suppress) _ (lit< tt) tt
     (follow_field 15 1 (bool timed) _ (lit< tt) tt
-    (follow_field 15 2 (array (blocks write_tree items)) revision (lit< tt) (are_blocks_allowed 14 IsWriteItem write_tree item_allowed items [] h) (revision_from (2 + 1) (lit≤ tt))))
+    (follow_field 15 2 (array (untagged write_tree items)) revision (lit< tt) (are_blocks_allowed 14 IsWriteItem write_tree item_allowed items [] h) (revision_from (2 + 1) (lit≤ tt))))
 message_allowed (requests.Invoke suppress timed command fields) h =
     follow_field 15 0 (bool suppress) _ (lit< tt) tt
     (follow_field 15 1 (bool timed) _ (lit< tt) tt

@@ -1,5 +1,6 @@
 -- What is read as a block is spelled by it, and what a block spells is read.
 use Rattle.std.proofs.Common.{◌≡◌, ◌∙◌, sym, subst, ap, ℕ, Bool, true, false, ◌&&◌, is_some, Option, Some, None, ◌⊎◌, inl, inr, refl, if◌then◌else◌}
+use Rattle.mt_tlv.specs.Scalars.{unsigned_in}
 use Rattle.mt_tlv.specs.declared.value.Value.{Value}
 use Rattle.mt_tlv.specs.declared.value.Value.TheVariants as values
 use Rattle.mt_tlv.specs.Tree.{Tree, int, uint, bool, text, octets, null, bits32, bits64, structure, array, list, Elements, none}
@@ -10,7 +11,7 @@ use Rattle.mt_model.specs.declared.messages.message.Path.{Path}
 use Rattle.mt_model.specs.declared.messages.message.WriteItem.{WriteItem}
 use Rattle.mt_model.specs.declared.rows.place.Place.{Place}
 use Rattle.mt_model.specs.declared.node.state.Version.{Version}
-use Rattle.mt_im.specs.Blocks.{◌>>=◌, number_in, unsigned_in, list_in, required_at, number_at, optional_number_at, optional_truth_at, not_true, index_in, index_at, attribute_path_in, event_path_in, event_filter_in, version_in, version_filter_in, is_concrete, concrete_path_in, write_item_in, command_path_in, arguments_in, command_data_in}
+use Rattle.mt_im.specs.Blocks.{◌>>=◌, number_in, list_in, required_at, number_at, optional_number_at, optional_truth_at, not_true, index_in, index_at, attribute_path_in, event_path_in, event_filter_in, version_in, version_filter_in, is_concrete, concrete_path_in, write_item_in, command_path_in, arguments_in, command_data_in}
 use Rattle.mt_model.specs.Trees.{field_in, structure_in}
 use Rattle.mt_im.specs.Fields.{HasNo, HasField}
 use Rattle.mt_im.specs.Spelling.{IndexSpells, AttributePathSpells, EventPathSpells, EventFilterSpells, ClusterPathSpells, VersionFilterSpells, IsConcrete, AttributeDataSpells, CommandPathSpells, CommandDataSpells}

@@ -1,5 +1,6 @@
 -- A fault of the encoding comes from no field.
 use Rattle.std.proofs.Common.{◌≡◌, ◌≢◌, subst, ℕ, ◌+◌, nat_le, Bool, true, false, List, [], ◌∷◌, Option, Some, None, is_some, Result, Ok, Err, IfErr, if◌then◌else◌}
+use Rattle.mt_tlv.specs.Scalars.{truth_in}
 use Rattle.mt_tlv.specs.declared.fault.TlvFault.TheVariants as tlv
 use Rattle.mt_tlv.specs.Tree.{Elements}
 use Rattle.mt_model.specs.declared.messages.message.Request.{Request}
@@ -7,7 +8,7 @@ use Rattle.mt_im.specs.declared.fault.ImFault.{ImFault}
 use Rattle.mt_im.specs.declared.fault.ImFault.TheVariants.{Tlv, Missing, TooManyPaths, Memory}
 use Rattle.mt_im.specs.declared.messages.Kind.{Kind}
 use Rattle.mt_im.specs.declared.messages.Kind.TheVariants as kinds
-use Rattle.mt_im.specs.Blocks.{number_in, truth_in, optional_truth_at, not_true, blocks_in, attribute_path_in, event_path_in, event_filter_in, version_filter_in, write_item_in, command_in}
+use Rattle.mt_im.specs.Blocks.{number_in, optional_truth_at, not_true, blocks_in, attribute_path_in, event_path_in, event_filter_in, version_filter_in, write_item_in, command_in}
 use Rattle.mt_model.specs.Trees.{field_in}
 use Rattle.mt_im.specs.Reading.{◌>>=◌, Gives, form, require, field_at, revision_at, within, blocks_at, minimum_at, selection_at, status_at, read_at, subscribe_at, write_at, invoke_at, timed_at, fields_at}
 

@@ -1,10 +1,11 @@
 -- What is read from a field is what the field holds, and what it holds is read.
 use Rattle.std.proofs.Common.{◌≡◌, ◌≢◌, ◌∙◌, sym, subst, ap, ℕ, ◌^◌, ◌<◌, nat_lt, Bool, true, false, List, [], ◌∷◌, Option, Some, None, inl, inr, refl, if◌then◌else◌}
 use Rattle.std.proofs.lemmas.Bool.{eqb-true, eq-eqb, ltb-true, lt-ltb}
+use Rattle.mt_tlv.specs.Scalars.{truth_in, unsigned_in}
 use Rattle.mt_tlv.specs.declared.value.Tag.{Tag}
 use Rattle.mt_tlv.specs.declared.value.Tag.TheVariants.{Anonymous, Context, Common, Implicit, Full}
 use Rattle.mt_tlv.specs.Tree.{Tree, uint, bool, structure, array, list, Elements, none, more}
-use Rattle.mt_im.specs.Blocks.{◌>>=◌, number_in, unsigned_in, truth_in, list_in, array_in, required_at, number_at, optional_number_in, optional_number_at, optional_truth_in, optional_truth_at, not_true, blocks_of, blocks_in, optional_blocks_in, optional_blocks_at}
+use Rattle.mt_im.specs.Blocks.{◌>>=◌, number_in, list_in, array_in, required_at, number_at, optional_number_in, optional_number_at, optional_truth_in, optional_truth_at, not_true, blocks_of, blocks_in, optional_blocks_in, optional_blocks_at}
 use Rattle.mt_model.specs.Trees.{is_context, field_in, structure_in}
 use Rattle.mt_im.specs.Fields.{HasNo, HasField, HasNumber, MayHaveNumber, HasTruth, MayHaveTruth, AreBlocks, HasBlocks, MayHaveBlocks}
 

@@ -2,6 +2,7 @@
 use Rattle.std.proofs.Common.{◌≡◌, ◌≢◌, ◌↔◌, ℕ, zero, suc, ◌+◌, ◌<◌, ◌≤◌, Bool, true, false, List, [], ◌∷◌, Option, Some, None, is_some, is_none, filter, length, get_or, nat_le, Result, Ok, Err, refl, subst, if◌then◌else◌, arith}
 use Rattle.std.specs.Prelude.{All, ⊤}
 use Rattle.std.proofs.lemmas.List.Elements.{All-nil, All-cons}
+use Rattle.mt_tlv.specs.Scalars.{truth_in, unsigned_in}
 use Rattle.mt_tlv.specs.Tree.{Elements}
 use Rattle.mt_model.specs.declared.limits.TheConstants.{PATHS, WRITE_ITEMS}
 use Rattle.mt_model.specs.declared.messages.message.Request.{Request}
@@ -11,7 +12,7 @@ use Rattle.mt_im.specs.declared.fault.ImFault.TheVariants.{Missing, Form, TooMan
 use Rattle.mt_im.specs.declared.messages.Kind.{Kind}
 use Rattle.mt_im.specs.declared.messages.Kind.TheVariants as kinds
 use Rattle.mt_im.specs.Fields.{greatest}
-use Rattle.mt_im.specs.Blocks.{number_in, unsigned_in, truth_in, required_at, optional_truth_at, not_true, blocks_in, optional_blocks_at, attribute_path_in, event_path_in, event_filter_in, version_filter_in, write_item_in, command_in}
+use Rattle.mt_im.specs.Blocks.{number_in, required_at, optional_truth_at, not_true, blocks_in, optional_blocks_at, attribute_path_in, event_path_in, event_filter_in, version_filter_in, write_item_in, command_in}
 use Rattle.mt_model.specs.Trees.{field_in}
 use Rattle.mt_im.specs.Faults.{required, missing, if_malformed, malformed, IsLowest}
 use Rattle.mt_im.specs.Reading.{◌>>=◌, form, require, within, selection_at, status_at, read_at, subscribe_at, write_at, invoke_at, timed_at, fields_at}

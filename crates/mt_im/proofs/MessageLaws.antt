@@ -1,6 +1,7 @@
 -- What is read as a message is spelled by its fields, and what they spell is read.
 use Rattle.std.proofs.Common.{◌≡◌, ◌∙◌, sym, subst, ap, ℕ, ◌+◌, ◌≤◌, nat_le, Bool, true, false, List, [], ◌∷◌, length, Option, Some, None, Result, Ok, Err, refl, if◌then◌else◌}
 use Rattle.std.proofs.lemmas.Bool.{leb-true, le-leb}
+use Rattle.mt_tlv.specs.Scalars.{truth_in}
 use Rattle.mt_tlv.specs.Tree.{Tree, uint, bool, array, Elements, none, more}
 use Rattle.mt_tlv.specs.View.{tree, value_of}
 use Rattle.mt_tlv.specs.declared.value.Value.{Value}
@@ -16,7 +17,7 @@ use Rattle.mt_im.specs.declared.fault.ImFault.{ImFault}
 use Rattle.mt_im.specs.declared.fault.ImFault.TheVariants.{TooManyPaths}
 use Rattle.mt_im.specs.declared.messages.Selection.{Selection}
 use Rattle.mt_im.specs.Fields.{greatest, HasField, HasTruth, AreBlocks, HasBlocks, MayHaveBlocks}
-use Rattle.mt_im.specs.Blocks.{number_in, truth_in, array_in, required_at, optional_truth_at, not_true, blocks_of, blocks_in, attribute_path_in, event_path_in, event_filter_in, version_filter_in, write_item_in, command_data_in, command_among, command_in}
+use Rattle.mt_im.specs.Blocks.{number_in, array_in, required_at, optional_truth_at, not_true, blocks_of, blocks_in, attribute_path_in, event_path_in, event_filter_in, version_filter_in, write_item_in, command_data_in, command_among, command_in}
 use Rattle.mt_im.specs.Spelling.{AttributePathSpells, EventPathSpells, EventFilterSpells, VersionFilterSpells, AttributeDataSpells, CommandDataSpells, FieldsSpell}
 use Rattle.mt_im.specs.Limits.{IsWithinLimits}
 use Rattle.mt_im.specs.Requests.{opcode_of}

@@ -6,6 +6,7 @@ use Rattle.mt_tlv.specs.declared.value.Tag.TheVariants.{Anonymous, Context}
 use Rattle.mt_tlv.specs.declared.value.Value.{Value}
 use Rattle.mt_tlv.specs.Tree.{Tree, uint, bool, null, array, Elements, none, more}
 use Rattle.mt_tlv.specs.View.{tree}
+use Rattle.mt_model.specs.Trees.{untagged}
 use Rattle.mt_model.specs.messages.Blocks.{optional_number, index_field, path_tree, event_path_tree}
 use Rattle.mt_model.specs.declared.messages.message.Index.{Index}
 use Rattle.mt_model.specs.declared.messages.message.Index.TheVariants.{Whole, Append, At}
@@ -16,7 +17,7 @@ use Rattle.mt_model.specs.declared.messages.message.WriteItem.{WriteItem}
 use Rattle.mt_model.specs.declared.rows.place.Place.{Place}
 use Rattle.mt_model.specs.declared.node.state.Version.{Version}
 use Rattle.mt_im.specs.Fields.{greatest, HasNo, HasField, MayHaveNumber, MayHaveTruth, AreBlocks, MayHaveBlocks}
-use Rattle.mt_im.specs.Requests.{opcode_of, revision, blocks, optional_blocks, event_filter_tree, event_filters, cluster_path_tree, version_filter_tree, write_tree, command_path_tree, command_tree, request_fields, request_tree}
+use Rattle.mt_im.specs.Requests.{opcode_of, revision, optional_blocks, event_filter_tree, event_filters, cluster_path_tree, version_filter_tree, write_tree, command_path_tree, command_tree, request_fields, request_tree}
 use Rattle.mt_im.specs.Spelling.{IndexSpells, AttributePathSpells, EventPathSpells, EventFilterSpells, VersionFilterSpells, AttributeDataSpells, CommandDataSpells, FieldsSpell, RequestSpells}
 use Rattle.mt_im.specs.Limits.{IsIndex, IsPath, IsEventPath, IsVersion, IsWriteItem, IsCommand, IsSelection, Fits}
 
@@ -42,7 +43,7 @@ past_number n k (Some number) h = past_field n k (uint number) h
 
 past_blocks : {X : Type 0} (n k : ℕ) (block : X → Tree) (xs : List X) → k == n ≡ false → Passes n (optional_blocks k block xs)
 past_blocks n k block [] h = record { field = λ w es f. f; missing = λ es f. f }
-past_blocks n k block (x ∷ xs) h = past_field n k (array (blocks block (x ∷ xs))) h
+past_blocks n k block (x ∷ xs) h = past_field n k (array (untagged block (x ∷ xs))) h
 
 past : (n : ℕ) (f g : Elements → Elements) → Passes n f → Passes n g → Passes n (λ es. f (g es))
 past n f g p q = record {
@@ -68,14 +69,14 @@ number_written : (bits n : ℕ) (o : Option ℕ) (es : Elements) → IfSome o (�
 number_written bits n None es h free = free
 number_written bits n (Some k) es h free = (field_written n (uint k) es, h)
 
-are_written : {X : Type 0} (P : X → Type 0) (block : X → Tree) (Spells : X → Tree → Type 0) → ((x : X) → P x → Spells x (block x)) → (xs : List X) → All P xs → AreBlocks Spells xs (blocks block xs)
+are_written : {X : Type 0} (P : X → Type 0) (block : X → Tree) (Spells : X → Tree → Type 0) → ((x : X) → P x → Spells x (block x)) → (xs : List X) → All P xs → AreBlocks Spells xs (untagged block xs)
 are_written P block Spells each [] h = tt
 are_written P block Spells each (x ∷ xs) h = (each x (All-head P x xs h), are_written P block Spells each xs (All-tail P x xs h))
 
 blocks_written : {X : Type 0} (n : ℕ) (P : X → Type 0) (block : X → Tree) (Spells : X → Tree → Type 0) → ((x : X) → P x → Spells x (block x)) → (xs : List X) (es : Elements) → All P xs → HasNo n es
     → MayHaveBlocks n Spells xs (optional_blocks n block xs es)
 blocks_written n P block Spells each [] es h free = inr (free, refl)
-blocks_written n P block Spells each (x ∷ xs) es h free = inl (blocks block (x ∷ xs), field_written n (array (blocks block (x ∷ xs))) es, are_written P block Spells each (x ∷ xs) h)
+blocks_written n P block Spells each (x ∷ xs) es h free = inl (untagged block (x ∷ xs), field_written n (array (untagged block (x ∷ xs))) es, are_written P block Spells each (x ∷ xs) h)
 
 -- the revision alone has no other field
 revision_free : (n : ℕ) → 255 == n ≡ false → HasNo n revision
@@ -307,17 +308,17 @@ subscribe_written keep floor ceiling paths events minimum filtered versions floo
 
 write_written : (suppress timed : Bool) (items : List WriteItem) → All IsWriteItem items → FieldsSpell (requests.Write suppress timed items) (request_fields (requests.Write suppress timed items))
 write_written suppress timed items h =
-    let writes : Elements = more (Context 2) (array (blocks write_tree items)) revision in
+    let writes : Elements = more (Context 2) (array (untagged write_tree items)) revision in
     let timed_ : Elements = more (Context 1) (bool timed) writes in
     record {
       suppress_response = truth_written 0 suppress timed_;
       timed_request = (past_field 1 0 (bool suppress) refl).field (bool timed) timed_ (field_written 1 (bool timed) writes);
       writes = (
-        blocks write_tree items,
-        (past_field 2 0 (bool suppress) refl).field (array (blocks write_tree items)) timed_ ((past_field 2 1 (bool timed) refl).field (array (blocks write_tree items)) writes (field_written 2 (array (blocks write_tree items)) revision)),
+        untagged write_tree items,
+        (past_field 2 0 (bool suppress) refl).field (array (untagged write_tree items)) timed_ ((past_field 2 1 (bool timed) refl).field (array (untagged write_tree items)) writes (field_written 2 (array (untagged write_tree items)) revision)),
         are_written IsWriteItem write_tree AttributeDataSpells item_written items h,
       );
-      more_chunks = inr ((past_field 3 0 (bool suppress) refl).missing timed_ ((past_field 3 1 (bool timed) refl).missing writes ((past_field 3 2 (array (blocks write_tree items)) refl).missing revision (revision_free 3 refl))));
+      more_chunks = inr ((past_field 3 0 (bool suppress) refl).missing timed_ ((past_field 3 1 (bool timed) refl).missing writes ((past_field 3 2 (array (untagged write_tree items)) refl).missing revision (revision_free 3 refl))));
     }
 
 invoke_written : (suppress timed : Bool) (command : Place) (fields : Value) → IsCommand command → FieldsSpell (requests.Invoke suppress timed command fields) (request_fields (requests.Invoke suppress timed command fields))
@@ -379,7 +380,7 @@ revision_written (requests.Subscribe keep floor ceiling paths events minimum fil
 revision_written (requests.Write suppress timed items) =
     (behind (past_field 255 0 (bool suppress) refl)
     (behind (past_field 255 1 (bool timed) refl)
-    (behind (past_field 255 2 (array (blocks write_tree items)) refl)
+    (behind (past_field 255 2 (array (untagged write_tree items)) refl)
     revision_here)))
 revision_written (requests.Invoke suppress timed command fields) =
     (behind (past_field 255 0 (bool suppress) refl)

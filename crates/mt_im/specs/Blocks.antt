@@ -1,5 +1,6 @@
 -- Reading fields and blocks: what they hold, or None where they are malformed.
 use Rattle.std.specs.Prelude.{ℕ, ◌^◌, Bool, true, false, ◌&&◌, ◌==◌, nat_lt, List, [], ◌∷◌, Option, Some, None, is_some, if◌then◌else◌}
+use Rattle.mt_tlv.specs.Scalars.{truth_in, unsigned_in}
 use Rattle.mt_tlv.specs.declared.value.Value.{Value}
 use Rattle.mt_tlv.specs.declared.value.Value.TheVariants as values
 use Rattle.mt_tlv.specs.Tree.{Tree, int, uint, bool, text, octets, null, bits32, bits64, structure, array, list, Elements, none, more}
@@ -23,15 +24,6 @@ None >>= f = None
 abbrev pub number_in : ℕ → Tree → Option ℕ
 number_in bits (uint n) = if nat_lt n (2 ^ bits) then Some n else None
 number_in bits v = None
-
--- an unsigned number
-abbrev pub unsigned_in : Tree → Option ℕ
-unsigned_in (uint n) = Some n
-unsigned_in v = None
-
-abbrev pub truth_in : Tree → Option Bool
-truth_in (bool b) = Some b
-truth_in v = None
 
 -- the members of a list
 abbrev pub list_in : Tree → Option Elements

@@ -1,9 +1,10 @@
 -- Which fields of a message are missing, and which are malformed.
 use Rattle.std.specs.Prelude.{ℕ, ◌≤◌, List, [], ◌∷◌, Option, Some, None, is_none, filter, All, Contains}
+use Rattle.mt_tlv.specs.Scalars.{truth_in, unsigned_in}
 use Rattle.mt_tlv.specs.Tree.{Elements}
 use Rattle.mt_im.specs.declared.messages.Kind.{Kind}
 use Rattle.mt_im.specs.declared.messages.Kind.TheVariants as kinds
-use Rattle.mt_im.specs.Blocks.{number_in, unsigned_in, truth_in, required_at, optional_truth_at, not_true, blocks_in, optional_blocks_at, attribute_path_in, event_path_in, event_filter_in, version_filter_in, write_item_in, command_in}
+use Rattle.mt_im.specs.Blocks.{number_in, required_at, optional_truth_at, not_true, blocks_in, optional_blocks_at, attribute_path_in, event_path_in, event_filter_in, version_filter_in, write_item_in, command_in}
 use Rattle.mt_model.specs.Trees.{field_in}
 
 -- the fields that a message must have

@@ -1,6 +1,7 @@
 -- Reading a request from its fields, with the first fault: fields that are missing come before fields that are
 -- malformed, each by ascending tag, and then the number of paths or items.
 use Rattle.std.specs.Prelude.{◌≡◌, ◌≢◌, ℕ, ◌+◌, ◌==◌, nat_le, List, [], ◌∷◌, length, Option, Some, None, is_some, Result, Ok, Err, if◌then◌else◌}
+use Rattle.mt_tlv.specs.Scalars.{truth_in, unsigned_in}
 use Rattle.mt_tlv.specs.declared.fault.TlvFault.{TlvFault}
 use Rattle.mt_tlv.specs.declared.value.Tag.{Tag}
 use Rattle.mt_tlv.specs.Limits.{is_anonymous}
@@ -16,7 +17,7 @@ use Rattle.mt_im.specs.declared.messages.Kind.{Kind}
 use Rattle.mt_im.specs.declared.messages.Kind.TheVariants as kinds
 use Rattle.mt_im.specs.declared.messages.Selection.{Selection}
 use Rattle.mt_im.specs.Fields.{greatest}
-use Rattle.mt_im.specs.Blocks.{number_in, unsigned_in, truth_in, required_at, optional_truth_at, not_true, blocks_in, optional_blocks_at, attribute_path_in, event_path_in, event_filter_in, version_filter_in, write_item_in, command_in}
+use Rattle.mt_im.specs.Blocks.{number_in, required_at, optional_truth_at, not_true, blocks_in, optional_blocks_at, attribute_path_in, event_path_in, event_filter_in, version_filter_in, write_item_in, command_in}
 use Rattle.mt_model.specs.Trees.{field_in, structure_in}
 
 infixl 10 ◌>>=◌

@@ -7,6 +7,7 @@ use Rattle.mt_tlv.specs.declared.value.Tag.TheVariants.{Anonymous, Context}
 use Rattle.mt_tlv.specs.declared.value.Value.{Value}
 use Rattle.mt_tlv.specs.Tree.{Tree, uint, bool, structure, array, list, Elements, none, more}
 use Rattle.mt_tlv.specs.View.{tree}
+use Rattle.mt_model.specs.Trees.{untagged}
 use Rattle.mt_model.specs.messages.Blocks.{optional_number, path_tree, event_path_tree}
 use Rattle.mt_model.specs.declared.messages.message.Request.{Request}
 use Rattle.mt_model.specs.declared.messages.message.Request.TheVariants as requests
@@ -28,15 +29,10 @@ opcode_of (requests.Timed ms) = TIMED_REQUEST
 abbrev pub revision : Elements
 revision = more (Context 255) (uint 1) none
 
--- the blocks of these items, one after the other
-abbrev pub blocks : {X : Type 0} → (X → Tree) → List X → Elements
-blocks block [] = none
-blocks block (x ∷ xs) = more Anonymous (block x) (blocks block xs)
-
 -- an array of blocks, left out where there is none
 abbrev pub optional_blocks : {X : Type 0} → ℕ → (X → Tree) → List X → Elements → Elements
 optional_blocks tag block [] others = others
-optional_blocks tag block (x ∷ xs) others = more (Context tag) (array (blocks block (x ∷ xs))) others
+optional_blocks tag block (x ∷ xs) others = more (Context tag) (array (untagged block (x ∷ xs))) others
 
 -- EventFilter: 1 minimum
 abbrev pub event_filter_tree : ℕ → Tree
@@ -90,7 +86,7 @@ request_fields (requests.Subscribe keep floor ceiling paths events minimum filte
     (optional_blocks 8 version_filter_tree versions revision)))))))
 -- WriteRequest: 0 suppress response, 1 timed request, 2 writes
 request_fields (requests.Write suppress timed items) =
-    more (Context 0) (bool suppress) (more (Context 1) (bool timed) (more (Context 2) (array (blocks write_tree items)) revision))
+    more (Context 0) (bool suppress) (more (Context 1) (bool timed) (more (Context 2) (array (untagged write_tree items)) revision))
 -- InvokeRequest: 0 suppress response, 1 timed request, 2 requests, of which there is one
 request_fields (requests.Invoke suppress timed command fields) =
     more (Context 0) (bool suppress) (more (Context 1) (bool timed)

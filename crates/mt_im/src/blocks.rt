@@ -5,10 +5,10 @@ ghost use Rattle.std.specs.Prelude.{◌≡◌};
 ghost use Rattle.mt_tlv.specs.View.{tree, elements};
 ghost use Rattle.mt_im.specs.Blocks.{index_at, attribute_path_in, event_path_in, event_filter_in, version_in, version_filter_in, is_concrete as is_concrete_path, concrete_path_in, write_item_in, command_path_in, command_data_in};
 
-use crate::fields::{
-    list_of, optional_truth, optional_u16, optional_u32, u16_at, u16_of, u32_at, u64_of,
+use crate::fields::{list_of, optional_truth, optional_u16, optional_u32, u16_at, u16_of, u32_at};
+use mt_model::{
+    Index, Path, Place, Version, WriteItem, field, structure_of, take_field, unsigned_of,
 };
-use mt_model::{Index, Path, Place, Version, WriteItem, field, structure_of, take_field};
 use mt_tlv::{Members, Tag, Value};
 use std::alloc::Global;
 
@@ -62,7 +62,7 @@ pub(crate) fn event_path(value: &Value) -> Option<Path>
 pub(crate) fn event_filter(value: &Value) -> Option<u64>
     ensures { result ≡ event_filter_in (tree value.now) }
 {
-    u64_of(field(structure_of(value)?, 1)?)
+    unsigned_of(field(structure_of(value)?, 1)?)
 }
 
 /// VersionFilter: a structure of ClusterPath (0) and the data version (1).

@@ -1,13 +1,14 @@
 //! Fields by their tags, and what they hold.
 
 ghost use Rattle.std.specs.Prelude.{◌≡◌, option_map};
+ghost use Rattle.mt_tlv.specs.Scalars.{truth_in};
 ghost use Rattle.mt_tlv.specs.View.{tree, elements};
-ghost use Rattle.mt_im.specs.Blocks.{number_in, unsigned_in, truth_in, list_in, array_in, number_at, optional_number_at, optional_truth_at};
+ghost use Rattle.mt_im.specs.Blocks.{number_in, list_in, array_in, number_at, optional_number_at, optional_truth_at};
 ghost use Rattle.mt_model.specs.Trees.{field_in};
 ghost use Rattle.mt_im.specs.Reading.{require as required_fields, field_at, revision_at};
 
 use crate::fault::ImFault;
-use mt_model::field;
+use mt_model::{field, unsigned_of};
 use mt_tlv::{Tag, Value};
 
 /// The revision, which every message has.
@@ -29,16 +30,6 @@ pub(crate) fn array_of(value: &Value) -> Option<&[(Tag, Value)]>
 {
     match value {
         Value::Array(members) => Some(members.as_slice()),
-        _ => None,
-    }
-}
-
-/// An unsigned number.
-pub(crate) fn u64_of(value: &Value) -> Option<u64>
-    ensures { result ≡ unsigned_in (tree value.now) }
-{
-    match value {
-        Value::Uint(number) => Some(*number),
         _ => None,
     }
 }
@@ -179,7 +170,7 @@ pub(crate) fn revision(members: &[(Tag, Value)]) -> Result<u64, ImFault>
     ensures { result ≡ revision_at (elements members.now) }
 {
     match field(members, REVISION) {
-        Some(value) => u64_of(value).ok_or(ImFault::Form(REVISION)),
+        Some(value) => unsigned_of(value).ok_or(ImFault::Form(REVISION)),
         None => Err(ImFault::Form(REVISION)),
     }
 }

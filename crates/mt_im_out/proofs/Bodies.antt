@@ -5,10 +5,11 @@ use Rattle.std.proofs.lemmas.List.{append-nil}
 use Rattle.mt_tlv.specs.declared.value.Tag.TheVariants.{Anonymous}
 use Rattle.mt_tlv.specs.Narrow.{narrow, narrow_elements, end_of_container}
 use Rattle.mt_tlv.specs.Tree.{none}
+use Rattle.mt_model.specs.Trees.{untagged}
 use Rattle.mt_model.specs.messages.Blocks.{optional_number, item_block, item_tree}
 use Rattle.mt_model.specs.declared.limits.TheConstants.{ITEM_BYTES}
 use Rattle.mt_model.specs.declared.messages.message.Item.{Item}
-use Rattle.mt_im.specs.Requests.{blocks, optional_blocks, revision}
+use Rattle.mt_im.specs.Requests.{optional_blocks, revision}
 use Rattle.mt_im_out.specs.Messages.{optional_truth, report_tree}
 use Rattle.mt_im_out.specs.Chunks.{fit}
 use Rattle.mt_im_out.specs.Packing.{optional_bytes, report_bytes, joins}
@@ -16,7 +17,7 @@ use Rattle.mt_im_out.proofs.Tails.{number_tail, truth_tail, items_tail}
 
 -- the blocks of items, one after the other
 abbrev pub bytes_of : List Item → List ℕ
-bytes_of xs = narrow_elements (blocks item_tree xs)
+bytes_of xs = narrow_elements (untagged item_tree xs)
 
 pub bytes-append : (xs ys : List Item) → bytes_of (xs ++ ys) ≡ bytes_of xs ++ bytes_of ys
 bytes-append [] ys = refl

@@ -4,12 +4,13 @@ use Rattle.std.proofs.lemmas.List.{append-nil}
 use Rattle.mt_tlv.specs.declared.value.Tag.TheVariants.{Anonymous, Context}
 use Rattle.mt_tlv.specs.Narrow.{narrow, narrow_elements, length_and_value, opening, end_of_container}
 use Rattle.mt_tlv.specs.Tree.{Tree, uint, bool, array, structure, Elements, none, more}
+use Rattle.mt_model.specs.Trees.{untagged}
 use Rattle.mt_model.specs.messages.Blocks.{optional_number, path_tree, event_path_tree, refused_tree, item_block, item_tree}
 use Rattle.mt_model.specs.declared.messages.message.Item.TheVariants as items
 use Rattle.mt_model.specs.declared.messages.message.Item.{Item}
 use Rattle.mt_model.specs.declared.messages.message.Path.{Path}
 use Rattle.mt_model.specs.declared.node.state.Version.{Version}
-use Rattle.mt_im.specs.Requests.{blocks, optional_blocks, event_filter_tree, version_filter_tree, revision}
+use Rattle.mt_im.specs.Requests.{optional_blocks, event_filter_tree, version_filter_tree, revision}
 use Rattle.mt_im_out.specs.Chunks.{event_items}
 use Rattle.mt_im_out.specs.Messages.{optional_truth, status_elements, invoke_response_tree}
 use Rattle.mt_im_out.specs.Packing.{optional_bytes}
@@ -23,7 +24,7 @@ truth_tail tag false others = refl
 truth_tail tag true others = ap (λ x. x ++ narrow_elements others) (sym (append-nil (narrow (Context tag) (bool true))))
 
 -- items in front of others
-pub items_tail : (tag : ℕ) (xs : List Item) (others : Elements) → narrow_elements (optional_blocks tag item_tree xs others) ≡ optional_bytes tag (narrow_elements (blocks item_tree xs)) ++ narrow_elements others
+pub items_tail : (tag : ℕ) (xs : List Item) (others : Elements) → narrow_elements (optional_blocks tag item_tree xs others) ≡ optional_bytes tag (narrow_elements (untagged item_tree xs)) ++ narrow_elements others
 items_tail tag [] others = refl
 items_tail tag (x ∷ xs) others = refl
 
@@ -43,11 +44,11 @@ statuses (items.Event e) xs = refl
 statuses (items.EventRefused path code) xs = refl
 
 -- one item in front of others, where it is that of an event
-pub events : (x : Item) (xs : List Item) → narrow_elements (blocks item_tree (event_items (x ∷ xs))) ≡ narrow_elements (blocks item_tree (event_items (x ∷ []))) ++ narrow_elements (blocks item_tree (event_items xs))
+pub events : (x : Item) (xs : List Item) → narrow_elements (untagged item_tree (event_items (x ∷ xs))) ≡ narrow_elements (untagged item_tree (event_items (x ∷ []))) ++ narrow_elements (untagged item_tree (event_items xs))
 events (items.Attribute path version value) xs = refl
 events (items.Refused path code) xs = refl
-events (items.Event e) xs = ap (λ s. s ++ narrow_elements (blocks item_tree (event_items xs))) (sym (append-nil (item_block (items.Event e))))
-events (items.EventRefused path code) xs = ap (λ s. s ++ narrow_elements (blocks item_tree (event_items xs))) (sym (append-nil (item_block (items.EventRefused path code))))
+events (items.Event e) xs = ap (λ s. s ++ narrow_elements (untagged item_tree (event_items xs))) (sym (append-nil (item_block (items.Event e))))
+events (items.EventRefused path code) xs = ap (λ s. s ++ narrow_elements (untagged item_tree (event_items xs))) (sym (append-nil (item_block (items.EventRefused path code))))
 
 -- the answer to a command, with what stands around it
 pub invoke_is : (tag : ℕ) (fields : Elements) → narrow Anonymous (invoke_response_tree tag (structure fields))
@@ -58,7 +59,7 @@ invoke_is tag fields = simp (append_assoc, append-nil)
 -- blocks in front of others
 pub blocks_tail : {X : Type 0} (tag : ℕ) (block : X → Tree) (xs : List X) (others : Elements) → narrow_elements (optional_blocks tag block xs others) ≡ narrow_elements (optional_blocks tag block xs none) ++ narrow_elements others
 blocks_tail tag block [] others = refl
-blocks_tail tag block (x ∷ xs) others = ap (λ s. s ++ narrow_elements others) (sym (append-nil (narrow (Context tag) (array (blocks block (x ∷ xs))))))
+blocks_tail tag block (x ∷ xs) others = ap (λ s. s ++ narrow_elements others) (sym (append-nil (narrow (Context tag) (array (untagged block (x ∷ xs))))))
 
 -- what a read or a subscription asks, in front of others
 asked : (a b c d e : ℕ) (paths events : List Path) (filters : List ℕ) (filtered : Bool) (versions : List Version) (others : Elements)

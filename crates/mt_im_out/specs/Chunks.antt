@@ -6,6 +6,7 @@ use Rattle.mt_tlv.specs.declared.value.Value.TheVariants as values
 use Rattle.mt_tlv.specs.Tree.{Tree, Elements, none, more}
 use Rattle.mt_tlv.specs.Narrow.{narrow, narrow_elements}
 use Rattle.mt_tlv.specs.View.{value_of}
+use Rattle.mt_model.specs.Trees.{untagged}
 use Rattle.mt_model.specs.declared.limits.TheConstants.{ITEM_BYTES}
 use Rattle.mt_model.specs.declared.messages.message.Index.TheVariants.{Append}
 use Rattle.mt_model.specs.declared.messages.message.Item.{Item}
@@ -16,14 +17,14 @@ use Rattle.mt_model.specs.declared.messages.message.Reply.{Reply}
 use Rattle.mt_model.specs.declared.messages.message.Reply.TheVariants as replies
 use Rattle.mt_model.specs.declared.messages.opcode.TheConstants.{STATUS_RESPONSE, SUBSCRIBE_RESPONSE, REPORT_DATA, WRITE_RESPONSE, INVOKE_RESPONSE}
 use Rattle.mt_model.specs.messages.Blocks.{item_tree}
-use Rattle.mt_im.specs.Requests.{blocks, command_tree}
+use Rattle.mt_im.specs.Requests.{command_tree}
 use Rattle.mt_im_out.specs.Messages.{status_response_tree, subscribe_response_tree, write_response_tree, command_status_tree, invoke_response_tree, report_tree}
 
 -- A list that is too long.
 
 -- how many bytes the blocks of items have together
 abbrev pub size_of : List Item → ℕ
-size_of items = length (narrow_elements (blocks item_tree items))
+size_of items = length (narrow_elements (untagged item_tree items))
 
 -- whether a payload takes the items together
 abbrev pub fit : List Item → Bool

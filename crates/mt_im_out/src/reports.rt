@@ -5,8 +5,8 @@ ghost use Rattle.mt_tlv.specs.Narrow.{narrow_elements};
 ghost use Rattle.mt_tlv.specs.Tree.{none};
 ghost use Rattle.mt_tlv.specs.View.{elements, tree, value_of};
 ghost use Rattle.mt_tlv.specs.declared.value.Value.TheVariants as values;
+ghost use Rattle.mt_model.specs.Trees.{untagged};
 ghost use Rattle.mt_model.specs.declared.messages.message.Item.TheVariants as items;
-ghost use Rattle.mt_im.specs.Requests.{blocks};
 ghost use Rattle.mt_model.specs.messages.Blocks.{item_block, item_tree};
 ghost use Rattle.mt_im_out.specs.Chunks.{appended, is_event, split_item, event_items, parts_of, report_payloads};
 ghost use Rattle.mt_im_out.specs.Packing.{optional_bytes, blocks_payload, packed, joins, put, put_all, put_attribute, put_attributes, finished};
@@ -263,7 +263,7 @@ fn is_of_event(item: &Item) -> bool
 // The blocks of the items of events.
 #[tactic(auto, using(crate::proofs::Tails::events))]
 fn event_blocks(alloc: Global, items: &[Item]) -> Result<Vec<u8>, AllocError>
-    ensures { IfOk result (λ bytes. bytes.items ≡ narrow_elements (blocks item_tree (event_items items.now))) }
+    ensures { IfOk result (λ bytes. bytes.items ≡ narrow_elements (untagged item_tree (event_items items.now))) }
 {
     let mut blocks = Vec::new(alloc);
     'items: for item in items {
@@ -273,7 +273,7 @@ fn event_blocks(alloc: Global, items: &[Item]) -> Result<Vec<u8>, AllocError>
 }
 
 fn write_if_event(item: &Item, out: &mut Vec<u8>) -> Result<(), AllocError>
-    ensures { OnOk result (out.new.items ≡ out.old.items ++ narrow_elements (blocks item_tree (event_items (item.now ∷ [])))) }
+    ensures { OnOk result (out.new.items ≡ out.old.items ++ narrow_elements (untagged item_tree (event_items (item.now ∷ [])))) }
 {
     if !is_of_event(item) {
         return Ok(());

@@ -4,9 +4,10 @@ ghost use Rattle.std.specs.Prelude.{◌≡◌, ◌++◌, [], ◌∷◌, IfOk, On
 ghost use Rattle.mt_tlv.specs.declared.value.Tag.TheVariants.{Anonymous, Context};
 ghost use Rattle.mt_tlv.specs.Narrow.{narrow, narrow_elements, length_and_value, end_of_container};
 ghost use Rattle.mt_tlv.specs.Tree.{uint, bool, structure, array, none, more};
+ghost use Rattle.mt_model.specs.Trees.{untagged};
 ghost use Rattle.mt_model.specs.messages.Blocks.{path_tree, event_path_tree};
 ghost use Rattle.mt_model.specs.declared.messages.message.Request.TheVariants as requests;
-ghost use Rattle.mt_im.specs.Requests.{blocks, optional_blocks, command_tree, event_filter_tree, event_filters, version_filter_tree, write_tree, revision, request_fields, request_tree};
+ghost use Rattle.mt_im.specs.Requests.{optional_blocks, command_tree, event_filter_tree, event_filters, version_filter_tree, write_tree, revision, request_fields, request_tree};
 
 use crate::blocks::{write_command_data, write_event_path, write_path};
 use crate::fields::{
@@ -150,7 +151,7 @@ fn write_paths(tag: u8, paths: &[Path], out: &mut Vec<u8>) -> Result<(), AllocEr
 }
 
 fn write_path_blocks(paths: &[Path], out: &mut Vec<u8>) -> Result<(), AllocError>
-    ensures { OnOk result (out.new.items ≡ out.old.items ++ narrow_elements (blocks path_tree paths.now)) }
+    ensures { OnOk result (out.new.items ≡ out.old.items ++ narrow_elements (untagged path_tree paths.now)) }
 {
     'paths: for path in paths {
         open(LIST, out)?;
@@ -172,7 +173,7 @@ fn write_event_paths(tag: u8, paths: &[Path], out: &mut Vec<u8>) -> Result<(), A
 }
 
 fn write_event_path_blocks(paths: &[Path], out: &mut Vec<u8>) -> Result<(), AllocError>
-    ensures { OnOk result (out.new.items ≡ out.old.items ++ narrow_elements (blocks event_path_tree paths.now)) }
+    ensures { OnOk result (out.new.items ≡ out.old.items ++ narrow_elements (untagged event_path_tree paths.now)) }
 {
     'paths: for path in paths {
         open(LIST, out)?;
@@ -208,7 +209,7 @@ fn write_version_filters(tag: u8, versions: &[Version], out: &mut Vec<u8>) -> Re
 }
 
 fn write_version_blocks(versions: &[Version], out: &mut Vec<u8>) -> Result<(), AllocError>
-    ensures { OnOk result (out.new.items ≡ out.old.items ++ narrow_elements (blocks version_filter_tree versions.now)) }
+    ensures { OnOk result (out.new.items ≡ out.old.items ++ narrow_elements (untagged version_filter_tree versions.now)) }
 {
     'versions: for version in versions {
         write_version_filter(version, out)?;
@@ -246,7 +247,7 @@ fn write_writes(
 }
 
 fn write_write_blocks(items: &[WriteItem], out: &mut Vec<u8>) -> Result<(), AllocError>
-    ensures { OnOk result (out.new.items ≡ out.old.items ++ narrow_elements (blocks write_tree items.now)) }
+    ensures { OnOk result (out.new.items ≡ out.old.items ++ narrow_elements (untagged write_tree items.now)) }
 {
     'items: for item in items {
         write_write_item(item, out)?;

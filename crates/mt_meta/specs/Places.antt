@@ -1,6 +1,7 @@
 -- The places of attributes, and those that a path names (Matter Core Specification, section 8.2.1, Path).
 use Rattle.std.specs.Prelude.{ℕ, ◌==◌, nat_lt, ◌&&◌, ◌||◌, not, Bool, true, false, is_none, List, [], ◌∷◌, Option, Some, None, map, filter}
 use Rattle.std.specs.List.{flat_map, list_any}
+use Rattle.mt_model.specs.Optional.{fits}
 use Rattle.mt_model.specs.rows.Order.{stands_before}
 use Rattle.mt_model.specs.rows.Sight.{same_place}
 use Rattle.mt_model.specs.declared.messages.message.Path.{Path}
@@ -21,11 +22,6 @@ places_of_endpoint endpoint = flat_map (places_of_cluster endpoint) (clusters_of
 -- all places, ascending by endpoint, cluster and attribute
 abbrev pub all_places : List Place
 all_places = flat_map places_of_endpoint endpoints
-
--- a field that is not there fits everything
-abbrev pub fits : Option ℕ → ℕ → Bool
-fits None number = true
-fits (Some wanted) number = wanted == number
 
 -- the place has each field that the path has
 abbrev pub is_named : Path → Place → Bool

@@ -3,7 +3,7 @@
 ghost use Rattle.std.specs.Prelude.{◌≡◌, ◌↔◌, ◌==◌, ◌++◌, ◌&&◌, All, IfOk, IsOk, IsTrue, OnOk, filter, map};
 ghost use Rattle.std.specs.List.{flat_map, list_any};
 ghost use Rattle.mt_meta.specs.Finding.{find_of};
-ghost use Rattle.mt_meta.specs.Places.{all_places, fits, is_global, is_named, is_named_by, is_not_global, place_of, places, places_of_cluster, places_of_endpoint};
+ghost use Rattle.mt_meta.specs.Places.{all_places, is_global, is_named, is_named_by, is_not_global, place_of, places, places_of_cluster, places_of_endpoint};
 
 use crate::rows::AttributeRow;
 use crate::table::{attributes_of, clusters_of, endpoints, extensions_of, globals};
@@ -134,25 +134,7 @@ pub fn is_named_by(paths: &[Path], place: &Place) -> bool
 fn is_named(path: &Path, place: &Place) -> bool
     ensures { result ≡ is_named path.now place.now }
 {
-    fits_endpoint(path.endpoint, place.endpoint)
-        && fits_number(path.cluster, place.cluster)
-        && fits_number(path.leaf, place.leaf)
-}
-
-fn fits_endpoint(wanted: Option<u16>, endpoint: u16) -> bool
-    ensures { result ≡ fits wanted endpoint }
-{
-    match wanted {
-        None => true,
-        Some(wanted) => wanted == endpoint,
-    }
-}
-
-fn fits_number(wanted: Option<u32>, number: u32) -> bool
-    ensures { result ≡ fits wanted number }
-{
-    match wanted {
-        None => true,
-        Some(wanted) => wanted == number,
-    }
+    place.fits_endpoint(path.endpoint)
+        && place.fits_cluster(path.cluster)
+        && place.fits_leaf(path.leaf)
 }

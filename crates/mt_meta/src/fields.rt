@@ -2,7 +2,6 @@
 
 ghost use Rattle.std.specs.Prelude.{◌≡◌};
 ghost use Rattle.std.specs.List.{list_all};
-ghost use Rattle.std.specs.Str.{is_utf8};
 ghost use Rattle.mt_tlv.specs.View.{elements, tree};
 ghost use Rattle.mt_tlv.specs.declared.value.Tag.{Tag};
 ghost use Rattle.mt_tlv.specs.declared.value.Value.{Value};
@@ -13,7 +12,7 @@ ghost use Rattle.mt_meta.specs.Fields.{all_elements, are_octets, are_within, fie
 
 use crate::rows::{Field, Form};
 use crate::targets::target_of;
-use mt_model::{field, structure_of};
+use mt_model::{field, is_utf8, structure_of};
 use mt_tlv::{Tag, Value};
 
 /// Whether a value has the type that a form asks for.
@@ -64,15 +63,6 @@ fn is_text(value: &Value) -> bool
     match value {
         Value::Text(text) => is_utf8(text.as_slice()),
         _ => false,
-    }
-}
-
-fn is_utf8(bytes: &[u8]) -> bool
-    ensures { result ≡ is_utf8 bytes.now }
-{
-    match std::str::from_utf8(bytes) {
-        Ok(_) => true,
-        Err(_) => false,
     }
 }
 

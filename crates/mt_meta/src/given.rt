@@ -5,17 +5,14 @@ ghost use Rattle.std.specs.Prelude.{◌≡◌, option_map};
 ghost use Rattle.mt_tlv.specs.View.{tree};
 ghost use Rattle.mt_meta.specs.Given.{field_of, flag_of, given_number, number_of, octets_of, text_of};
 
-use mt_model::{field, structure_of};
+use mt_model::{field, structure_of, unsigned_of};
 use mt_tlv::Value;
 
 /// A number that may be missing.
 pub fn given_number(fields: &Value, number: u8) -> Option<u64>
     ensures { result ≡ given_number number fields.now }
 {
-    match field_of(fields, number) {
-        Some(Value::Uint(given)) => Some(*given),
-        _ => None,
-    }
+    unsigned_of(field_of(fields, number)?)
 }
 
 /// A number, 0 where it is missing.

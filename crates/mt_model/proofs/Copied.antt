@@ -14,14 +14,15 @@ use Rattle.std.proofs.lemmas.Map.Keys.{sorted_head, sorted_tail}
 use Rattle.std.proofs.lemmas.Map.Made.{is_some-lookup}
 use Rattle.mt_model.specs.rows.Order.{are_ascending}
 use Rattle.mt_model.specs.rows.Sight.{stands_at}
-use Rattle.mt_model.specs.rows.Stored.{IsKept, has_place, listed, place_order, stand_there, stays, stored_places}
+use Rattle.mt_model.specs.rows.Stored.{IsKept, has_place, listed, place_order, stand_there, stored_places}
+use Rattle.mt_model.specs.tables.Leaving.{stays}
 use Rattle.mt_model.specs.declared.rows.place.Place.{Place}
 use Rattle.mt_model.specs.declared.rows.place.Row.{Row}
 use Rattle.mt_model.proofs.Setting.{ascending_filter}
 use Rattle.mt_model.proofs.Stored.{Kept, all_weaker, filter_keeps}
 
 -- where nothing is left out, all stay
-pub all_stay : (rows : List Row) → filter (stays None) rows ≡ rows
+pub all_stay : (rows : List Row) → filter (λ (row : Row). stays None row.fabric) rows ≡ rows
 all_stay [] = refl
 all_stay (row ∷ rows) = ap (λ (l : List Row). row ∷ l) (all_stay rows)
 

@@ -1,7 +1,8 @@
 -- An entry's value is read as the entry.
 use Rattle.std.proofs.Common.{◌≡◌, ℕ, List, [], ◌∷◌, Option, Some, None, refl, ap}
+use Rattle.mt_tlv.specs.Scalars.{unsigned_in}
 use Rattle.mt_tlv.specs.Tree.{uint}
-use Rattle.mt_model.specs.tables.Entries.{each_in, entry_in, entry_value, entry_with, list_in, mode_number, mode_numbered, number_in, one_more, optional_in, privilege_number, privilege_numbered, subjects_tree, target_in, target_tree, target_with, targets_tree}
+use Rattle.mt_model.specs.tables.Entries.{each_in, entry_in, entry_value, entry_with, list_in, mode_number, mode_numbered, one_more, optional_in, privilege_number, privilege_numbered, subjects_tree, target_in, target_tree, target_with, targets_tree}
 use Rattle.mt_model.specs.Trees.{nullable, untagged}
 use Rattle.mt_model.specs.declared.tables.access.AclEntry.{AclEntry}
 use Rattle.mt_model.specs.declared.tables.access.Auth.{Auth}
@@ -22,11 +23,11 @@ mode_again Pase = refl
 mode_again Case = refl
 mode_again Group = refl
 
-numbers_again : (ns : List ℕ) → each_in number_in (untagged uint ns) ≡ Some ns
+numbers_again : (ns : List ℕ) → each_in unsigned_in (untagged uint ns) ≡ Some ns
 numbers_again [] = refl
 numbers_again (n ∷ ns) = ap (one_more (Some n)) (numbers_again ns)
 
-subjects_again : (ns : List ℕ) → list_in number_in (subjects_tree ns) ≡ Some ns
+subjects_again : (ns : List ℕ) → list_in unsigned_in (subjects_tree ns) ≡ Some ns
 subjects_again [] = refl
 subjects_again (n ∷ ns) = numbers_again (n ∷ ns)
 

@@ -1,3 +1,4 @@
+pub mod Optional
 pub mod Trees
 pub mod messages
 pub mod rows

@@ -1,3 +1,4 @@
 pub mod Access
 pub mod Entries
 pub mod Known
+pub mod Leaving

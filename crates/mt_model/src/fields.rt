@@ -1,6 +1,8 @@
-//! Fields of a structure, a list or a message, by their context tags.
+//! Fields of a structure, a list or a message, by their context tags, and what values are.
 
 ghost use Rattle.std.specs.Prelude.{◌≡◌, ◌<◌, length, Some, None, MatchOption, slice_index_or, option_map};
+ghost use Rattle.std.specs.Str.{is_utf8};
+ghost use Rattle.mt_tlv.specs.Scalars.{unsigned_in};
 ghost use Rattle.mt_tlv.specs.declared.value.Tag.{Tag};
 ghost use Rattle.mt_tlv.specs.declared.value.Value.{Value};
 ghost use Rattle.mt_tlv.specs.View.{elements, tree};
@@ -50,6 +52,26 @@ pub fn structure_of(value: &Value) -> Option<&[(Tag, Value)]>
 {
     match value {
         Value::Struct(members) => Some(members.as_slice()),
+        _ => None,
+    }
+}
+
+/// Whether bytes are UTF-8, as a text's have to be.
+pub fn is_utf8(bytes: &[u8]) -> bool
+    ensures { result ≡ is_utf8 bytes.now }
+{
+    match std::str::from_utf8(bytes) {
+        Ok(_) => true,
+        Err(_) => false,
+    }
+}
+
+/// The unsigned number that a value is, None where it is none.
+pub fn unsigned_of(value: &Value) -> Option<u64>
+    ensures { result ≡ unsigned_in (tree value.now) }
+{
+    match value {
+        Value::Uint(number) => Some(*number),
         _ => None,
     }
 }

@@ -12,7 +12,7 @@ mod rows;
 mod tables;
 mod texts;
 
-pub use fields::{field, structure_of, take_field};
+pub use fields::{field, is_utf8, structure_of, take_field, unsigned_of};
 pub use laws::{
     entries_are_in_order, entries_are_read_again, fabrics_are_in_order, in_order_sees,
     limits_are_these, numbered_fabrics_ascend, opcodes_are_those_of_the_standard,
@@ -42,7 +42,7 @@ pub use tables::access::{
     AclEntries, AclEntry, Actor, Auth, Privilege, Subjects, Target, Targets, entries_ascend_from,
     entries_of,
 };
-pub use tables::fabric::{Credentials, Fabric, Fabrics, is_operational};
+pub use tables::fabric::{Credentials, Fabric, Fabrics, is_operational, stays};
 pub use tables::network::{Armed, Network, Networks, Roots};
 pub use texts::config::{
     Config, CsrRow, CsrRows, JoinRow, JoinRows, RootRow, RootRows, SessionRow, SessionRows, Ssids,

@@ -1,6 +1,7 @@
 -- What entries of a fabric stand behind steps, and when the rows of the access control list are the same.
 use Rattle.std.proofs.Common.{◌≡◌, ◌↔◌, ℕ, ◌≤◌, ◌==◌, ◌⊎◌, inl, inr, not, Bool, true, false, List, [], ◌∷◌, ◌++◌, Option, Some, None, IsTrue, refl, sym, ap, ◌∙◌, subst, filter, append-nil, arith, if◌then◌else◌, unwrap_or}
 use Rattle.std.specs.List.{list_all, list_any}
+use Rattle.std.specs.Option.{option_or}
 use Rattle.std.proofs.lemmas.Bool.{false≢true, and_from, and_parts, cases_Bool, eqb-true, not-false, not-true, or_parts}
 use Rattle.std.proofs.lemmas.List.Elements.{filter-append}
 use Rattle.mt_tlv.specs.declared.value.Value.{Value}
@@ -16,7 +17,7 @@ use Rattle.mt_model.specs.declared.node.action.NodeStep.TheVariants.{SetRow, Set
 use Rattle.mt_model.specs.declared.node.state.NodeState.{NodeState}
 use Rattle.mt_model.specs.declared.rows.place.Place.{Place}
 use Rattle.mt_model.specs.declared.rows.place.Row.{Row}
-use Rattle.mt_write.specs.Latest.{entries_set, latest, newer}
+use Rattle.mt_write.specs.Latest.{entries_set, latest}
 use Rattle.mt_model.specs.rows.Same.{are_same_rows}
 use Rattle.mt_machine.specs.Effects.{after, after_all, is_setting_step}
 use Rattle.mt_machine.specs.Settings.{setting_cases}
@@ -120,7 +121,7 @@ module _ (fabric : ℕ) where
       setting_cases (λ (step : NodeStep). own_entries fabric (after asking step s).entries ≡ unwrap_or (entries_set fabric step) (own_entries fabric s.entries))
       (λ at whose values stored. refl) (λ whose new all. behind_entries keeps whose new s.entries up all (whose == fabric) refl) (λ at-event priority whom value. refl) step
 
-  newer_is : (set found : Option (List AclEntry)) (behind before stored : List AclEntry) → behind ≡ unwrap_or set before → before ≡ unwrap_or found stored → behind ≡ unwrap_or (newer set found) stored
+  newer_is : (set found : Option (List AclEntry)) (behind before stored : List AclEntry) → behind ≡ unwrap_or set before → before ≡ unwrap_or found stored → behind ≡ unwrap_or (option_or set found) stored
   newer_is (Some new) found behind before stored a b = a
   newer_is None found behind before stored a b = a ∙ b
 
@@ -142,7 +143,7 @@ module _ (told : ToldSame) (sets : SetsEntriesInOrder) (keeps : KeepsOtherEntrie
   behind_all fabric asking [] s found stored up settings e = e
   behind_all fabric asking (step ∷ steps) s found stored up settings e =
       let both = and_parts (is_setting_step step) (list_all is_setting_step steps) settings in
-      behind_all fabric asking steps (after asking step s) (newer (entries_set fabric step) found) stored (up_step sets asking step s up both.0) both.1
+      behind_all fabric asking steps (after asking step s) (option_or (entries_set fabric step) found) stored (up_step sets asking step s up both.0) both.1
       (newer_is fabric (entries_set fabric step) found (own_entries fabric (after asking step s).entries) (own_entries fabric s.entries) stored (behind_step fabric keeps asking step s up both.0) e)
 
   module _ (again : ReadsAgain) (asking : Option Actor) (steps : List NodeStep) (s : NodeState) (up : ascend_from 0 s.entries ≡ true) (settings : list_all is_setting_step steps ≡ true) where
@@ -190,7 +191,7 @@ module _ (told : ToldSame) (sets : SetsEntriesInOrder) (keeps : KeepsOtherEntrie
     passed : (fabric : ℕ) (step : NodeStep) (some : List NodeStep) → entries_set fabric step ≡ None → StaysOf fabric some → StaysOf fabric (step ∷ some)
     unfolding StaysOf
     passed fabric step some none (inl e) = inl e
-    passed fabric step some none (inr f) = inr (λ found. ap (λ (set : Option (List AclEntry)). latest (entries_set fabric) (newer set found) some) none ∙ f found)
+    passed fabric step some none (inr f) = inr (λ found. ap (λ (set : Option (List AclEntry)). latest (entries_set fabric) (option_or set found) some) none ∙ f found)
 
     none_moves : (fabric : ℕ) (some : List NodeStep) → list_any (sets_other_entries s.entries steps) some ≡ false → StaysOf fabric some
     unfolding StaysOf

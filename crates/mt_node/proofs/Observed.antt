@@ -9,13 +9,14 @@ use Rattle.mt_model.specs.messages.Effects.{answered_with, refused_at}
 use Rattle.mt_model.specs.rows.Order.{is_own}
 use Rattle.mt_model.specs.rows.Seen.{Seen}
 use Rattle.mt_model.specs.rows.Setting.{is_at}
+use Rattle.mt_model.specs.rows.Shown.{first_value}
 use Rattle.mt_model.specs.rows.Sight.{seen_by, stands_at}
 use Rattle.mt_model.specs.declared.messages.status.Status.TheVariants.{Success, UnsupportedCommand}
 use Rattle.mt_model.specs.declared.node.state.NodeState.{NodeState}
 use Rattle.mt_model.specs.declared.rows.place.Place.{Place}
 use Rattle.mt_model.specs.declared.rows.place.Row.{Row}
 use Rattle.mt_model.specs.declared.tables.access.Actor.{Actor}
-use Rattle.mt_apps.specs.Bench.{number_at, number_of, rung}
+use Rattle.mt_apps.specs.Bench.{number_at, rung}
 use Rattle.mt_apps.specs.Commands.{invoked}
 use Rattle.mt_apps.specs.OnOff.{is_on, on_behind, on_off_at, set_on}
 use Rattle.mt_machine.specs.Commands.{nobodys_rows}
@@ -68,7 +69,7 @@ invoked_same : (found rows_at : Place → List Row) (actor : Actor) (command : P
 invoked_same found rows_at actor command is number = λ i.
     if command.cluster == on_off.cluster then set_on command (on_behind command.leaf (is_on (is i)))
     else if command.cluster == bench.cluster then
-    (if command.leaf == 0 then answered_with command Success (rung command.endpoint (number_of (number i)) actor.fabric ∷ [])
+    (if command.leaf == 0 then answered_with command Success (rung command.endpoint (first_value (number i)) actor.fabric ∷ [])
     else refused_at command UnsupportedCommand)
     else refused_at command UnsupportedCommand
 

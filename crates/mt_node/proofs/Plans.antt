@@ -1,6 +1,7 @@
 -- The outcome of an answer is the plan of the action that it answers.
 use Rattle.std.proofs.Common.{◌≡◌, ℕ, Bool, List, Option, None, Result, Ok, Err, IfOk, ap, sym, ◌∙◌, subst}
 use Rattle.std.specs.Option.{option_and_then}
+use Rattle.mt_model.specs.Optional.{is_that}
 use Rattle.mt_model.specs.declared.tables.access.Actor.{Actor}
 use Rattle.mt_model.specs.declared.node.action.Action.{Action}
 use Rattle.mt_model.specs.declared.node.action.Action.TheVariants.{Ask, Nothing}
@@ -9,7 +10,6 @@ use Rattle.mt_model.specs.declared.messages.message.Reply.{Reply}
 use Rattle.mt_model.specs.declared.messages.message.Request.{Request}
 use Rattle.mt_model.specs.declared.node.state.NodeState.{NodeState}
 use Rattle.mt_machine.specs.Given.{Given}
-use Rattle.mt_machine.specs.Isolation.{has_fabric}
 use Rattle.mt_machine.specs.Leaving.{has_left}
 use Rattle.mt_machine.specs.State.{IsValid}
 use Rattle.mt_machine.specs.Observation.{observation}
@@ -22,7 +22,7 @@ use Rattle.mt_node.specs.declared.outcome.Outcome.{Outcome}
 
 pub plan_of : (given : Given) (s : NodeState) (action : Action) (now : ℕ) (asking : Option Actor) (answered : Effect) (outcome : Outcome)
     → asking ≡ asker_of s action → answered.reply ≡ reply_of given s action now → answered.steps ≡ steps_of given s action now → IsValid (after_action given s action now)
-    → ((fabric : ℕ) → has_left s (after_action given s action now) fabric ≡ has_fabric fabric (aside_of given s action now).gone)
+    → ((fabric : ℕ) → has_left s (after_action given s action now) fabric ≡ is_that fabric (aside_of given s action now).gone)
     → IsMade s asking answered now outcome → IsPlan given s action now outcome
 plan_of given s action now asking answered outcome asks replies steps valid one made =
     let behind : after_steps asking answered.steps (at_time now s) ≡ after_action given s action now = λ i. after_steps (asks i) (steps i) (at_time now s) in
@@ -35,7 +35,7 @@ plan_of given s action now asking answered outcome asks replies steps valid one 
       ready = made.ready;
       valid = subst IsValid (sym (made.state ∙ behind)) valid;
       leaves = λ fabric.
-          ap (λ (t : NodeState). has_left s t fabric) (made.state ∙ behind) ∙ one fabric ∙ ap (λ (a : Aside). has_fabric fabric a.gone) (sym aside);
+          ap (λ (t : NodeState). has_left s t fabric) (made.state ∙ behind) ∙ one fabric ∙ ap (λ (a : Aside). is_that fabric a.gone) (sym aside);
     }
 
 -- where nobody is taken as asking, nothing is asked

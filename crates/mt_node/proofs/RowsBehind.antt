@@ -1,6 +1,7 @@
 -- What rows of a fabric stand at a place behind steps, and that these rows, fabric by fabric, are the rows of the place.
 use Rattle.std.proofs.Common.{◌≡◌, ◌↔◌, ℕ, zero, suc, ◌+◌, ◌≤◌, ◌==◌, ◌&&◌, ◌⊎◌, inl, inr, not, max, Bool, true, false, List, [], ◌∷◌, ◌++◌, Option, Some, None, IsTrue, refl, sym, ap, ◌∙◌, subst, filter, map, append-nil, arith, if◌then◌else◌, option_map, unwrap_or}
 use Rattle.std.specs.List.{list_all, list_any}
+use Rattle.std.specs.Option.{option_or}
 use Rattle.std.proofs.lemmas.Grind.{common_steps}
 use Rattle.std.proofs.lemmas.Bool.{false≢true, and_from, and_parts, cases_Bool, eqb-true, le-ltb, lt-ltb, ltb-true, not-false, not-true, or_parts}
 use Rattle.std.proofs.lemmas.List.Elements.{filter-append}
@@ -14,7 +15,7 @@ use Rattle.mt_model.specs.declared.node.action.NodeStep.TheVariants.{SetRow, Set
 use Rattle.mt_model.specs.declared.node.state.NodeState.{NodeState}
 use Rattle.mt_model.specs.declared.rows.place.Place.{Place}
 use Rattle.mt_model.specs.declared.rows.place.Row.{Row}
-use Rattle.mt_write.specs.Latest.{latest, newer, row_set}
+use Rattle.mt_write.specs.Latest.{latest, row_set}
 use Rattle.mt_model.specs.rows.Same.{are_same_rows}
 use Rattle.mt_machine.specs.Effects.{after, after_all, is_setting_step}
 use Rattle.mt_machine.specs.Settings.{setting_cases}
@@ -175,7 +176,7 @@ module _ (place : Place) (fabric : ℕ) where
       setting_cases (λ (step : NodeStep). filter (is_at place fabric) (after asking step s).rows ≡ or_stored (row_set place fabric step) (filter (is_at place fabric) s.rows))
       (λ at whose values stored. behind_row keeps at whose values s.rows up (same_place at place && (whose == fabric)) refl) (λ whose entries all. refl) (λ at-event priority whom value. refl) step
 
-  newer_is : (set found : Option (List Value)) (behind before stored : List Row) → behind ≡ or_stored set before → before ≡ or_stored found stored → behind ≡ or_stored (newer set found) stored
+  newer_is : (set found : Option (List Value)) (behind before stored : List Row) → behind ≡ or_stored set before → before ≡ or_stored found stored → behind ≡ or_stored (option_or set found) stored
   newer_is (Some values) found behind before stored a b = a
   newer_is None found behind before stored a b = a ∙ b
 
@@ -196,7 +197,7 @@ module _ (told : ToldSame) (sets : SetsInOrder) (keeps : KeepsOthers) (place : P
   behind_all fabric asking [] s found stored up settings e = e
   behind_all fabric asking (step ∷ steps) s found stored up settings e =
       let both = and_parts (is_setting_step step) (list_all is_setting_step steps) settings in
-      behind_all fabric asking steps (after asking step s) (newer (row_set place fabric step) found) stored (up_step sets asking step s up both.0) both.1
+      behind_all fabric asking steps (after asking step s) (option_or (row_set place fabric step) found) stored (up_step sets asking step s up both.0) both.1
       (newer_is place fabric (row_set place fabric step) found (filter (is_at place fabric) (after asking step s).rows) (filter (is_at place fabric) s.rows) stored (behind_step place fabric keeps asking step s up both.0) e)
 
   own_at : (fabric : ℕ) (rows : List Row) → filter (is_own fabric) (filter (stands_at place) rows) ≡ filter (is_at place fabric) rows
@@ -252,7 +253,7 @@ module _ (told : ToldSame) (sets : SetsInOrder) (keeps : KeepsOthers) (place : P
     passed : (fabric : ℕ) (step : NodeStep) (some : List NodeStep) → row_set place fabric step ≡ None → StaysOf fabric some → StaysOf fabric (step ∷ some)
     unfolding StaysOf
     passed fabric step some none (inl e) = inl e
-    passed fabric step some none (inr f) = inr (λ found. ap (λ (set : Option (List Value)). latest (row_set place fabric) (newer set found) some) none ∙ f found)
+    passed fabric step some none (inr f) = inr (λ found. ap (λ (set : Option (List Value)). latest (row_set place fabric) (option_or set found) some) none ∙ f found)
 
     none_moves : (fabric : ℕ) (some : List NodeStep) → list_any (sets_other_rows s.rows steps place) some ≡ false → StaysOf fabric some
     unfolding StaysOf

@@ -5,6 +5,7 @@ use Rattle.mt_tlv.specs.declared.value.Value.{Value}
 use Rattle.mt_invoke.specs.Checking.{checked, has_form}
 use Rattle.mt_meta.specs.clusters.OperationalCredentials as operational_credentials
 use Rattle.mt_meta.specs.declared.meta.CommandMeta.{CommandMeta}
+use Rattle.mt_model.specs.Optional.{is_that}
 use Rattle.mt_model.specs.messages.Effects.{refused_at}
 use Rattle.mt_model.specs.rows.Seen.{Observation}
 use Rattle.mt_model.specs.declared.messages.message.Request.{Request}
@@ -25,7 +26,6 @@ use Rattle.mt_commission.specs.Commands as commission
 use Rattle.mt_opcreds.specs.Commands as credentials
 use Rattle.mt_machine.specs.Given.{Given}
 use Rattle.mt_machine.specs.Laws.{OneLeaves, StaysValid, TakesItsSteps}
-use Rattle.mt_machine.specs.Isolation.{has_fabric}
 use Rattle.mt_machine.specs.Leaving.{has_left}
 use Rattle.mt_machine.specs.Observation.{observation}
 use Rattle.mt_machine.specs.State.{IsValid}
@@ -85,11 +85,11 @@ module _ (given : Given) (s : NodeState) (valid : IsValid s) (actor : Actor) (re
         (takes (bare given) s (Ask actor request deadline) now (bare_keeps given) valid)
   ]
 
-  pub leaves_one : OneLeaves → (fabric : ℕ) → has_left s (after_action given s (Ask actor request deadline) now) fabric ≡ has_fabric fabric (aside_of given s (Ask actor request deadline) now).gone
+  pub leaves_one : OneLeaves → (fabric : ℕ) → has_left s (after_action given s (Ask actor request deadline) now) fabric ≡ is_that fabric (aside_of given s (Ask actor request deadline) now).gone
   leaves_one one fabric = elim (cases_Bool (is_of_credentials request)) [
     | inl its ↦ one given s (Ask actor request deadline) now fabric (rules its) valid
     | inr other ↦
-        subst (λ (steps : List NodeStep). has_left s (after_steps (asker s actor) steps (at_time now s)) fabric ≡ has_fabric fabric (gone_between s.fabrics (after_steps (asker s actor) steps (at_time now s)).fabrics))
+        subst (λ (steps : List NodeStep). has_left s (after_steps (asker s actor) steps (at_time now s)) fabric ≡ is_that fabric (gone_between s.fabrics (after_steps (asker s actor) steps (at_time now s)).fabrics))
         (sym (same_asked given s request deadline now (asker s actor) other)) (one (bare given) s (Ask actor request deadline) now fabric (bare_keeps given) valid)
   ]
 

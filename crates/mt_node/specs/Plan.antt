@@ -3,6 +3,7 @@ use Rattle.std.specs.Prelude.{◌≡◌, ℕ, ◌+◌, ◌≤◌, ◌==◌, ◌&
 use Rattle.std.specs.Global.{Box, Vec}
 use Rattle.std.specs.List.{list_all, sum_by}
 use Rattle.std.specs.Option.{option_and_then}
+use Rattle.mt_model.specs.Optional.{is_that}
 use Rattle.mt_model.specs.rows.Setting.{is_other_at, with_rows}
 use Rattle.mt_model.specs.rows.Sight.{same_place}
 use Rattle.mt_model.specs.declared.tables.access.Actor.{Actor}
@@ -15,7 +16,6 @@ use Rattle.mt_model.specs.declared.node.state.NodeState.{NodeState}
 use Rattle.mt_machine.specs.Changes.{changed_at}
 use Rattle.mt_machine.specs.Effects.{after_all, events_in, is_setting_step}
 use Rattle.mt_machine.specs.Given.{Given}
-use Rattle.mt_machine.specs.Isolation.{has_fabric}
 use Rattle.mt_machine.specs.Leaving.{has_left}
 use Rattle.mt_machine.specs.State.{IsValid}
 use Rattle.mt_machine.specs.Step.{Aside, after_action, after_steps, aside_between, aside_of, at_time, reply_of, steps_of}
@@ -119,7 +119,7 @@ pub record IsPlan (given : Given) (s : NodeState) (action : Action) (now : ℕ) 
   pub state : applied outcome s ≡ after_action given s action now
   pub ready : IsReady s outcome
   pub valid : IsValid (applied outcome s)
-  pub leaves : (fabric : ℕ) → has_left s (applied outcome s) fabric ≡ has_fabric fabric outcome.gone
+  pub leaves : (fabric : ℕ) → has_left s (applied outcome s) fabric ≡ is_that fabric outcome.gone
 
 -- the outcome was made on this state
 abbrev pub IsPlanned : NodeState → Outcome → Type 0

@@ -2,14 +2,15 @@
 
 ghost use Rattle.std.specs.Prelude.{◌≡◌, ◌↔◌, [], None, Some, IfOk};
 ghost use Rattle.std.specs.List.{list_any};
+ghost use Rattle.mt_model.specs.messages.Blocks.{names_item};
 ghost use Rattle.mt_read.specs.Reading.{read_answer};
 ghost use Rattle.mt_machine.specs.Observation.{observation};
-ghost use Rattle.mt_machine.specs.Step.{is_item, names_item, read_reply};
+ghost use Rattle.mt_machine.specs.Step.{read_reply};
 
 use crate::node::Node;
 use crate::requests::refused;
 use mt_machine::rows_stand_in_order;
-use mt_model::{Actor, Effect, Index, Items, Path, Paths, Reply, Status, Steps, Versions};
+use mt_model::{Actor, Effect, Items, Path, Paths, Reply, Status, Steps, Versions};
 use mt_read::{ReadFault, read};
 use std::alloc::AllocError;
 
@@ -43,24 +44,7 @@ pub(crate) fn answered(
 fn any_item(paths: &[Path]) -> bool
     ensures { result ≡ list_any names_item paths.now }
 {
-    paths.iter().any(names_item)
-}
-
-// Whether a path names a single item of a list.
-fn names_item(path: &Path) -> bool
-    ensures { result ≡ names_item path.now }
-{
-    is_item(path.index)
-}
-
-fn is_item(index: Index) -> bool
-    ensures { result ≡ is_item index }
-{
-    match index {
-        Index::At(_) => true,
-        Index::Whole => false,
-        Index::Append => false,
-    }
+    paths.iter().any(|path| path.names_item())
 }
 
 // What whoever asks reads, of what its fabric observes.

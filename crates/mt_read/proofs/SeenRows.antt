@@ -6,8 +6,8 @@ use Rattle.mt_tlv.specs.View.{elements, tree}
 use Rattle.mt_tlv.specs.declared.value.Tag.{Tag}
 use Rattle.mt_tlv.specs.declared.value.Tag.TheVariants.{Anonymous}
 use Rattle.mt_tlv.specs.declared.value.Value.{Value}
-use Rattle.mt_read.specs.Reading.{first_value, items_of, wanted_rows}
-use Rattle.mt_model.specs.rows.Shown.{shown_item, shown_items, shown_value}
+use Rattle.mt_read.specs.Reading.{items_of, wanted_rows}
+use Rattle.mt_model.specs.rows.Shown.{first_value, shown_item, shown_items, shown_value}
 use Rattle.mt_model.specs.rows.Sight.{bare_value, seen_by}
 use Rattle.mt_model.specs.declared.tables.access.Actor.{Actor}
 use Rattle.mt_model.specs.declared.rows.place.Row.{Row}

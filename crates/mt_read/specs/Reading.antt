@@ -16,6 +16,7 @@ use Rattle.mt_meta.specs.declared.meta.Meta.{Meta}
 use Rattle.mt_model.specs.messages.Blocks.{path_of, place_named}
 use Rattle.mt_model.specs.rows.Seen.{Seen}
 use Rattle.mt_model.specs.messages.Status.{code_of}
+use Rattle.mt_model.specs.rows.Shown.{first_value}
 use Rattle.mt_model.specs.declared.tables.access.Actor.{Actor}
 use Rattle.mt_model.specs.declared.messages.message.Item.{Item}
 use Rattle.mt_model.specs.declared.messages.message.Item.TheVariants.{Attribute, Refused}
@@ -37,10 +38,6 @@ may_read seen actor place = is_granted_if_asked seen.entries actor place (privil
 abbrev pub items_of : List Row → Elements
 items_of [] = none
 items_of (row ∷ rows) = more Anonymous (tree row.value) (items_of rows)
-
-abbrev pub first_value : List Row → Value
-first_value [] = values.Null
-first_value (row ∷ rows) = row.value
 
 -- the reader's own items alone, where that is asked
 abbrev pub wanted_rows : Actor → Bool → List Row → List Row

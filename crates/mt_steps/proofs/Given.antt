@@ -4,6 +4,7 @@ use Rattle.mt_tlv.specs.declared.value.Value.TheVariants as values
 use Rattle.mt_failsafe.specs.Calls.{put_back, undo_of}
 use Rattle.mt_failsafe.specs.declared.undo.Undo.{Undo}
 use Rattle.mt_model.specs.rows.Setting.{with_rows}
+use Rattle.mt_model.specs.tables.Leaving.{stays}
 use Rattle.mt_model.specs.declared.node.state.ChangeNumber.{ChangeNumber}
 use Rattle.mt_model.specs.declared.node.state.NodeSession.{NodeSession}
 use Rattle.mt_model.specs.declared.node.state.NodeState.{NodeState}
@@ -13,7 +14,7 @@ use Rattle.mt_model.specs.declared.tables.access.AclEntry.{AclEntry}
 use Rattle.mt_model.specs.declared.tables.fabric.Credentials.{Credentials}
 use Rattle.mt_model.specs.declared.tables.fabric.Fabric.{Fabric}
 use Rattle.mt_model.specs.declared.tables.network.Armed.{Armed}
-use Rattle.mt_machine.specs.Rollback.{breadcrumb, fabrics_behind, given_back, roots_behind, session_behind, stays, undone, without_breadcrumb}
+use Rattle.mt_machine.specs.Rollback.{breadcrumb, fabrics_behind, given_back, roots_behind, session_behind, undone, without_breadcrumb}
 use Rattle.mt_steps.specs.Expired.{given_by}
 
 given_alike : (updated : Option ℕ) (saved : Option Credentials) (f : Fabric) → given_by (put_back updated saved) f ≡ given_back updated saved f

@@ -1,13 +1,13 @@
 -- The table of fabrics behind a step, which changes nothing of it where it refuses.
 use Rattle.std.specs.Prelude.{ℕ, is_none, List, Option, None, Some, filter, map, if◌then◌else◌}
 use Rattle.mt_fabrics.specs.Table.{add_refusal, added, credentials_at, is_used, least_unused, removed, update_refusal, updated}
+use Rattle.mt_model.specs.tables.Leaving.{stays}
 use Rattle.mt_model.specs.declared.node.state.NodeState.{NodeState}
 use Rattle.mt_model.specs.declared.rows.place.Row.{Row}
 use Rattle.mt_model.specs.declared.tables.access.AclEntry.{AclEntry}
 use Rattle.mt_model.specs.declared.tables.fabric.Credentials.{Credentials}
 use Rattle.mt_model.specs.declared.tables.fabric.Fabric.{Fabric}
 use Rattle.mt_machine.specs.Effects.{plain_without, session_without}
-use Rattle.mt_machine.specs.Rollback.{stays}
 use Rattle.mt_machine.specs.State as states
 
 -- under which index a fabric joins, None where it does not

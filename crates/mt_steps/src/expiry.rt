@@ -5,10 +5,11 @@ ghost use Rattle.std.specs.List.{list_any};
 ghost use Rattle.mt_tlv.specs.declared.value.Value.TheVariants.{Uint};
 ghost use Rattle.mt_failsafe.specs.Calls.{undo_of};
 ghost use Rattle.mt_model.specs.rows.Setting.{with_rows};
+ghost use Rattle.mt_model.specs.tables.Leaving.{stays};
 ghost use Rattle.mt_model.specs.declared.rows.place.Row.{Row};
 ghost use Rattle.mt_model.specs.declared.tables.access.AclEntry.{AclEntry};
 ghost use Rattle.mt_model.specs.declared.tables.fabric.Fabric.{Fabric};
-ghost use Rattle.mt_machine.specs.Rollback.{breadcrumb, ends, rollback, roots_behind, session_behind, stays, undone, without_breadcrumb};
+ghost use Rattle.mt_machine.specs.Rollback.{breadcrumb, ends, rollback, roots_behind, session_behind, undone, without_breadcrumb};
 ghost use Rattle.mt_machine.specs.State.{IsValid, is_root_of};
 ghost use Rattle.mt_steps.specs.Expired.{given_by};
 
@@ -17,7 +18,7 @@ use mt_failsafe::{Failsafe, Undo};
 use mt_meta::clusters::GENERAL_COMMISSIONING;
 use mt_model::{
     AclEntries, AclEntry, Armed, Auth, Credentials, ExactCopy, Fabric, Fabrics, NodeSession,
-    NodeSessions, NodeState, Place, Roots, Standing, StoredRows, Values,
+    NodeSessions, NodeState, Place, Roots, Standing, StoredRows, Values, stays,
 };
 use mt_tlv::{Bytes, Value};
 use std::alloc::{AllocError, Global};
@@ -94,16 +95,6 @@ fn taken_back(
     })
 }
 
-// Whether what is of this fabric stays, where this one goes that was added.
-fn stays(added: Option<u8>, fabric: u8) -> bool
-    ensures { result ≡ stays added fabric }
-{
-    match added {
-        Some(added) => added != fabric,
-        None => true,
-    }
-}
-
 // The rows that stay, with Breadcrumb at 0.
 fn rows_behind(
     alloc: Global,
@@ -112,20 +103,11 @@ fn rows_behind(
 ) -> Result<StoredRows, AllocError>
     ensures { IfOk result (λ behind. behind ≡ with_rows breadcrumb 0 (Uint 0 ∷ []) (filter (λ (row : Row). stays added row.fabric) rows.now)) }
 {
-    let mut behind = rows_left(rows, added)?;
+    let mut behind = rows.copy_without(added)?;
     let mut values = Values::new(alloc);
     values.push(Value::Uint(0))?;
     set_row(alloc, &BREADCRUMB, 0, values, &mut behind)?;
     Ok(behind)
-}
-
-pub(crate) fn rows_left(rows: &StoredRows, added: Option<u8>) -> Result<StoredRows, AllocError>
-    ensures { IfOk result (λ left. left ≡ filter (λ (row : Row). stays added row.fabric) rows.now) }
-{
-    match added {
-        Some(added) => rows.copy_without(added),
-        None => rows.copy(),
-    }
 }
 
 pub(crate) fn entries_behind(

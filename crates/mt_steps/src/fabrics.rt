@@ -9,7 +9,7 @@ ghost use Rattle.mt_machine.specs.Effects.{is_pase, is_renewed_by, joined, label
 ghost use Rattle.mt_machine.specs.State as states;
 ghost use Rattle.mt_steps.specs.Table.{credentials_before, index_for, left, with_joined, with_removed, with_updated};
 
-use crate::expiry::{entries_behind, is_used, rows_left};
+use crate::expiry::{entries_behind, is_used};
 use crate::failsafe::{note_added, note_updated};
 use crate::sessions::{is_pase, plain_joined, plain_without, sessions_joined, sessions_without};
 use mt_fabrics::{FabricFault, FabricTable};
@@ -183,7 +183,7 @@ fn take_out(alloc: Global, index: u8, fabrics: &mut Fabrics) -> bool
 fn leave(alloc: Global, index: u8, state: &mut NodeState) -> Result<(), AllocError>
     ensures { OnOk result (state.new ≡ left index state.old) }
 {
-    let rows = rows_left(&state.rows, Some(index))?;
+    let rows = state.rows.copy_without(Some(index))?;
     let entries = entries_behind(alloc, state.entries.as_slice(), Some(index))?;
     let roots = roots_in_use(
         alloc,

@@ -5,6 +5,7 @@ ghost use Rattle.std.specs.List.{list_any};
 ghost use Rattle.mt_commission.specs.NetworkCommissioning.{has_id};
 ghost use Rattle.mt_machine.specs.Effects.{connected_to, moved_to, others_than, with_network, with_new, with_secret};
 
+use mt_commission::has_id;
 use mt_model::limits::NETWORKS;
 use mt_model::{ExactCopy, Network, Networks};
 use mt_tlv::Bytes;
@@ -43,12 +44,6 @@ fn is_among(id: &[u8], networks: &[Network]) -> bool
     ensures { result ≡ list_any (has_id id.now) networks.now }
 {
     networks.iter().any(|network| has_id(id, network))
-}
-
-fn has_id(id: &[u8], network: &Network) -> bool
-    ensures { result ≡ has_id id.now network.now }
-{
-    network.id.as_slice() == id
 }
 
 fn with_secrets(

@@ -8,7 +8,7 @@ ghost use Rattle.mt_talk.specs.Hearing.{acknowledging, after_datagram, answers, 
 ghost use Rattle.mt_talk.specs.Talks.{IsTalkOf, Talk as Told};
 
 use crate::talk::Talk;
-use mt_exchange::{Key, Turn};
+use mt_exchange::{Key, Turn, key_of};
 use mt_frame::ProtocolHeader;
 use mt_im_out::chunks;
 use mt_model::{Payloads, Reply, Status};
@@ -170,16 +170,6 @@ fn answering<'a>(alloc: Global, key: Key, acknowledge: Option<u32>) -> Heard<'a>
         key,
         acknowledge,
         payloads: Payloads::new(alloc),
-    }
-}
-
-// The exchange of a message: the peer began it where the initiator flag is set.
-fn key_of(header: &ProtocolHeader) -> Key
-    ensures { result ≡ key_of_header header.now }
-{
-    Key {
-        exchange: header.exchange,
-        ours: !header.initiator,
     }
 }
 

@@ -5,6 +5,7 @@ pub mod Parts
 pub mod Reading
 pub mod Repeats
 pub mod Runs
+pub mod Scalars
 pub mod Spelling
 pub mod Tags
 pub mod Tree

@@ -4,7 +4,9 @@ use Rattle.std.specs.List.{list_any}
 use Rattle.mt_im.specs.Reading.{Gives, request_in}
 use Rattle.mt_im.specs.declared.fault.ImFault.{ImFault}
 use Rattle.mt_im.specs.declared.fault.ImFault.TheVariants as faults
+use Rattle.mt_model.specs.Optional.{is_that}
 use Rattle.mt_model.specs.messages.Status.{code_of}
+use Rattle.mt_model.specs.tables.Leaving.{stays}
 use Rattle.mt_model.specs.declared.tables.access.Actor.{Actor}
 use Rattle.mt_model.specs.declared.node.action.Action.TheVariants.{Ask, Expire, Nothing}
 use Rattle.mt_model.specs.declared.node.action.PlainDeadline.{PlainDeadline}
@@ -14,12 +16,11 @@ use Rattle.mt_model.specs.declared.messages.status.Status.TheVariants.{Busy}
 use Rattle.mt_machine.specs.Lines.{action_of, deadline_for, deadline_of, deadlines_after, deadlines_of_those_left, fault_reply, is_deadline_of, is_refused, line_actor, next_for, sent_as, sent_for, sent_to, with_deadline, without}
 use Rattle.mt_machine.specs.State.{State, is_among}
 use Rattle.mt_machine.specs.Step.{after_action, after_steps, asked_steps, asker, at_time, refusal}
-use Rattle.mt_machine.specs.Rollback.{added_in, deadlines_left, is_due, stays}
+use Rattle.mt_machine.specs.Rollback.{added_in, deadlines_left, is_due}
 use Rattle.mt_machine.specs.Laws.{TakesTheAddedAway}
 use Rattle.mt_model.specs.declared.tables.network.Armed.{Armed}
 use Rattle.mt_machine.specs.State.{IsValid}
 use Rattle.mt_machine.specs.Given.{Given}
-use Rattle.mt_machine.specs.Isolation.{has_fabric}
 use Rattle.mt_machine.specs.Leaving.{has_left}
 use Rattle.mt_node.specs.Plan.{IsPlan, applied}
 use Rattle.mt_model.specs.declared.node.state.NodeState.{NodeState}
@@ -48,7 +49,7 @@ none_taken asking (d ∷ ds) none =
 -- The deadlines of a fabric that leaves the table, told by that fabric.
 
 -- the fabric that goes is the one that has left
-left_is_gone : (before now : NodeState) (gone : Option ℕ) → ((fabric : ℕ) → has_left before now fabric ≡ has_fabric fabric gone) → (ds : List PlainDeadline) → left_without gone ds ≡ deadlines_of_those_left before now ds
+left_is_gone : (before now : NodeState) (gone : Option ℕ) → ((fabric : ℕ) → has_left before now fabric ≡ is_that fabric gone) → (ds : List PlainDeadline) → left_without gone ds ≡ deadlines_of_those_left before now ds
 left_is_gone before now None leaves [] = refl
 left_is_gone before now (Some fabric) leaves [] = refl
 left_is_gone before now None leaves (d ∷ ds) =
@@ -67,7 +68,7 @@ and_not : (b : Bool) → (b && not b) ≡ false
 and_not true = refl
 and_not false = refl
 
-none_left : (s t : NodeState) → t.fabrics ≡ s.fabrics → (fabric : ℕ) → has_left s t fabric ≡ has_fabric fabric None
+none_left : (s t : NodeState) → t.fabrics ≡ s.fabrics → (fabric : ℕ) → has_left s t fabric ≡ is_that fabric None
 none_left s t same fabric = ap (λ (fs : List Fabric). is_among s.fabrics fabric && not (is_among fs fabric)) same ∙ and_not (is_among s.fabrics fabric)
 
 all_left : (s t : NodeState) → t.fabrics ≡ s.fabrics → (ds : List PlainDeadline) → ds ≡ deadlines_of_those_left s t ds

@@ -2,6 +2,7 @@
 use Rattle.std.specs.Prelude.{◌≡◌, ℕ, Bool, true, false, List, [], Option, Some, None, Result, Ok, Err, filter, length, unwrap_or}
 use Rattle.mt_im.specs.declared.fault.ImFault.{ImFault}
 use Rattle.mt_im.specs.declared.fault.ImFault.TheVariants as faults
+use Rattle.mt_model.specs.tables.Leaving.{stays}
 use Rattle.mt_model.specs.declared.tables.access.Actor.{Actor}
 use Rattle.mt_model.specs.declared.node.action.PlainDeadline.{PlainDeadline}
 use Rattle.mt_model.specs.declared.messages.message.Request.{Request}
@@ -11,7 +12,6 @@ use Rattle.mt_model.specs.declared.node.action.Action.TheVariants.{Nothing}
 use Rattle.mt_machine.specs.Given.{Given}
 use Rattle.mt_machine.specs.Isolation.{is_deadline_in}
 use Rattle.mt_machine.specs.Lines.{is_built, is_built_payload, next, next_for, next_tick, sent, sent_for, without}
-use Rattle.mt_machine.specs.Rollback.{stays}
 use Rattle.mt_machine.specs.State.{State}
 use Rattle.mt_whole.specs.declared.outcome.WholeOutcome.{WholeOutcome}
 

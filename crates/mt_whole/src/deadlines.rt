@@ -3,16 +3,16 @@
 ghost use Rattle.std.specs.Prelude.{◌≡◌, ◌==◌, ◌&&◌, ◌++◌, ◌∷◌, [], not, bytes_eq, Some, IfOk, filter, unwrap_or, if◌then◌else◌};
 ghost use Rattle.std.specs.List.{find, list_any};
 ghost use Rattle.std.specs.Option.{option_map};
+ghost use Rattle.mt_model.specs.tables.Leaving.{stays};
 ghost use Rattle.mt_model.specs.declared.node.action.PlainDeadline.{PlainDeadline};
 ghost use Rattle.mt_machine.specs.Isolation.{is_deadline_in};
 ghost use Rattle.mt_machine.specs.Lines.{deadline_at, deadline_of, has_room, is_deadline_of, is_refused, is_timed, later_by, with_deadline, without};
-ghost use Rattle.mt_machine.specs.Rollback.{stays};
 ghost use Rattle.mt_machine.specs.Step.{is_late};
 ghost use Rattle.mt_whole.specs.Plan.{left_without, others_in};
 
 use mt_im::ImFault;
 use mt_model::limits::PLAIN_DEADLINES;
-use mt_model::{Actor, PlainDeadline, PlainDeadlines, Request};
+use mt_model::{Actor, PlainDeadline, PlainDeadlines, Request, stays};
 use std::alloc::{AllocError, Global};
 
 /// Until when the next request of an actor must come, where that is set.
@@ -162,7 +162,7 @@ fn without_fabric(
 {
     let mut rest = PlainDeadlines::new(alloc);
     for deadline in deadlines {
-        if deadline.fabric != fabric {
+        if stays(Some(fabric), deadline.fabric) {
             rest.push(*deadline)?;
         }
     }

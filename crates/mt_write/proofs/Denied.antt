@@ -12,6 +12,7 @@ use Rattle.mt_meta.specs.declared.rows.Field.{Field}
 use Rattle.mt_meta.specs.declared.rows.Form.{Form}
 use Rattle.mt_meta.specs.declared.rows.Takes.{Takes}
 use Rattle.mt_meta.specs.declared.rows.Takes.TheVariants as takes
+use Rattle.mt_model.specs.messages.Blocks.{names_item}
 use Rattle.mt_model.specs.rows.Seen.{Seen}
 use Rattle.mt_model.specs.declared.tables.access.AclEntry.{AclEntry}
 use Rattle.mt_model.specs.declared.tables.access.Actor.{Actor}
@@ -30,7 +31,7 @@ use Rattle.mt_meta.specs.Fields.{all_elements, has_type, is_item, is_within}
 use Rattle.mt_write.specs.Items.{given_items, in_front, is_append, kept_each, kept_item, new_items, with_room}
 use Rattle.mt_write.specs.Laws.{DeniesExactly, IsDenied}
 use Rattle.mt_write.specs.Latest.{entries_now, rows_now}
-use Rattle.mt_write.specs.Writing.{array_of, array_with, behind, entries_step, entries_written, fabric_of, is_entry_list, is_numbered, is_outdated, is_scoped, list_with, may_write, members_of, new_rows, new_value, open_at, own_values, row_step, rows_written, staying, written_at}
+use Rattle.mt_write.specs.Writing.{array_of, array_with, behind, entries_step, entries_written, fabric_of, is_entry_list, is_outdated, is_scoped, list_with, may_write, members_of, new_rows, new_value, open_at, own_values, row_step, rows_written, staying, written_at}
 
 -- What is no denial.
 
@@ -150,7 +151,7 @@ module _ (seen : Seen) (actor : Actor) (steps : List NodeStep) (item : WriteItem
 
   open-no : (version : ℕ) (timed : Bool) (there : Result Meta Status) → NoDenial there → NoDenial (written_at seen actor steps item place (open_at version timed item there))
   open-no version timed (Err status) a = again status a
-  open-no version timed (Ok meta) a = guarded-no (is_none meta.write || is_numbered item.path.index) (meta.timed && not timed) (is_outdated item.version version) meta
+  open-no version timed (Ok meta) a = guarded-no (is_none meta.write || names_item item.path) (meta.timed && not timed) (is_outdated item.version version) meta
 
   granted-no : (version : ℕ) (timed : Bool) → NoDenial (written_at seen actor steps item place (open_at version timed item (find_of place)))
   granted-no version timed = open-no version timed (find_of place) (found-no (is_endpoint place.endpoint) (has_cluster place.endpoint place.cluster) (attribute_of place))

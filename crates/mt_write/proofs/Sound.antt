@@ -1,6 +1,7 @@
 -- What the steps of a write set is such as a state keeps.
 use Rattle.std.proofs.Common.{◌≡◌, ◌∙◌, ◌==◌, ◌&&◌, ◌||◌, ◌^◌, ◌≤◌, ℕ, nat_le, nat_lt, not, is_none, is_some, is_ok, Bool, true, false, List, [], ◌∷◌, Option, Some, None, Result, Ok, Err, length, unwrap_or, refl, sym, ap, subst, arith, if◌then◌else◌}
 use Rattle.std.specs.List.{list_all}
+use Rattle.std.specs.Option.{option_or}
 use Rattle.std.proofs.lemmas.Bool.{eqb-true, eq-eqb, leb-true, le-leb}
 use Rattle.mt_tlv.specs.Tree.{Tree, int, uint, bool, text, octets, null, bits32, bits64, structure, array, list}
 use Rattle.mt_tlv.specs.View.{tree, value_of}
@@ -36,7 +37,7 @@ use Rattle.mt_meta.specs.Targets.{target_in}
 use Rattle.mt_write.specs.Entries.{kept_entry, valid_entry}
 use Rattle.mt_meta.specs.Fields.{has_type, is_item, is_within}
 use Rattle.mt_write.specs.Items.{is_append, kept_item}
-use Rattle.mt_write.specs.Latest.{entries_now, entries_set, latest, newer, row_set, rows_now}
+use Rattle.mt_write.specs.Latest.{entries_now, entries_set, latest, row_set, rows_now}
 use Rattle.mt_write.specs.Laws.{IsSoundSight, LeavesSound, are_entries_of, is_entry_of, is_sound_row, is_sound_step}
 use Rattle.mt_write.specs.Writing.{array_with, entries_step, entries_written, fabric_of, is_entry_list, list_with, members_of, new_rows, own_values, row_step, rows_with, rows_written, staying, written_at}
 use Rattle.mt_write.proofs.KeptForms.{and-both, and-true, bench-item, binding-item, impossible, label-item, value-form}
@@ -291,7 +292,7 @@ place-same p q same =
     let leaf = eqb-true p.leaf q.leaf inner.1 in
     λ i. record { endpoint = endpoint i; cluster = cluster i; leaf = leaf i }
 
-set-step : {X : Type 0} (fine : X → Type 0) (b : Bool) (set stored : X) (found : Option X) → (b ≡ true → fine set) → fine (unwrap_or found stored) → fine (unwrap_or (newer (if b then Some set else None) found) stored)
+set-step : {X : Type 0} (fine : X → Type 0) (b : Bool) (set stored : X) (found : Option X) → (b ≡ true → fine set) → fine (unwrap_or found stored) → fine (unwrap_or (option_or (if b then Some set else None) found) stored)
 set-step fine true set stored found here before = here refl
 set-step fine false set stored found here before = before
 
@@ -307,7 +308,7 @@ module _ (place : Place) (meta : Meta) (there : find_of place ≡ Ok meta) (fabr
       let both = and-both (is_stored place) (list_all (has_form meta.kind meta.limit) values && (meta.scoped || length values == 1)) found in
       (and-both (list_all (has_form meta.kind meta.limit) values) (meta.scoped || length values == 1) both.1).0
 
-  newer-row : (step : NodeStep) (found : Option (List Value)) → is_sound_step step ≡ true → fine (unwrap_or found stored) → fine (unwrap_or (newer (row_set place fabric step) found) stored)
+  newer-row : (step : NodeStep) (found : Option (List Value)) → is_sound_step step ≡ true → fine (unwrap_or found stored) → fine (unwrap_or (option_or (row_set place fabric step) found) stored)
   newer-row (SetRow at whose values) found is before =
       set-step fine (same_place at place && whose == fabric) values stored found (λ b. row-fine at values ((and-both (same_place at place) (whose == fabric) b).0) is) before
   newer-row (SetEntries whose entries) found is before = before
@@ -331,7 +332,7 @@ module _ (place : Place) (meta : Meta) (there : find_of place ≡ Ok meta) (fabr
   latest-row found [] all before = before
   latest-row found (step ∷ steps) all before =
       let both = and-both (is_sound_step step) (list_all is_sound_step steps) all in
-      latest-row (newer (row_set place fabric step) found) steps both.1 (newer-row step found both.0 before)
+      latest-row (option_or (row_set place fabric step) found) steps both.1 (newer-row step found both.0 before)
 
   rows-now : (steps : List NodeStep) → list_all is_sound_step steps ≡ true → list_all (has_form meta.kind meta.limit) stored ≡ true → list_all (has_form meta.kind meta.limit) (rows_now place fabric steps stored) ≡ true
   unfolding fine
@@ -345,7 +346,7 @@ module _ (fabric : ℕ) (stored : List AclEntry) where
   unfolding fine-entries
   entries-fine whose entries same is = subst (λ f. are_entries_of f entries ≡ true) (eqb-true whose fabric same) is
 
-  newer-entries : (step : NodeStep) (found : Option (List AclEntry)) → is_sound_step step ≡ true → fine-entries (unwrap_or found stored) → fine-entries (unwrap_or (newer (entries_set fabric step) found) stored)
+  newer-entries : (step : NodeStep) (found : Option (List AclEntry)) → is_sound_step step ≡ true → fine-entries (unwrap_or found stored) → fine-entries (unwrap_or (option_or (entries_set fabric step) found) stored)
   newer-entries (SetRow at whose values) found is before = before
   newer-entries (SetEntries whose entries) found is before = set-step fine-entries (whose == fabric) entries stored found (λ b. entries-fine whose entries b is) before
   newer-entries (PutNetwork id secret) found is before = before
@@ -368,7 +369,7 @@ module _ (fabric : ℕ) (stored : List AclEntry) where
   latest-entries found [] all before = before
   latest-entries found (step ∷ steps) all before =
       let both = and-both (is_sound_step step) (list_all is_sound_step steps) all in
-      latest-entries (newer (entries_set fabric step) found) steps both.1 (newer-entries step found both.0 before)
+      latest-entries (option_or (entries_set fabric step) found) steps both.1 (newer-entries step found both.0 before)
 
   entries-now : (steps : List NodeStep) → list_all is_sound_step steps ≡ true → are_entries_of fabric stored ≡ true → are_entries_of fabric (entries_now fabric steps stored) ≡ true
   unfolding fine-entries

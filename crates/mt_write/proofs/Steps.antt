@@ -6,7 +6,7 @@ use Rattle.std.proofs.lemmas.Bool.{and_from, or_parts}
 use Rattle.std.proofs.lemmas.List.Folds.{list_all-append}
 use Rattle.mt_meta.specs.Finding.{find_of}
 use Rattle.mt_meta.specs.declared.meta.Meta.{Meta}
-use Rattle.mt_model.specs.messages.Blocks.{place_named}
+use Rattle.mt_model.specs.messages.Blocks.{names_item, place_named}
 use Rattle.mt_model.specs.rows.Seen.{Seen}
 use Rattle.mt_model.specs.declared.tables.access.Actor.{Actor}
 use Rattle.mt_model.specs.declared.node.action.NodeStep.{NodeStep}
@@ -16,7 +16,7 @@ use Rattle.mt_model.specs.declared.rows.place.Place.{Place}
 use Rattle.mt_model.specs.declared.messages.status.Status.{Status}
 use Rattle.mt_model.specs.declared.messages.status.Status.TheVariants.{UnsupportedAccess, UnsupportedWrite, NeedsTimedInteraction, DataVersionMismatch}
 use Rattle.mt_write.specs.declared.writing.Written.{Written}
-use Rattle.mt_write.specs.Writing.{is_numbered, is_outdated, item_step, may_write, open_at, with_all, with_item, with_step, write_answer, written_at}
+use Rattle.mt_write.specs.Writing.{is_outdated, item_step, may_write, open_at, with_all, with_item, with_step, write_answer, written_at}
 
 -- whether an item's step passes, where it makes one
 abbrev pub passes : (NodeStep → Bool) → Result NodeStep Status → Bool
@@ -41,8 +41,8 @@ module _ (test : NodeStep → Bool) (seen : Seen) (actor : Actor) (timed : Bool)
       opened : (version : ℕ) (found : Result Meta Status) → find_of place ≡ found → may_write seen actor place ≡ true → Passes test (written_at seen actor steps item place (open_at version timed item found))
       opened version (Err status) is may = record { is = refl }
       opened version (Ok meta) is may =
-          guarded (is_none meta.write || is_numbered item.path.index) (meta.timed && not timed) (is_outdated item.version version) meta is may
-          (λ no. (or_parts (is_none meta.write) (is_numbered item.path.index) no).0)
+          guarded (is_none meta.write || names_item item.path) (meta.timed && not timed) (is_outdated item.version version) meta is may
+          (λ no. (or_parts (is_none meta.write) (names_item item.path) no).0)
 
       allowed : (may : Bool) (version : ℕ) → may_write seen actor place ≡ may → Passes test (written_at seen actor steps item place (if may then open_at version timed item (find_of place) else Err UnsupportedAccess))
       allowed true version is = opened version (find_of place) refl is

@@ -1,5 +1,6 @@
 -- What stands somewhere behind the steps that are to be made: the latest step that sets it says it.
 use Rattle.std.specs.Prelude.{ℕ, ◌==◌, ◌&&◌, List, [], ◌∷◌, Option, Some, None, unwrap_or, if◌then◌else◌}
+use Rattle.std.specs.Option.{option_or}
 use Rattle.mt_tlv.specs.declared.value.Value.{Value}
 use Rattle.mt_model.specs.rows.Sight.{same_place}
 use Rattle.mt_model.specs.declared.tables.access.AclEntry.{AclEntry}
@@ -17,14 +18,10 @@ abbrev pub entries_set : ℕ → NodeStep → Option (List AclEntry)
 entries_set fabric (SetEntries whose entries) = if whose == fabric then Some entries else None
 entries_set fabric step = None
 
-abbrev pub newer : {X : Type 0} → Option X → Option X → Option X
-newer (Some x) before = Some x
-newer None before = before
-
 -- what the last of the steps that sets it sets, and otherwise what was found before
 abbrev pub latest : {X : Type 0} → (NodeStep → Option X) → Option X → List NodeStep → Option X
 latest set found [] = found
-latest set found (step ∷ steps) = latest set (newer (set step) found) steps
+latest set found (step ∷ steps) = latest set (option_or (set step) found) steps
 
 abbrev pub rows_now : Place → ℕ → List NodeStep → List Value → List Value
 rows_now place fabric steps stored = unwrap_or (latest (row_set place fabric) None steps) stored

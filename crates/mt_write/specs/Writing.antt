@@ -6,7 +6,7 @@ use Rattle.mt_tlv.specs.View.{tree}
 use Rattle.mt_tlv.specs.declared.value.Tag.TheVariants.{Anonymous}
 use Rattle.mt_tlv.specs.declared.value.Value.{Value}
 use Rattle.mt_tlv.specs.declared.value.Value.TheVariants as values
-use Rattle.mt_model.specs.messages.Blocks.{place_named}
+use Rattle.mt_model.specs.messages.Blocks.{names_item, place_named}
 use Rattle.mt_model.specs.rows.Seen.{Seen}
 use Rattle.mt_model.specs.messages.Status.{code_of}
 use Rattle.mt_model.specs.declared.tables.access.AclEntry.{AclEntry}
@@ -14,7 +14,6 @@ use Rattle.mt_model.specs.declared.tables.access.Actor.{Actor}
 use Rattle.mt_model.specs.declared.node.action.NodeStep.{NodeStep}
 use Rattle.mt_model.specs.declared.node.action.NodeStep.TheVariants.{SetRow, SetEntries}
 use Rattle.mt_model.specs.declared.messages.message.Index.{Index}
-use Rattle.mt_model.specs.declared.messages.message.Index.TheVariants.{Whole, Append, At}
 use Rattle.mt_model.specs.declared.messages.message.Item.{Item}
 use Rattle.mt_model.specs.declared.messages.message.Item.TheVariants.{Refused}
 use Rattle.mt_model.specs.declared.messages.message.Path.{Path}
@@ -54,11 +53,6 @@ may_write seen actor place = is_granted_if_asked seen.entries actor place (privi
 
 -- What stands in the way of an attribute that is there.
 
-abbrev pub is_numbered : Index → Bool
-is_numbered Whole = false
-is_numbered Append = false
-is_numbered (At n) = true
-
 -- the item asks for another version than its cluster has
 abbrev pub is_outdated : Option ℕ → ℕ → Bool
 is_outdated None version = false
@@ -67,7 +61,7 @@ is_outdated (Some wanted) version = not (wanted == version)
 abbrev pub open_at : ℕ → Bool → WriteItem → Result Meta Status → Result Meta Status
 open_at version timed item (Err status) = Err status
 open_at version timed item (Ok meta) =
-    if is_none meta.write || is_numbered item.path.index then Err UnsupportedWrite
+    if is_none meta.write || names_item item.path then Err UnsupportedWrite
     else if meta.timed && not timed then Err NeedsTimedInteraction
     else if is_outdated item.version version then Err DataVersionMismatch
     else Ok meta

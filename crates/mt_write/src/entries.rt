@@ -1,8 +1,9 @@
 //! Access control entries as they are written.
 
 ghost use Rattle.std.specs.Prelude.{◌≡◌, IfOk, Some, option_and_then};
+ghost use Rattle.mt_tlv.specs.Scalars.{unsigned_in};
 ghost use Rattle.mt_tlv.specs.View.{elements, tree};
-ghost use Rattle.mt_model.specs.tables.Entries.{each_in, entry_of, list_in, mode_numbered, number_in, privilege_numbered};
+ghost use Rattle.mt_model.specs.tables.Entries.{each_in, entry_of, list_in, mode_numbered, privilege_numbered};
 ghost use Rattle.mt_model.specs.Trees.{field_in};
 ghost use Rattle.mt_model.specs.texts.Config.{is_entry};
 ghost use Rattle.mt_meta.specs.Targets.{target_in};
@@ -11,7 +12,7 @@ ghost use Rattle.mt_write.specs.Entries.{kept_entry, valid_entry};
 use mt_acl::valid;
 use mt_meta::clusters::access_control::{AUTH_MODE, PRIVILEGE, SUBJECTS, TARGETS};
 use mt_meta::target_of;
-use mt_model::{AclEntry, Auth, Privilege, Subjects, Targets, field, structure_of};
+use mt_model::{AclEntry, Auth, Privilege, Subjects, Targets, field, structure_of, unsigned_of};
 use mt_tlv::{Tag, Value};
 use std::alloc::{AllocError, Global};
 
@@ -78,24 +79,15 @@ fn entry_of(
 }
 
 fn privilege_at(members: &[(Tag, Value)]) -> Option<Privilege>
-    ensures { result ≡ option_and_then privilege_numbered (option_and_then number_in (field_in 1 (elements members.now))) }
+    ensures { result ≡ option_and_then privilege_numbered (option_and_then unsigned_in (field_in 1 (elements members.now))) }
 {
-    privilege_numbered(number_of(field(members, PRIVILEGE)?)?)
+    privilege_numbered(unsigned_of(field(members, PRIVILEGE)?)?)
 }
 
 fn mode_at(members: &[(Tag, Value)]) -> Option<Auth>
-    ensures { result ≡ option_and_then mode_numbered (option_and_then number_in (field_in 2 (elements members.now))) }
+    ensures { result ≡ option_and_then mode_numbered (option_and_then unsigned_in (field_in 2 (elements members.now))) }
 {
-    mode_numbered(number_of(field(members, AUTH_MODE)?)?)
-}
-
-fn number_of(value: &Value) -> Option<u64>
-    ensures { result ≡ number_in (tree value.now) }
-{
-    match value {
-        Value::Uint(number) => Some(*number),
-        _ => None,
-    }
+    mode_numbered(unsigned_of(field(members, AUTH_MODE)?)?)
 }
 
 fn privilege_numbered(number: u64) -> Option<Privilege>
@@ -123,7 +115,7 @@ fn mode_numbered(number: u64) -> Option<Auth>
 }
 
 fn subjects_at(alloc: Global, members: &[(Tag, Value)]) -> Result<Option<Subjects>, AllocError>
-    ensures { IfOk result (λ subjects. subjects ≡ option_and_then (list_in number_in) (field_in 3 (elements members.now))) }
+    ensures { IfOk result (λ subjects. subjects ≡ option_and_then (list_in unsigned_in) (field_in 3 (elements members.now))) }
 {
     match field(members, SUBJECTS) {
         Some(value) => subjects_of(alloc, value),
@@ -133,7 +125,7 @@ fn subjects_at(alloc: Global, members: &[(Tag, Value)]) -> Result<Option<Subject
 
 // Null is no subjects.
 fn subjects_of(alloc: Global, value: &Value) -> Result<Option<Subjects>, AllocError>
-    ensures { IfOk result (λ subjects. subjects ≡ list_in number_in (tree value.now)) }
+    ensures { IfOk result (λ subjects. subjects ≡ list_in unsigned_in (tree value.now)) }
 {
     match value {
         Value::Null => Ok(Some(Subjects::new(alloc))),
@@ -143,11 +135,11 @@ fn subjects_of(alloc: Global, value: &Value) -> Result<Option<Subjects>, AllocEr
 }
 
 fn each_subject(alloc: Global, members: &[(Tag, Value)]) -> Result<Option<Subjects>, AllocError>
-    ensures { IfOk result (λ subjects. subjects ≡ each_in number_in (elements members.now)) }
+    ensures { IfOk result (λ subjects. subjects ≡ each_in unsigned_in (elements members.now)) }
 {
     let mut subjects = Subjects::new(alloc);
     for member in members {
-        let Some(subject) = number_of(&member.1) else {
+        let Some(subject) = unsigned_of(&member.1) else {
             return Ok(None);
         };
         subjects.push(subject)?;

@@ -1,8 +1,9 @@
 //! What the steps that are to be made leave somewhere.
 
 ghost use Rattle.std.specs.Prelude.{◌≡◌, ◌==◌, ◌&&◌, None, IfOk, option_map};
+ghost use Rattle.std.specs.Option.{option_or};
 ghost use Rattle.mt_model.specs.rows.Sight.{same_place};
-ghost use Rattle.mt_write.specs.Latest.{entries_set, latest, newer, row_set};
+ghost use Rattle.mt_write.specs.Latest.{entries_set, latest, row_set};
 
 use mt_model::{AclEntries, NodeStep, Place, Values};
 
@@ -18,7 +19,7 @@ pub fn latest_row<'a>(steps: &'a [NodeStep], place: &Place, fabric: u8) -> Optio
 }
 
 fn newer_row<'a>(set: Option<&'a Values>, before: Option<&'a Values>) -> Option<&'a Values>
-    ensures { option_map (λ values. values.now) result ≡ newer (option_map (λ values. values.now) set.entry) (option_map (λ values. values.now) before.entry) }
+    ensures { option_map (λ values. values.now) result ≡ option_or (option_map (λ values. values.now) set.entry) (option_map (λ values. values.now) before.entry) }
 {
     match set {
         Some(values) => Some(values),
@@ -60,7 +61,7 @@ fn newer_entries<'a>(
     set: Option<&'a AclEntries>,
     before: Option<&'a AclEntries>,
 ) -> Option<&'a AclEntries>
-    ensures { option_map (λ entries. entries.now) result ≡ newer (option_map (λ entries. entries.now) set.entry) (option_map (λ entries. entries.now) before.entry) }
+    ensures { option_map (λ entries. entries.now) result ≡ option_or (option_map (λ entries. entries.now) set.entry) (option_map (λ entries. entries.now) before.entry) }
 {
     match set {
         Some(entries) => Some(entries),

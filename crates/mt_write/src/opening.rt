@@ -3,11 +3,11 @@
 ghost use Rattle.std.specs.Prelude.{◌≡◌, Ok};
 ghost use Rattle.mt_model.specs.rows.Seen.{seen_as};
 ghost use Rattle.mt_meta.specs.Finding.{find_of};
-ghost use Rattle.mt_write.specs.Writing.{is_numbered, is_outdated, is_scoped, may_write, open_at, opened};
+ghost use Rattle.mt_write.specs.Writing.{is_outdated, is_scoped, may_write, open_at, opened};
 
 use mt_acl::grants_if_asked;
 use mt_meta::{Asked, Meta, find, privilege_asked};
-use mt_model::{Actor, Index, Place, Sight, Status, WriteItem};
+use mt_model::{Actor, Place, Sight, Status, WriteItem};
 
 /// The attribute of an item, if nothing stands in its way. Access is asked of the writer's entries as the
 /// sight has them.
@@ -52,7 +52,7 @@ fn is_scoped(place: &Place) -> bool
 fn open_at(version: u32, timed: bool, item: &WriteItem, meta: Meta) -> Result<Meta, Status>
     ensures { result ≡ open_at version timed item.now (Ok meta) }
 {
-    if meta.write.is_none() || is_numbered(item.path.index) {
+    if meta.write.is_none() || item.path.names_item() {
         return Err(Status::UnsupportedWrite);
     }
     if meta.timed && !timed {
@@ -62,15 +62,6 @@ fn open_at(version: u32, timed: bool, item: &WriteItem, meta: Meta) -> Result<Me
         return Err(Status::DataVersionMismatch);
     }
     Ok(meta)
-}
-
-fn is_numbered(index: Index) -> bool
-    ensures { result ≡ is_numbered index }
-{
-    match index {
-        Index::Whole | Index::Append => false,
-        Index::At(_) => true,
-    }
 }
 
 // Whether the item asks for another version than this.

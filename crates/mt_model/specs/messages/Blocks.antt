@@ -1,6 +1,6 @@
 -- The blocks of messages that the items of an answer are encoded as, as TLV trees (Matter Core
 -- Specification, chapter 10, Interaction Model Encoding). Fields stand by ascending tag.
-use Rattle.std.specs.Prelude.{ℕ, List, Option, Some, None}
+use Rattle.std.specs.Prelude.{ℕ, Bool, true, false, List, Option, Some, None}
 use Rattle.mt_tlv.specs.Narrow.{narrow}
 use Rattle.mt_tlv.specs.Tree.{Tree, uint, null, structure, list, Elements, none, more}
 use Rattle.mt_tlv.specs.View.{tree}
@@ -44,6 +44,15 @@ place_in _ _ _ = None
 
 abbrev pub place_named : Path → Option Place
 place_named path = place_in path.endpoint path.cluster path.leaf
+
+-- whether a path names a single item of a list
+abbrev pub is_numbered : Index → Bool
+is_numbered Whole = false
+is_numbered Append = false
+is_numbered (At n) = true
+
+abbrev pub names_item : Path → Bool
+names_item path = is_numbered path.index
 
 -- Status: 0 code
 abbrev pub status_tree : ℕ → Tree

@@ -17,7 +17,12 @@ shown_item fabric own row = if own && not (row.fabric == fabric) then [] else (A
 abbrev pub shown_items : ℕ → Bool → List Row → Elements
 shown_items fabric own rows = elements (flat_map (shown_item fabric own) rows)
 
--- the value of the first row as the fabric sees it, null where there is no row
+-- the value of the first row, null where there is no row
+abbrev pub first_value : List Row → Value
+first_value [] = values.Null
+first_value (row ∷ rows) = row.value
+
+-- the same as the fabric sees it
 abbrev pub shown_value : ℕ → List Row → Value
 shown_value fabric [] = values.Null
 shown_value fabric (row ∷ rows) = (seen_by fabric row).value

@@ -1,5 +1,5 @@
 -- Stored rows as they are kept: a map from each place to the rows that stand there.
-use Rattle.std.specs.Prelude.{ℕ, ◌≡◌, ◌==◌, true, not, Bool, List, [], ◌∷◌, Option, Some, None, is_some}
+use Rattle.std.specs.Prelude.{◌≡◌, true, Bool, List, [], ◌∷◌, is_some}
 use Rattle.std.specs.BTreeMap.{BTreeMap, IsOrdered, get}
 use Rattle.std.specs.Global.{Vec}
 use Rattle.std.specs.List.{flat_map, list_all, list_any}
@@ -30,11 +30,6 @@ stored_places =
 -- whether the rows of a place are stored
 abbrev pub is_stored_place : Place → Bool
 is_stored_place place = list_any (same_place place) stored_places
-
--- whether a row stays where this fabric's are left out
-abbrev pub stays : Option ℕ → Row → Bool
-stays None row = true
-stays (Some fabric) row = not (row.fabric == fabric)
 
 -- How rows are kept.
 

@@ -1,6 +1,7 @@
 -- An access control entry as a value (Matter Core Specification, section 9.10, Access Control Cluster), and
 -- the entry that a value is.
 use Rattle.std.specs.Prelude.{ℕ, ◌==◌, if◌then◌else◌, List, [], ◌∷◌, Option, Some, None, option_and_then}
+use Rattle.mt_tlv.specs.Scalars.{unsigned_in}
 use Rattle.mt_tlv.specs.Tree.{Tree, uint, null, structure, array, Elements, none, more}
 use Rattle.mt_tlv.specs.declared.value.Tag.TheVariants.{Context}
 use Rattle.mt_tlv.specs.declared.value.Value.{Value}
@@ -63,10 +64,6 @@ entry_value entry = values.Struct (more (Context 1) (uint (privilege_number entr
 
 -- The entry that a value is, None where it is none. Fields that are not named are passed over.
 
-abbrev pub number_in : Tree → Option ℕ
-number_in (uint n) = Some n
-number_in tree = None
-
 -- a number, or null
 abbrev pub optional_in : Tree → Option (Option ℕ)
 optional_in null = Some None
@@ -108,13 +105,13 @@ entry_with _ _ _ _ _ = None
 -- the entry of this fabric that fields are, whose targets are read so: 1 privilege, 2 mode, 3 subjects, 4 targets
 abbrev pub entry_of : (Tree → Option Target) → Option ℕ → Elements → Option AclEntry
 entry_of target fabric es = entry_with
-    (option_and_then privilege_numbered (option_and_then number_in (field_in 1 es)))
-    (option_and_then mode_numbered (option_and_then number_in (field_in 2 es)))
-    (option_and_then (list_in number_in) (field_in 3 es))
+    (option_and_then privilege_numbered (option_and_then unsigned_in (field_in 1 es)))
+    (option_and_then mode_numbered (option_and_then unsigned_in (field_in 2 es)))
+    (option_and_then (list_in unsigned_in) (field_in 3 es))
     (option_and_then (list_in target) (field_in 4 es))
     fabric
 
 -- 254 fabric index
 abbrev pub entry_in : Value → Option AclEntry
-entry_in (values.Struct es) = entry_of target_in (option_and_then number_in (field_in 254 es)) es
+entry_in (values.Struct es) = entry_of target_in (option_and_then unsigned_in (field_in 254 es)) es
 entry_in value = None

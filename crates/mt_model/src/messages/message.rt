@@ -1,7 +1,7 @@
 //! The messages of the interaction model: what is asked, and what is answered.
 
 ghost use Rattle.std.specs.Prelude.{◌≡◌};
-ghost use Rattle.mt_model.specs.messages.Blocks.{path_of, place_named};
+ghost use Rattle.mt_model.specs.messages.Blocks.{names_item, path_of, place_named};
 
 use crate::listed::{ExactCopy, Listed};
 use crate::node::state::Versions;
@@ -42,6 +42,16 @@ impl Path {
                 leaf,
             }),
             _ => None,
+        }
+    }
+
+    /// Whether the path names a single item of a list.
+    pub fn names_item(&self) -> bool
+        ensures { result ≡ names_item self.now }
+    {
+        match self.index {
+            Index::At(_) => true,
+            Index::Whole | Index::Append => false,
         }
     }
 }

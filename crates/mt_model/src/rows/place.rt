@@ -1,6 +1,7 @@
 //! Where data stands on the node.
 
 ghost use Rattle.std.specs.Prelude.{◌≡◌, ◌↔◌, ◌++◌, ◌∷◌, [], IsTrue, IfOk, OnOk, OnErr, length, filter, not};
+ghost use Rattle.mt_model.specs.Optional.{fits};
 ghost use Rattle.mt_model.specs.rows.Devices.{device_of};
 ghost use Rattle.mt_model.specs.rows.Order.{are_ascending, may_follow, stands_before};
 ghost use Rattle.mt_model.specs.rows.Setting.{is_at};
@@ -18,6 +19,32 @@ pub struct Place {
     pub cluster: u32,
     /// The id of the attribute, command or event.
     pub leaf: u32,
+}
+
+impl Place {
+    /// Whether the place is on the endpoint that is wanted, if one is.
+    pub fn fits_endpoint(&self, wanted: Option<u16>) -> bool
+        ensures { result ≡ fits wanted self.now.endpoint }
+    {
+        match wanted {
+            None => true,
+            Some(wanted) => wanted == self.endpoint,
+        }
+    }
+
+    /// Whether the place is of the cluster that is wanted, if one is.
+    pub fn fits_cluster(&self, wanted: Option<u32>) -> bool
+        ensures { result ≡ fits wanted self.now.cluster }
+    {
+        fits_number(wanted, self.cluster)
+    }
+
+    /// Whether the attribute, command or event is the one that is wanted, if one is.
+    pub fn fits_leaf(&self, wanted: Option<u32>) -> bool
+        ensures { result ≡ fits wanted self.now.leaf }
+    {
+        fits_number(wanted, self.leaf)
+    }
 }
 
 impl ExactCopy for Place {
@@ -169,5 +196,15 @@ pub fn device_type(endpoint: u16) -> Option<u32>
         0 => Some(0x16),
         1 => Some(0xfff1_0001),
         _ => None,
+    }
+}
+
+// Whether the number of a cluster, or of what stands in it, is the one that is wanted.
+fn fits_number(wanted: Option<u32>, number: u32) -> bool
+    ensures { result ≡ fits wanted number }
+{
+    match wanted {
+        None => true,
+        Some(wanted) => wanted == number,
     }
 }

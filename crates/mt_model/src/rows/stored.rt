@@ -5,13 +5,15 @@ ghost use Rattle.std.specs.List.{list_all};
 ghost use Rattle.mt_model.specs.rows.Order.{are_ascending};
 ghost use Rattle.mt_model.specs.rows.Setting.{is_at, is_other_at, with_rows};
 ghost use Rattle.mt_model.specs.rows.Sight.{stands_at};
-ghost use Rattle.mt_model.specs.rows.Stored.{is_stored_place, stays, stored_places};
+ghost use Rattle.mt_model.specs.rows.Stored.{is_stored_place, stored_places};
+ghost use Rattle.mt_model.specs.tables.Leaving.{stays};
 ghost use Rattle.mt_model.specs.declared.rows.place.Row.{Row};
 
 use crate::listed::ExactCopy;
 use crate::node::action::Values;
 use crate::rows::place::{Place, Row};
 use crate::rows::setting::{rows_within, set_rows};
+use crate::tables::fabric::stays;
 use std::alloc::{AllocError, Global};
 use std::collections::BTreeMap;
 use std::marker::Model;
@@ -106,20 +108,14 @@ impl StoredRows {
         Ok(stored)
     }
 
-    /// A copy of the rows of all fabrics but this one, those of nobody (fabric 0) among them where the fabric is not 0.
-    pub fn copy_without(&self, fabric: u8) -> Result<StoredRows, AllocError>
-        ensures { IfOk result (λ rows. rows ≡ filter (λ (row : Row). not (row.fabric == fabric)) self.now) }
-    {
-        self.copy_of_others(Some(fabric))
-    }
-
-    // A copy of the rows, those of the fabric to be left out not among them.
-    fn copy_of_others(&self, left_out: Option<u8>) -> Result<StoredRows, AllocError>
-        ensures { IfOk result (λ rows. rows ≡ filter (stays left_out) self.now) }
+    /// A copy of the rows that stay where this fabric leaves: all where it is None, and those of nobody (fabric 0)
+    /// among them where it is not 0.
+    pub fn copy_without(&self, gone: Option<u8>) -> Result<StoredRows, AllocError>
+        ensures { IfOk result (λ rows. rows ≡ filter (λ (row : Row). stays gone row.fabric) self.now) }
     {
         let mut places = BTreeMap::new(self.alloc);
         for (place, rows) in &self.places {
-            places.insert(*place, copies(self.alloc, rows, left_out)?)?;
+            places.insert(*place, copies(self.alloc, rows, gone)?)?;
         }
         Ok(StoredRows {
             alloc: self.alloc,
@@ -187,17 +183,17 @@ impl StoredRows {
 
 impl ExactCopy for StoredRows {
     fn copy(&self) -> Result<StoredRows, AllocError> {
-        self.copy_of_others(None)
+        self.copy_without(None)
     }
 }
 
-// Copies of rows, those of the fabric to be left out not among them.
-fn copies(alloc: Global, rows: &[Row], left_out: Option<u8>) -> Result<Vec<Row>, AllocError>
-    ensures { IfOk result (λ copies. copies.items ≡ filter (stays left_out) rows.now) }
+// Copies of the rows that stay where this fabric leaves.
+fn copies(alloc: Global, rows: &[Row], gone: Option<u8>) -> Result<Vec<Row>, AllocError>
+    ensures { IfOk result (λ copies. copies.items ≡ filter (λ (row : Row). stays gone row.fabric) rows.now) }
 {
     let mut copies = Vec::with_capacity(alloc, rows.len())?;
     for row in rows {
-        if left_out != Some(row.fabric) {
+        if stays(gone, row.fabric) {
             copies.push(row.copy()?)?;
         }
     }

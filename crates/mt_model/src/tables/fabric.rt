@@ -1,6 +1,7 @@
 //! Fabrics and their credentials.
 
 ghost use Rattle.std.specs.Prelude.{◌≡◌};
+ghost use Rattle.mt_model.specs.tables.Leaving.{stays};
 ghost use Rattle.mt_model.specs.texts.Config.{has_identity, is_operational};
 
 use crate::limits::LAST_OPERATIONAL_NODE;
@@ -66,6 +67,16 @@ pub fn is_operational(node: u64) -> bool
     ensures { result ≡ is_operational node }
 {
     1 <= node && node <= LAST_OPERATIONAL_NODE
+}
+
+/// Whether what is of a fabric stays where this one leaves the node; all stays where it is None.
+pub fn stays(gone: Option<u8>, fabric: u8) -> bool
+    ensures { result ≡ stays gone fabric }
+{
+    match gone {
+        Some(gone) => gone != fabric,
+        None => true,
+    }
 }
 
 impl ExactCopy for Fabric {

@@ -1,6 +1,6 @@
 use Rattle.std.proofs.Common.{◌≡◌, ◌++◌, drop, filter}
+use Rattle.mt_model.specs.tables.Leaving.{stays}
 use Rattle.mt_model.specs.declared.tables.access.AclEntry.{AclEntry}
-use Rattle.mt_machine.specs.Rollback.{stays}
 use Rattle.mt_steps.proofs.expiry.entries_behind.Given as goal
 
 -- those that stay so far, and those among the entries to come

@@ -1,6 +1,6 @@
 use Rattle.std.proofs.Common.{◌≡◌, ◌++◌, drop, filter, map}
+use Rattle.mt_model.specs.tables.Leaving.{stays}
 use Rattle.mt_model.specs.declared.tables.fabric.Fabric.{Fabric}
-use Rattle.mt_machine.specs.Rollback.{stays}
 use Rattle.mt_steps.specs.Expired.{given_by}
 use Rattle.mt_steps.proofs.expiry.fabrics_behind.Given as goal
 

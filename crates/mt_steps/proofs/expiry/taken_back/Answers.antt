@@ -1,7 +1,8 @@
 use Rattle.std.proofs.Common.{List, ap, filter, map, ◌∙◌}
+use Rattle.mt_model.specs.tables.Leaving.{stays}
 use Rattle.mt_model.specs.declared.tables.access.AclEntry.{AclEntry}
 use Rattle.mt_model.specs.declared.tables.fabric.Fabric.{Fabric}
-use Rattle.mt_machine.specs.Rollback.{roots_behind, session_behind, stays}
+use Rattle.mt_machine.specs.Rollback.{roots_behind, session_behind}
 use Rattle.mt_steps.specs.Expired.{given_by}
 use Rattle.mt_steps.proofs.Given.{taken_back}
 use Rattle.mt_steps.proofs.expiry.taken_back.Goals as goal

@@ -1,7 +1,7 @@
 use Rattle.std.proofs.Common.{◌≡◌, Some, ap, filter, map, ◌∙◌}
+use Rattle.mt_model.specs.tables.Leaving.{stays}
 use Rattle.mt_model.specs.declared.tables.access.AclEntry.{AclEntry}
 use Rattle.mt_machine.specs.Effects.{session_without}
-use Rattle.mt_machine.specs.Rollback.{stays}
 use Rattle.mt_machine.specs.State.{is_used}
 use Rattle.mt_steps.proofs.fabrics.leave.Goals as goal
 

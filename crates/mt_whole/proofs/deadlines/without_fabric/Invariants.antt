@@ -1,6 +1,6 @@
 use Rattle.std.proofs.Common.{◌≡◌, ◌++◌, Some, drop, filter}
+use Rattle.mt_model.specs.tables.Leaving.{stays}
 use Rattle.mt_model.specs.declared.node.action.PlainDeadline.{PlainDeadline}
-use Rattle.mt_machine.specs.Rollback.{stays}
 use Rattle.mt_whole.proofs.deadlines.without_fabric.Given as goal
 
 -- those of others so far, and those among the deadlines to come

@@ -1,11 +1,8 @@
-//! Prints what a journal on a file answers, call by call, each time the file is opened anew.
-#![tactic(auto)]
+//! A journal on a file, which is opened anew again and again.
 
-mod form;
-
-use form::TestForm;
+use crate::form::{TestForm, is_change, is_image};
 use mt_file_disk::FileDisk;
-use mt_journal::{Form, Journal};
+use mt_journal::Journal;
 use mt_outside::{Disk, Failed};
 use mt_tlv::Bytes;
 use std::fs::{OpenOptions, remove_file};
@@ -13,22 +10,23 @@ use std::io;
 
 type FileJournal = Journal<FileDisk, TestForm>;
 
-fn main(rt: HostRuntime) -> io::Result<()> {
-    let Some(mut journal) = opened(&rt)? else {
+/// Makes a journal on a new file, changes it, opens it anew twice, and takes the file away again.
+pub(crate) fn play(rt: &HostRuntime) -> io::Result<()> {
+    let Some(mut journal) = opened(rt)? else {
         return Ok(());
     };
-    switched(&rt, &mut journal, &[0x16, 0x01])?;
-    appended(&rt, &mut journal, &[0x17, 0x02])?;
-    appended(&rt, &mut journal, &[0x17, 0x03, 0x04])?;
-    let Some(mut journal) = opened(&rt)? else {
+    switched(rt, &mut journal, &[0x16, 0x01])?;
+    appended(rt, &mut journal, &[0x17, 0x02])?;
+    appended(rt, &mut journal, &[0x17, 0x03, 0x04])?;
+    let Some(mut journal) = opened(rt)? else {
         return Ok(());
     };
-    switched(&rt, &mut journal, &[0x16, 0x05])?;
-    appended(&rt, &mut journal, &[0x17, 0x06])?;
-    if opened(&rt)?.is_some() {
-        print_file(&rt)?;
+    switched(rt, &mut journal, &[0x16, 0x05])?;
+    appended(rt, &mut journal, &[0x17, 0x06])?;
+    if opened(rt)?.is_some() {
+        print_file(rt)?;
     }
-    remove_file(&rt, "journal")
+    remove_file(rt, "journal")
 }
 
 // A journal on the file, opened anew, and prints its list.
@@ -59,14 +57,14 @@ fn print_list(rt: &HostRuntime, list: &[Bytes]) -> io::Result<()> {
 }
 
 fn switched(rt: &HostRuntime, journal: &mut FileJournal, image: &[u8]) -> io::Result<()> {
-    if !TestForm::is_image(image) || image.len() > 65_536 {
+    if !is_image(image) || image.len() > 65_536 {
         return Ok(());
     }
     print_done(rt, journal.switch(image))
 }
 
 fn appended(rt: &HostRuntime, journal: &mut FileJournal, change: &[u8]) -> io::Result<()> {
-    if !TestForm::is_change(change) || change.len() > 65_536 || !journal.fits(change.len()) {
+    if !is_change(change) || change.len() > 65_536 || !journal.fits(change.len()) {
         return Ok(());
     }
     print_done(rt, journal.append(change))
