@@ -3,6 +3,7 @@ use Rattle.std.proofs.Common.{◌≡◌, ℕ, Bool, true, false, not, ◌==◌, 
 use Rattle.std.specs.Option.{option_map}
 use Rattle.std.proofs.lemmas.List.{append-nil, map-append}
 use Rattle.std.proofs.lemmas.List.Elements.{filter-append}
+use Rattle.mt_model.specs.Optional.{is_that}
 use Rattle.mt_model.specs.rows.Order.{fabrics_ascend}
 use Rattle.mt_model.specs.rows.Seen.{own_entries}
 use Rattle.mt_model.specs.rows.Sight.{seen_by}
@@ -14,11 +15,11 @@ use Rattle.mt_model.specs.declared.node.state.NodeSession.{NodeSession}
 use Rattle.mt_model.specs.declared.node.state.NodeState.{NodeState}
 use Rattle.mt_machine.specs.Isolation.{bare_fabric, descriptor_of, is_live_for, own, owns, public_view, saved_for, veil, with_saved}
 use Rattle.mt_machine.proofs.Entries.{apart, bare_others, own_entries-apart}
-use Rattle.mt_machine.proofs.Fabrics.{known_to, own_fabrics, rebuilt-known}
+use Rattle.mt_machine.proofs.Fabrics.{own_fabrics, rebuilt-known}
 use Rattle.mt_machine.proofs.Rows as rows
 use Rattle.mt_machine.proofs.Rows.{others, seen-fabric, seen-twice}
 use Rattle.mt_machine.proofs.Seeing.{bare_again, bare_networks_again, plain-veil}
-use Rattle.mt_model.specs.tables.Known.{bare_armed}
+use Rattle.mt_model.specs.tables.Known.{bare_armed, fabric_known_to}
 
 -- Rows.
 
@@ -83,23 +84,23 @@ module _ (fabric : ℕ) where
 
   -- one fabric more, its own or another
   own_of_one : (f : Fabric) (fs : List Fabric) (mine : Bool) → (f.index == fabric) ≡ mine
-      → own_fabrics fabric (map (known_to fabric) fs) ≡ own_fabrics fabric fs
-      → own_fabrics fabric ((if mine then f else bare_fabric (descriptor_of f)) ∷ map (known_to fabric) fs) ≡ own_fabrics fabric (f ∷ fs)
+      → own_fabrics fabric (map (fabric_known_to fabric) fs) ≡ own_fabrics fabric fs
+      → own_fabrics fabric ((if mine then f else bare_fabric (descriptor_of f)) ∷ map (fabric_known_to fabric) fs) ≡ own_fabrics fabric (f ∷ fs)
   own_of_one f fs true is again = rw is (ap (λ (rest : List Fabric). f ∷ rest) again)
   own_of_one f fs false is again = rw is (again)
 
-  own_of_known : (fs : List Fabric) → own_fabrics fabric (map (known_to fabric) fs) ≡ own_fabrics fabric fs
+  own_of_known : (fs : List Fabric) → own_fabrics fabric (map (fabric_known_to fabric) fs) ≡ own_fabrics fabric fs
   own_of_known [] = refl
   own_of_known (f ∷ fs) = own_of_one f fs (f.index == fabric) refl (own_of_known fs)
 
-  described : (f : Fabric) → descriptor_of (known_to fabric f) ≡ descriptor_of f
+  described : (f : Fabric) → descriptor_of (fabric_known_to fabric f) ≡ descriptor_of f
   described f = by_test (f.index == fabric)
     where
       by_test : (mine : Bool) → descriptor_of (if mine then f else bare_fabric (descriptor_of f)) ≡ descriptor_of f
       by_test true = refl
       by_test false = refl
 
-  all_described : (fs : List Fabric) → map descriptor_of (map (known_to fabric) fs) ≡ map descriptor_of fs
+  all_described : (fs : List Fabric) → map descriptor_of (map (fabric_known_to fabric) fs) ≡ map descriptor_of fs
   all_described [] = refl
   all_described (f ∷ fs) = λ i. described f i ∷ all_described fs i
 
@@ -107,7 +108,7 @@ module _ (fabric : ℕ) where
 
   saved_again : (armed : Option Armed) → saved_for fabric (option_map (with_saved (saved_for fabric armed)) (option_map bare_armed armed)) ≡ saved_for fabric armed
   saved_again None = refl
-  saved_again (Some armed) = by_test (Rattle.mt_machine.specs.Isolation.has_fabric fabric armed.updated)
+  saved_again (Some armed) = by_test (is_that fabric armed.updated)
     where
       by_test : (own : Bool) → (if own then (if own then armed.saved_credentials else None) else None) ≡ (if own then armed.saved_credentials else None)
       by_test true = refl

@@ -3,6 +3,8 @@ use Rattle.std.proofs.Common.{◌≡◌, ℕ, ◌==◌, ◌&&◌, ◌||◌, inl,
 use Rattle.std.proofs.lemmas.Bool.{cases_Bool, eqb-true, or_right}
 use Rattle.mt_fabrics.specs.Table.{changed, has_index, label_refusal, least_unused, with_credentials, with_index, with_label}
 use Rattle.mt_failsafe.specs.Notes as notes
+use Rattle.mt_model.specs.Optional.{is_that}
+use Rattle.mt_model.specs.tables.Leaving.{stays}
 use Rattle.mt_model.specs.declared.node.action.NodeStep.{NodeStep}
 use Rattle.mt_model.specs.declared.node.action.NodeStep.TheVariants.{SetRow, SetEntries, PutNetwork, RemoveNetwork, ConnectNetwork, MoveNetwork, Arm, Renew, Expire, Complete, AddRoot, Csr, AddFabric, UpdateFabric, RemoveFabric, Label, Emit}
 use Rattle.mt_model.specs.declared.node.state.NodeState.{NodeState}
@@ -11,9 +13,8 @@ use Rattle.mt_model.specs.declared.tables.fabric.Credentials.{Credentials}
 use Rattle.mt_model.specs.declared.tables.fabric.Fabric.{Fabric}
 use Rattle.mt_model.specs.declared.tables.network.Armed.{Armed}
 use Rattle.mt_machine.specs.Effects.{after, after_all, completed, joined, labelled_in, may_join, may_leave, may_update, trusting, updated_in, with_request, without_fabric}
-use Rattle.mt_machine.specs.Isolation.{has_fabric}
 use Rattle.mt_machine.specs.Leaving.{has_left}
-use Rattle.mt_machine.specs.Rollback.{added_in, rollback, rolled_back, stays}
+use Rattle.mt_machine.specs.Rollback.{added_in, rollback, rolled_back}
 use Rattle.mt_machine.specs.State.{is_among}
 use Rattle.mt_machine.specs.Step.{gone_between}
 use Rattle.mt_machine.proofs.Expired.{among-behind}
@@ -51,7 +52,7 @@ module _ (one : ℕ) (now : List Fabric) where
     | inr not_there ↦ rw not_there refl
   ]
 
-  pub left-first : (before : List Fabric) → StayBut one before now → (fabric : ℕ) → (is_among before fabric && not (is_among now fabric)) ≡ has_fabric fabric (gone_between before now)
+  pub left-first : (before : List Fabric) → StayBut one before now → (fabric : ℕ) → (is_among before fabric && not (is_among now fabric)) ≡ is_that fabric (gone_between before now)
   left-first [] stay fabric = refl
   left-first (f ∷ before) stay fabric =
       let rest = left-first before (tail f before stay) fabric in
@@ -134,10 +135,10 @@ labelled-stay index label s n other there = elim (cases_Bool (is_none (label_ref
 
 -- The laws.
 
-as-before : (fabric : ℕ) (s t : NodeState) → t.fabrics ≡ s.fabrics → has_left s t fabric ≡ has_fabric fabric (gone_between s.fabrics t.fabrics)
+as-before : (fabric : ℕ) (s t : NodeState) → t.fabrics ≡ s.fabrics → has_left s t fabric ≡ is_that fabric (gone_between s.fabrics t.fabrics)
 as-before fabric s t same = left-first 0 t.fabrics s.fabrics (subst (StayBut 0 s.fabrics) (sym same) (all-stay 0 s.fabrics)) fabric
 
-pub left_is_gone : (fabric : ℕ) (asker : Option Actor) (step : NodeStep) (s : NodeState) → has_left s (after asker step s) fabric ≡ has_fabric fabric (gone_between s.fabrics (after asker step s).fabrics)
+pub left_is_gone : (fabric : ℕ) (asker : Option Actor) (step : NodeStep) (s : NodeState) → has_left s (after asker step s) fabric ≡ is_that fabric (gone_between s.fabrics (after asker step s).fabrics)
 left_is_gone fabric asker (SetRow place whose values) s = as-before fabric s (after asker (SetRow place whose values) s) refl
 left_is_gone fabric asker (SetEntries whose entries) s = as-before fabric s (after asker (SetEntries whose entries) s) refl
 left_is_gone fabric asker (PutNetwork id secret) s = as-before fabric s (after asker (PutNetwork id secret) s) refl
@@ -162,6 +163,6 @@ none-away None s none n there = there
 none-away (Some armed) s none n there = among-behind armed.added armed.updated armed.saved_credentials n s.fabrics ∙ rw (ap (λ (added : Option ℕ). stays added n) none) there
 
 pub left_behind_expiry : (fabric : ℕ) (asker : Option Actor) (index : ℕ) (s : NodeState) → added_in s.armed ≡ None
-    → has_left s (after_all asker (Expire ∷ RemoveFabric index ∷ []) s) fabric ≡ has_fabric fabric (gone_between s.fabrics (after_all asker (Expire ∷ RemoveFabric index ∷ []) s).fabrics)
+    → has_left s (after_all asker (Expire ∷ RemoveFabric index ∷ []) s) fabric ≡ is_that fabric (gone_between s.fabrics (after_all asker (Expire ∷ RemoveFabric index ∷ []) s).fabrics)
 left_behind_expiry fabric asker index s none =
     left-first index (without_fabric index (rollback s)).fabrics s.fabrics (λ n other there. removed-stay index (rollback s) n other (none-away s.armed s none n there)) fabric

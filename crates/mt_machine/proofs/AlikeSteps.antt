@@ -4,7 +4,9 @@ use Rattle.std.proofs.lemmas.Bool.{and_parts, cases_Bool, eqb-true, not-true}
 use Rattle.mt_fabrics.specs.Table.{changed, changed_at, credentials_at, has_index, has_other_index, label_refusal, labelled, least_unused, with_credentials, with_index, with_label}
 use Rattle.mt_failsafe.specs.Calls.{is_armed_by}
 use Rattle.mt_failsafe.specs.Notes as notes
+use Rattle.mt_model.specs.Optional.{is_that}
 use Rattle.mt_model.specs.tables.Known.{bare_armed}
+use Rattle.mt_model.specs.tables.Leaving.{stays}
 use Rattle.mt_model.specs.texts.Config.{has_identity}
 use Rattle.mt_model.specs.declared.node.action.NodeStep.{NodeStep}
 use Rattle.mt_model.specs.declared.node.action.NodeStep.TheVariants.{SetRow, SetEntries, PutNetwork, RemoveNetwork, ConnectNetwork, MoveNetwork, Arm, Renew, Expire, Complete, AddRoot, Csr, AddFabric, UpdateFabric, RemoveFabric, Label, Emit}
@@ -17,8 +19,8 @@ use Rattle.mt_model.specs.declared.tables.fabric.Credentials.{Credentials}
 use Rattle.mt_model.specs.declared.tables.fabric.Fabric.{Fabric}
 use Rattle.mt_model.specs.declared.tables.network.Armed.{Armed}
 use Rattle.mt_machine.specs.Effects.{after, completed, is_on, is_pase, is_plain, is_sound_step, joined, joined_as, labelled_in, may_leave, may_update, plain_joined, plain_without, session_completed, session_joined, session_without, updated_in, without_fabric}
-use Rattle.mt_machine.specs.Isolation.{Own, has_fabric, is_live_for, own, owns, saved_for, veil, with_saved}
-use Rattle.mt_machine.specs.Rollback.{rollback, rolled_back, stays}
+use Rattle.mt_machine.specs.Isolation.{Own, is_live_for, own, owns, saved_for, veil, with_saved}
+use Rattle.mt_machine.specs.Rollback.{rollback, rolled_back}
 use Rattle.mt_machine.specs.State.{IsValid, is_among}
 use Rattle.mt_machine.specs.Touching.{is_its_step}
 use Rattle.mt_machine.proofs.Again.{own-again}
@@ -69,7 +71,7 @@ module _ (fabric : ℕ) where
       same = at (has_index index f)
 
   -- the plain session ends where it has the fabric that leaves, or is done
-  plain-left : (index : ℕ) (plain : Option ℕ) → has_fabric fabric (plain_without index plain) ≡ (if index == fabric then false else has_fabric fabric plain)
+  plain-left : (index : ℕ) (plain : Option ℕ) → is_that fabric (plain_without index plain) ≡ (if index == fabric then false else is_that fabric plain)
   plain-left index None = elim (cases_Bool (index == fabric)) [ inl its ↦ rw its refl | inr other ↦ rw other refl ]
   plain-left index (Some n) = grind arith
 
@@ -94,7 +96,7 @@ module _ (fabric : ℕ) where
   abbrev own_joined : Option Actor → ℕ → Fabric → Own → Own
   own_joined asker index joins o = record o { sessions = filter is_mine (map (session_joined asker index joins) o.sessions); is_plain = if is_plain asker then false else o.is_plain }
 
-  plain-made : (asker : Option Actor) (index : ℕ) → (index == fabric) ≡ false → (plain : Option ℕ) → has_fabric fabric (plain_joined asker index plain) ≡ (if is_plain asker then false else has_fabric fabric plain)
+  plain-made : (asker : Option Actor) (index : ℕ) → (index == fabric) ≡ false → (plain : Option ℕ) → is_that fabric (plain_joined asker index plain) ≡ (if is_plain asker then false else is_that fabric plain)
   plain-made asker index apart plain = elim (cases_Bool (is_plain asker)) [
     | inl its ↦ rw its (index-apart fabric index apart plain)
     | inr not_its ↦ rw not_its refl
@@ -238,7 +240,7 @@ leave-behind : (fabric index : ℕ) (armed : Option Armed) (s t : NodeState) →
     → may_leave index (rolled_back (option_map (with_saved (saved_for fabric armed)) (option_map bare_armed armed)) t) ≡ may_leave index (rolled_back armed s)
 leave-behind fabric index None s t is_s is_t may among = may
 leave-behind fabric index (Some armed) s t is_s is_t may among = ap (λ (b : Bool). b && true) (
-    among-behind armed.added armed.updated (if has_fabric fabric armed.updated then armed.saved_credentials else None) index t.fabrics
+    among-behind armed.added armed.updated (if is_that fabric armed.updated then armed.saved_credentials else None) index t.fabrics
     ∙ ap (λ (b : Bool). stays armed.added index && b) among
     ∙ sym (among-behind armed.added armed.updated armed.saved_credentials index s.fabrics))
 

@@ -3,8 +3,10 @@ use Rattle.std.proofs.Common.{◌≡◌, ◌≢◌, ℕ, ◌==◌, ◌&&◌, ◌
 use Rattle.std.specs.List.{find, list_all}
 use Rattle.mt_failsafe.specs.Notes.{was_added, was_updated}
 use Rattle.mt_tlv.specs.declared.value.Value.{Value}
+use Rattle.mt_model.specs.Optional.{is_that}
 use Rattle.mt_model.specs.rows.Order.{are_ascending}
 use Rattle.mt_model.specs.rows.Setting.{is_above, is_at, is_below, is_entry_above, is_entry_below, is_entry_of, with_entries, with_rows}
+use Rattle.mt_model.specs.tables.Leaving.{stays}
 use Rattle.mt_model.specs.texts.Config.{ascend_from}
 use Rattle.mt_model.specs.declared.node.action.NodeStep.TheVariants as steps
 use Rattle.mt_model.specs.declared.node.action.PlainDeadline.{PlainDeadline}
@@ -17,7 +19,7 @@ use Rattle.mt_machine.specs.Given.{Given}
 use Rattle.mt_machine.specs.Changes.{settled}
 use Rattle.mt_machine.specs.Isolation.{is_deadline_in, own_of_whole}
 use Rattle.mt_machine.specs.Lines.{next_tick}
-use Rattle.mt_machine.specs.Rollback.{added_in, deadlines_left, given_back, is_due, is_gone, rollback, rolled_back, stays}
+use Rattle.mt_machine.specs.Rollback.{added_in, deadlines_left, given_back, is_due, rollback, rolled_back}
 use Rattle.mt_machine.specs.State.{IsValid, State, is_added, is_among, is_updated, keeps_facts}
 use Rattle.mt_machine.specs.Step.{after_steps, aside_of, at_time, gone_between}
 use Rattle.mt_machine.proofs.Rolled.{given-index}
@@ -50,11 +52,11 @@ abbrev is_there : Option ℕ → List Fabric → Bool
 is_there None fs = true
 is_there (Some added) fs = is_among fs added
 
-none_found : (fs : List Fabric) → find (λ (f : Fabric). is_gone None f.index) fs ≡ None
+none_found : (fs : List Fabric) → find (λ (f : Fabric). is_that f.index None) fs ≡ None
 none_found [] = refl
 none_found (f ∷ fs) = none_found fs
 
-one_found : (added : ℕ) (fs : List Fabric) → is_among fs added ≡ true → option_map (λ (f : Fabric). f.index) (find (λ (f : Fabric). is_gone (Some added) f.index) fs) ≡ Some added
+one_found : (added : ℕ) (fs : List Fabric) → is_among fs added ≡ true → option_map (λ (f : Fabric). f.index) (find (λ (f : Fabric). is_that f.index (Some added)) fs) ≡ Some added
 one_found added [] there = absurd (cc)
 one_found added (f ∷ fs) there = elim (cases_Bool (f.index == added)) [
   | inl here ↦
@@ -66,7 +68,7 @@ one_found added (f ∷ fs) there = elim (cases_Bool (f.index == added)) [
       rw apart (one_found added fs (rw other at there))
 ]
 
-found_added : (added : Option ℕ) (fs : List Fabric) → is_there added fs ≡ true → option_map (λ (f : Fabric). f.index) (find (λ (f : Fabric). is_gone added f.index) fs) ≡ added
+found_added : (added : Option ℕ) (fs : List Fabric) → is_there added fs ≡ true → option_map (λ (f : Fabric). f.index) (find (λ (f : Fabric). is_that f.index added) fs) ≡ added
 found_added None fs there = ap (option_map (λ (f : Fabric). f.index)) (none_found fs)
 found_added (Some added) fs there = one_found added fs there
 
@@ -115,8 +117,8 @@ module _ (added updated : Option ℕ) (saved : Option Credentials) where
   abbrev is_out : List Fabric → Fabric → Bool
   is_out fs f = not (is_among (behind fs) f.index)
 
-  out_is : (fs : List Fabric) (f : Fabric) → is_among fs f.index ≡ true → is_out fs f ≡ is_gone added f.index
-  out_is fs f there = ap not (among-behind f.index fs ∙ ap (λ b. stays added f.index && b) there ∙ and_true (stays added f.index)) ∙ not_not (is_gone added f.index)
+  out_is : (fs : List Fabric) (f : Fabric) → is_among fs f.index ≡ true → is_out fs f ≡ is_that f.index added
+  out_is fs f there = ap not (among-behind f.index fs ∙ ap (λ b. stays added f.index && b) there ∙ and_true (stays added f.index)) ∙ not_not (is_that f.index added)
 
   found-alike : (p q : Fabric → Bool) (fs : List Fabric) → ((f : Fabric) → is_among fs f.index ≡ true → p f ≡ q f) → find p fs ≡ find q fs
   found-alike p q [] each = refl
@@ -127,7 +129,7 @@ module _ (added updated : Option ℕ) (saved : Option Credentials) where
 
 pub gone_is : (added updated : Option ℕ) (saved : Option Credentials) (fs : List Fabric) → is_there added fs ≡ true → gone_between fs (behind added updated saved fs) ≡ added
 gone_is added updated saved fs there =
-    ap (option_map (λ (f : Fabric). f.index)) (found-alike added updated saved (is_out added updated saved fs) (λ (f : Fabric). is_gone added f.index) fs (out_is added updated saved fs))
+    ap (option_map (λ (f : Fabric). f.index)) (found-alike added updated saved (is_out added updated saved fs) (λ (f : Fabric). is_that f.index added) fs (out_is added updated saved fs))
     ∙ found_added added fs there
 
 left_mine : (fabric : ℕ) (armed : Option Armed) (ds : List PlainDeadline) → was_added fabric armed ≡ false → filter (is_deadline_in fabric) (deadlines_left armed ds) ≡ filter (is_deadline_in fabric) ds

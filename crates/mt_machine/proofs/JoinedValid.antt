@@ -4,11 +4,11 @@ use Rattle.std.proofs.lemmas.Bool.{and_from, and_parts, both_ways, cond_both, eq
 use Rattle.std.proofs.lemmas.List.Folds.{list_all-map}
 use Rattle.std.proofs.lemmas.List.Sums.{length-filter}
 use Rattle.std.specs.List.{list_all, list_any}
-use Rattle.mt_failsafe.specs.Notes.{is_that}
 use Rattle.mt_fabrics.specs.Table.{IsLeastUnused, IsTable, add_refusal, added, has_index, has_label, least_unused, placed, with_index}
 use Rattle.mt_fabrics.specs.declared.fault.FabricFault.{FabricFault}
 use Rattle.mt_fabrics.specs.declared.fault.FabricFault.TheVariants.{Conflict, LabelConflict, TableFull}
 use Rattle.mt_failsafe.specs.Notes as notes
+use Rattle.mt_model.specs.Optional.{is_that}
 use Rattle.mt_model.specs.texts.Config.{has_identity, is_fabric, is_of}
 use Rattle.mt_model.specs.declared.node.state.NodeSession.{NodeSession}
 use Rattle.mt_model.specs.declared.node.state.NodeState.{NodeState}

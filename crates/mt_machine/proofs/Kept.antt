@@ -1,6 +1,6 @@
 -- What the steps of a request leave of what is another fabric's own, and of the asker's own on its veil: by the laws of the crates that
 -- answer, those of the model on rows and entries that are set, and those of steps.
-use Rattle.std.proofs.Common.{◌≡◌, ◌≢◌, ℕ, ◌≤◌, ◌==◌, ◌&&◌, ◌||◌, ◌++◌, inl, inr, not, Bool, true, false, List, [], Option, Some, option_map, refl, sym, ap, ◌∙◌, subst, filter, map, is_ok, arith}
+use Rattle.std.proofs.Common.{◌≡◌, ◌≢◌, ℕ, ◌≤◌, ◌==◌, ◌&&◌, ◌||◌, ◌++◌, inl, inr, not, Bool, true, false, List, [], Option, Result, Some, option_map, refl, sym, ap, ◌∙◌, subst, filter, map, is_ok, arith}
 use Rattle.std.proofs.lemmas.Bool.{eqb-true, false_from_ne_true, or_cases}
 use Rattle.std.specs.List.{list_all}
 use Rattle.mt_tlv.specs.declared.value.Value.{Value}
@@ -31,7 +31,8 @@ use Rattle.mt_machine.specs.Given.{Given}
 use Rattle.mt_machine.specs.Isolation as isolation
 use Rattle.mt_machine.specs.Isolation.{own_of_whole}
 use Rattle.mt_machine.specs.Laws.{RemovalsSeeTheVeil, StepsSeeTheVeil}
-use Rattle.mt_machine.specs.Lines.{fabric_of, is_tick, next}
+use Rattle.mt_im.specs.declared.fault.ImFault.{ImFault}
+use Rattle.mt_machine.specs.Lines.{action_of, behind_action, fabric_of, is_tick, next}
 use Rattle.mt_machine.specs.State.{IsValid, State, is_among}
 use Rattle.mt_machine.specs.Step.{after_action, asked_steps, asker, at_time}
 use Rattle.mt_machine.specs.Taking.{may_take}
@@ -101,6 +102,11 @@ module _ (touches : TouchesItsOwn) (sound : LeavesSound) (nobody : NobodySetsSco
           → own_of_whole fabric (next given s e) ≡ own_of_whole fabric s
       keeps_own given fabric s e keeps valid no_tick differ there =
           veiled.keeps_own given fabric s valid (λ actor asking request deadline ms is apart. action_kept given keeps s.node valid fabric actor asking request deadline ms is apart) e no_tick differ there
+
+      pub action_keeps_own : (given : Given) (fabric : ℕ) (s : State) (actor asking : Actor) (asked : Result Request ImFault) (deadline : Option ℕ) (ms : ℕ) → KeepsRules given.judged → IsValid s.node → asker s.node actor ≡ Some asking → fabric ≢ asking.fabric
+          → StaysThere fabric s.node (behind_action given s (action_of actor deadline asked) ms).node → own_of_whole fabric (behind_action given s (action_of actor deadline asked) ms) ≡ own_of_whole fabric s
+      action_keeps_own given fabric s actor asking asked deadline ms keeps valid is differ there =
+          veiled.kept_behind given fabric s valid (λ actor asking request deadline ms is apart. action_kept given keeps s.node valid fabric actor asking request deadline ms is apart) actor asking asked deadline ms is differ there
 
   -- The asker's own part, on its veil.
 

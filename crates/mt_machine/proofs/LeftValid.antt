@@ -11,6 +11,7 @@ use Rattle.mt_meta.specs.Places.{all_places}
 use Rattle.mt_meta.specs.Stored.{is_stored}
 use Rattle.mt_model.specs.rows.Order.{are_ascending}
 use Rattle.mt_model.specs.rows.Sight.{stands_at}
+use Rattle.mt_model.specs.tables.Leaving.{stays}
 use Rattle.mt_model.specs.texts.Config.{ascend_from, has_identity, is_entry, is_fabric, is_of}
 use Rattle.mt_model.specs.declared.node.state.NodeSession.{NodeSession}
 use Rattle.mt_model.specs.declared.node.state.NodeState.{NodeState}
@@ -25,7 +26,6 @@ use Rattle.mt_model.specs.declared.tables.fabric.Fabric.{Fabric}
 use Rattle.mt_model.specs.declared.tables.network.Armed.{Armed}
 use Rattle.mt_machine.specs.Effects.{may_leave, plain_without, session_without, without_fabric}
 use Rattle.mt_machine.specs.Isolation.{is_live_for}
-use Rattle.mt_machine.specs.Rollback.{stays}
 use Rattle.mt_machine.specs.State.{IsValid, follows, has_entries_up_to, has_one_row, is_among, is_owned, is_plain_of, is_row, is_row_at, is_session, is_unscoped, plain_follows, stands_once, stands_rightly}
 use Rattle.mt_machine.specs.State as states
 use Rattle.mt_machine.proofs.NetworksValid.{all-passing, length-kept}

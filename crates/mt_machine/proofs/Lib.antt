@@ -7,6 +7,7 @@ pub mod Entries
 pub mod Fabrics
 pub mod Good
 pub mod Kept
+pub mod Ids
 pub mod Knowing
 pub mod Moving
 pub mod OnVeil

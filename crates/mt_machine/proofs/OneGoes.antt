@@ -5,6 +5,7 @@ use Rattle.mt_commission.specs.Laws as commission
 use Rattle.mt_commission.specs.Laws.{StepsAreSound, StepsStandFirst}
 use Rattle.mt_meta.specs.Finding.{find_of}
 use Rattle.mt_meta.specs.Stored.{is_stored}
+use Rattle.mt_model.specs.Optional.{is_that}
 use Rattle.mt_model.specs.rows.Stored.{is_stored_place}
 use Rattle.mt_model.specs.tables.Known.{bare_armed, known_to}
 use Rattle.mt_model.specs.declared.messages.message.Request.{Request}
@@ -20,11 +21,10 @@ use Rattle.mt_model.specs.declared.tables.network.Armed.{Armed}
 use Rattle.mt_opcreds.specs.Laws.{KeepsRules, StepsAreWellFormed, StepsFit}
 use Rattle.mt_opcreds.specs.Moves.{IsMove, StepsAreMoves, expires, expires_and_leaves, joins, leaves, names, nothing, renews, requests, trusts}
 use Rattle.mt_failsafe.specs.Calls.{is_context}
-use Rattle.mt_failsafe.specs.Notes.{is_that, was_added}
+use Rattle.mt_failsafe.specs.Notes.{was_added}
 use Rattle.mt_write.specs.Laws.{LeavesSound, NobodySetsScoped, TouchesItsOwn}
 use Rattle.mt_machine.specs.Effects.{after, after_all}
 use Rattle.mt_machine.specs.Given.{Given}
-use Rattle.mt_machine.specs.Isolation.{has_fabric}
 use Rattle.mt_machine.specs.Leaving.{has_left}
 use Rattle.mt_machine.specs.Rollback.{added_in, is_due}
 use Rattle.mt_machine.specs.State.{IsValid, is_added, is_among, is_updated, keeps_facts}
@@ -37,12 +37,12 @@ use Rattle.mt_machine.proofs.Times.{fabrics-stay}
 use Rattle.mt_machine.proofs.Writes.{impossible, timed_valid}
 
 abbrev LeftOne : NodeState → NodeState → Type 0
-LeftOne s t = (fabric : ℕ) → has_left s t fabric ≡ has_fabric fabric (gone_between s.fabrics t.fabrics)
+LeftOne s t = (fabric : ℕ) → has_left s t fabric ≡ is_that fabric (gone_between s.fabrics t.fabrics)
 
 -- the fabrics alone say so
 same_one : (s t u : NodeState) → u.fabrics ≡ t.fabrics → LeftOne s t → LeftOne s u
 same_one s t u same one fabric =
-    ap (λ (fs : List Fabric). is_among s.fabrics fabric && not (is_among fs fabric)) same ∙ one fabric ∙ ap (λ (fs : List Fabric). has_fabric fabric (gone_between s.fabrics fs)) (sym same)
+    ap (λ (fs : List Fabric). is_among s.fabrics fabric && not (is_among fs fabric)) same ∙ one fabric ∙ ap (λ (fs : List Fabric). is_that fabric (gone_between s.fabrics fs)) (sym same)
 
 none_leaves : (s : NodeState) → LeftOne s s
 none_leaves s fabric = left_is_gone fabric None (RemoveNetwork []) s
@@ -102,7 +102,7 @@ module _ (touches : TouchesItsOwn) (sound : LeavesSound) (nobody : NobodySetsSco
   due_one s now true = by_step None Expire (at_time now s)
   due_one s now false = none_leaves s
 
-  pub action_one : (s : NodeState) (action : Action) (now fabric : ℕ) → IsValid s → has_left s (after_action given s action now) fabric ≡ has_fabric fabric (aside_of given s action now).gone
+  pub action_one : (s : NodeState) (action : Action) (now fabric : ℕ) → IsValid s → has_left s (after_action given s action now) fabric ≡ is_that fabric (aside_of given s action now).gone
   action_one s (actions.Ask actor request deadline) now fabric valid = asked_one s valid request deadline now (asker s actor) (asker_known s actor valid) (asker_asks s actor valid) fabric
   action_one s actions.Expire now fabric valid = due_one s now (is_due s.armed now) fabric
   action_one s actions.Nothing now fabric valid = none_leaves s fabric

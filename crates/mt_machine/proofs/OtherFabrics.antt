@@ -7,6 +7,7 @@ use Rattle.mt_meta.specs.Finding.{find_of}
 use Rattle.mt_meta.specs.Forms.{has_form}
 use Rattle.mt_meta.specs.Stored.{is_stored}
 use Rattle.mt_meta.specs.declared.meta.Meta.{Meta}
+use Rattle.mt_model.specs.Optional.{is_that}
 use Rattle.mt_model.specs.texts.Config.{has_identity}
 use Rattle.mt_model.specs.declared.messages.status.Status.{Status}
 use Rattle.mt_model.specs.declared.node.state.NodeSession.{NodeSession}
@@ -19,7 +20,7 @@ use Rattle.mt_model.specs.declared.tables.access.Auth.TheVariants.{Pase, Case, G
 use Rattle.mt_model.specs.declared.tables.fabric.Credentials.{Credentials}
 use Rattle.mt_model.specs.declared.tables.fabric.Fabric.{Fabric}
 use Rattle.mt_model.specs.declared.tables.network.Armed.{Armed}
-use Rattle.mt_machine.specs.Isolation.{has_fabric, is_live_for}
+use Rattle.mt_machine.specs.Isolation.{is_live_for}
 use Rattle.mt_machine.specs.State.{is_added, is_among, is_owned, is_plain_of, is_row, is_row_at, is_row_of, is_updated, keeps_facts, saves_identity, stands_rightly}
 use Rattle.mt_machine.proofs.Writes.{impossible}
 
@@ -84,7 +85,7 @@ module _ (fs gs : List Fabric) where
   stands-still session Group (Live fabric) among its none stands = its fabric (same_number fabric) stands
   stands-still session Group Ended among its none stands = refl
 
-  pub plain-still : (plain : Option ℕ) → ((n : ℕ) → has_fabric n plain ≡ true → is_among fs n ≡ true → is_among gs n ≡ true) → is_plain_of fs plain ≡ true → is_plain_of gs plain ≡ true
+  pub plain-still : (plain : Option ℕ) → ((n : ℕ) → is_that n plain ≡ true → is_among fs n ≡ true → is_among gs n ≡ true) → is_plain_of fs plain ≡ true → is_plain_of gs plain ≡ true
   plain-still None among stands = refl
   plain-still (Some fabric) among stands = either-among fabric (among fabric (same_number fabric)) stands
 

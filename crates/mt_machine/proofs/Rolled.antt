@@ -11,6 +11,7 @@ use Rattle.mt_tlv.specs.declared.value.Value.TheVariants as values
 use Rattle.mt_meta.specs.Finding.{find_of}
 use Rattle.mt_meta.specs.Places.{all_places}
 use Rattle.mt_model.specs.rows.Order.{are_ascending, fabrics_ascend, rise_above}
+use Rattle.mt_model.specs.tables.Leaving.{stays}
 use Rattle.mt_model.specs.texts.Config.{are_credentials, ascend_from, has_identity, have_one_identity, have_one_label, is_entry, is_fabric, is_label, is_of, none_alike}
 use Rattle.mt_model.specs.rows.Setting.{is_entry_of, with_entries, with_rows}
 use Rattle.mt_model.specs.rows.Sight.{stands_at}
@@ -32,7 +33,7 @@ use Rattle.mt_model.specs.declared.tables.access.AclEntry.{AclEntry}
 use Rattle.mt_model.specs.declared.tables.fabric.Credentials.{Credentials}
 use Rattle.mt_model.specs.declared.tables.fabric.Fabric.{Fabric}
 use Rattle.mt_model.specs.declared.tables.network.Armed.{Armed}
-use Rattle.mt_machine.specs.Rollback.{breadcrumb, ends, fabrics_behind, given_back, rolled_back, session_behind, stays, undone}
+use Rattle.mt_machine.specs.Rollback.{breadcrumb, ends, fabrics_behind, given_back, rolled_back, session_behind, undone}
 use Rattle.mt_opcreds.specs.Laws.{are_credentials_if}
 use Rattle.mt_machine.specs.State.{IsValid, are_networks, follows, has_entries_up_to, has_one_row, have_one_id, is_added, is_among, is_network, is_owned, is_root_of, is_row, is_row_at, is_row_of, is_session, is_unscoped, is_updated, is_used, keeps_facts, saves_identity, saves_rightly, stands_once, stands_rightly}
 use Rattle.mt_machine.proofs.Writes.{all-filter, all-kept, all-weaker, after_step, impossible, members_are_positive, nobodys, place-same}

@@ -4,6 +4,7 @@ use Rattle.std.specs.List.{list_any}
 use Rattle.std.proofs.lemmas.List.{map-append}
 use Rattle.mt_fabrics.specs.Table.{has_index}
 use Rattle.mt_tlv.specs.Tree.{Elements}
+use Rattle.mt_model.specs.Optional.{is_that}
 use Rattle.mt_model.specs.rows.Order.{fabrics_ascend, in_order}
 use Rattle.mt_model.specs.rows.Sight.{is_acl, is_nocs, seen_by, stands_at, version_in}
 use Rattle.mt_model.specs.declared.tables.network.Network.{Network}
@@ -17,7 +18,7 @@ use Rattle.mt_apps.specs.Parts.{Parts}
 use Rattle.mt_meta.specs.Stored.{is_stored}
 use Rattle.mt_model.specs.Trees.{untagged}
 use Rattle.mt_model.specs.declared.node.state.NodeState.{NodeState}
-use Rattle.mt_machine.specs.Isolation.{has_fabric, saved_for, veil, with_saved}
+use Rattle.mt_machine.specs.Isolation.{saved_for, veil, with_saved}
 use Rattle.mt_model.specs.tables.Known.{bare_armed, bare_credentials, bare_network, fabric_known_to}
 use Rattle.mt_model.specs.declared.tables.fabric.Credentials.{Credentials}
 use Rattle.mt_model.specs.declared.tables.fabric.Fabric.{Fabric}
@@ -29,7 +30,7 @@ use Rattle.mt_machine.specs.State.{IsValid, parts, rows_of}
 use Rattle.mt_machine.proofs.Rows.{apart-others, apart-own, passed}
 use Rattle.mt_machine.proofs.Entries as entries
 use Rattle.mt_machine.proofs.Entries.{acl_place, both_true, entries-others, entries-own, own_entries-apart}
-use Rattle.mt_machine.proofs.Fabrics.{known-length, known-members, known-nocs, known-rows, known_to, noc_place, rebuilt-known}
+use Rattle.mt_machine.proofs.Fabrics.{known-length, known-members, known-nocs, known-rows, noc_place, rebuilt-known}
 
 -- The parts of the veil.
 
@@ -38,7 +39,7 @@ networks-bare [] = refl
 networks-bare (network ∷ networks) = ap (λ (es : Elements). Rattle.mt_tlv.specs.Tree.more Rattle.mt_tlv.specs.declared.value.Tag.TheVariants.Anonymous (network_tree network) es) (networks-bare networks)
 
 abbrev known_parts : ℕ → NodeState → Parts
-known_parts fabric s = record { entries = entries.apart fabric s.entries; fabrics = map (known_to fabric) s.fabrics; roots = s.roots; networks = map bare_network s.networks }
+known_parts fabric s = record { entries = entries.apart fabric s.entries; fabrics = map (fabric_known_to fabric) s.fabrics; roots = s.roots; networks = map bare_network s.networks }
 
 parts-veil : (fabric : ℕ) (s : NodeState) → fabrics_ascend s.fabrics ≡ true → parts (veil fabric s) ≡ known_parts fabric s
 parts-veil fabric s up = λ i. record { entries = entries.apart fabric s.entries; fabrics = rebuilt-known fabric s.fabrics up i; roots = s.roots; networks = map bare_network s.networks }
@@ -74,10 +75,10 @@ module _ (fabric : ℕ) (s : NodeState) (up : fabrics_ascend s.fabrics ≡ true)
       (map (entry_row place) (entries.apart fabric s.entries)) _ (map (entry_row place) s.entries) _
       (λ h. subst (λ (p : Place). passed fabric test (map (entry_row p) (entries.apart fabric s.entries)) ≡ passed fabric test (map (entry_row p) s.entries)) (acl-is place h) (same_entries place.endpoint))
       (λ _. choose (passed fabric test) (is_nocs place)
-      (map (noc_row place) (map (known_to fabric) s.fabrics)) _ (map (noc_row place) s.fabrics) _
-      (λ h. subst (λ (p : Place). passed fabric test (map (noc_row p) (map (known_to fabric) s.fabrics)) ≡ passed fabric test (map (noc_row p) s.fabrics)) (nocs-is place h) (known-nocs place.endpoint fabric test 0 s.fabrics up))
+      (map (noc_row place) (map (fabric_known_to fabric) s.fabrics)) _ (map (noc_row place) s.fabrics) _
+      (λ h. subst (λ (p : Place). passed fabric test (map (noc_row p) (map (fabric_known_to fabric) s.fabrics)) ≡ passed fabric test (map (noc_row p) s.fabrics)) (nocs-is place h) (known-nocs place.endpoint fabric test 0 s.fabrics up))
       (λ _. choose (passed fabric test) (is_fabrics place)
-      (map (fabric_row place) (map (known_to fabric) s.fabrics)) (value_rows place (computed_value (known_parts fabric s) place)) (map (fabric_row place) s.fabrics) (value_rows place (computed_value (parts s) place))
+      (map (fabric_row place) (map (fabric_known_to fabric) s.fabrics)) (value_rows place (computed_value (known_parts fabric s) place)) (map (fabric_row place) s.fabrics) (value_rows place (computed_value (parts s) place))
       (λ _. ap (passed fabric test) (known-rows place fabric s.fabrics))
       (λ _. ap (λ (o : Option Rattle.mt_tlv.specs.declared.value.Value.Value). passed fabric test (value_rows place o)) (value-same fabric s place))))
 
@@ -110,11 +111,11 @@ rows-veil fabric s valid place =
     ∙ (λ i. lower i ++ (own i ++ higher i))
     ∙ sym (seen-ordered fabric (rows_of s place))
 
-pub plain-veil : (fabric : ℕ) (plain : Option ℕ) → has_fabric fabric (if has_fabric fabric plain then Some fabric else None) ≡ has_fabric fabric plain
+pub plain-veil : (fabric : ℕ) (plain : Option ℕ) → is_that fabric (if is_that fabric plain then Some fabric else None) ≡ is_that fabric plain
 plain-veil fabric None = refl
 plain-veil fabric (Some other) = by_test (other == fabric)
   where
-    by_test : (own : Bool) → has_fabric fabric (if own then Some fabric else None) ≡ own
+    by_test : (own : Bool) → is_that fabric (if own then Some fabric else None) ≡ own
     by_test true = grind arith
     by_test false = refl
 
@@ -123,7 +124,7 @@ members-veil fabric s up = ap (list_any (has_index fabric)) (rebuilt-known fabri
 
 -- What is known of fabrics, networks and the fail-safe is known on the veil.
 
-fabrics-known : (fabric : ℕ) (fs : List Fabric) → map (fabric_known_to fabric) (map (known_to fabric) fs) ≡ map (fabric_known_to fabric) fs
+fabrics-known : (fabric : ℕ) (fs : List Fabric) → map (fabric_known_to fabric) (map (fabric_known_to fabric) fs) ≡ map (fabric_known_to fabric) fs
 fabrics-known fabric [] = refl
 fabrics-known fabric (f ∷ fs) = elim (cases_Bool (f.index == fabric)) [
   | inl mine ↦ rw (mine, mine) (ap (λ (rest : List Fabric). f ∷ rest) (fabrics-known fabric fs))

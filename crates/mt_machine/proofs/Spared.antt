@@ -2,13 +2,15 @@
 use Rattle.std.proofs.Common.{◌≡◌, ◌≢◌, ℕ, ◌==◌, ◌&&◌, ◌||◌, ◌++◌, inl, inr, not, is_some, Bool, true, false, List, [], ◌∷◌, Option, Some, None, refl, sym, ap, ◌∙◌, subst, filter, map, arith, if◌then◌else◌}
 use Rattle.std.proofs.lemmas.Bool.{and_parts, cases_Bool, eqb-true, or_cases}
 use Rattle.std.specs.List.{list_all}
-use Rattle.mt_failsafe.specs.Notes.{is_that, was_added, was_updated}
+use Rattle.mt_failsafe.specs.Notes.{was_added, was_updated}
 use Rattle.mt_fabrics.specs.Table.{has_index}
 use Rattle.mt_tlv.specs.declared.value.Value.{Value}
 use Rattle.mt_tlv.specs.declared.value.Value.TheVariants as values
+use Rattle.mt_model.specs.Optional.{is_that}
 use Rattle.mt_model.specs.rows.Order.{are_ascending}
 use Rattle.mt_model.specs.rows.Seen.{own_entries}
 use Rattle.mt_model.specs.rows.Setting.{is_above, is_at, is_below, is_entry_above, is_entry_below, is_entry_of, with_entries, with_rows}
+use Rattle.mt_model.specs.tables.Leaving.{stays}
 use Rattle.mt_model.specs.texts.Config.{ascend_from}
 use Rattle.mt_model.specs.declared.node.action.NodeStep.TheVariants.{SetRow}
 use Rattle.mt_model.specs.declared.node.state.NodeSession.{NodeSession}
@@ -23,8 +25,8 @@ use Rattle.mt_model.specs.declared.tables.access.Auth.TheVariants.{Pase, Case, G
 use Rattle.mt_model.specs.declared.tables.fabric.Credentials.{Credentials}
 use Rattle.mt_model.specs.declared.tables.fabric.Fabric.{Fabric}
 use Rattle.mt_model.specs.declared.tables.network.Armed.{Armed}
-use Rattle.mt_machine.specs.Isolation.{has_fabric, is_live_for, own, owns, saved_for}
-use Rattle.mt_machine.specs.Rollback.{breadcrumb, ends, given_back, rolled_back, session_behind, stays, undone}
+use Rattle.mt_machine.specs.Isolation.{is_live_for, own, owns, saved_for}
+use Rattle.mt_machine.specs.Rollback.{breadcrumb, ends, given_back, rolled_back, session_behind, undone}
 use Rattle.mt_machine.specs.State.{IsValid, follows, is_added, is_updated, keeps_facts, plain_follows}
 use Rattle.mt_machine.proofs.Order.{from_zero}
 use Rattle.mt_machine.proofs.Rolled.{given-index}
@@ -80,7 +82,7 @@ module _ (fabric : ℕ) (s : NodeState) (valid : IsValid s) (some : fabric ≢ 0
       given_mine armed.updated armed.saved_credentials not_updated (filter (λ (f : Fabric). stays armed.added f.index) fabrics)
       ∙ both-filters (has_index fabric) (λ (f : Fabric). stays armed.added f.index) (λ f mine. stays-other armed.added fabric f.index not_added mine) fabrics
 
-  none_saved : (updated : Option ℕ) → is_that fabric updated ≡ false → has_fabric fabric updated ≡ false
+  none_saved : (updated : Option ℕ) → is_that fabric updated ≡ false → is_that fabric updated ≡ false
   none_saved None other = refl
   none_saved (Some u) other = other
 
@@ -136,7 +138,7 @@ module _ (fabric : ℕ) (s : NodeState) (valid : IsValid s) (some : fabric ≢ 0
         ]
       ]
 
-  plain_same : (plain : Option ℕ) → plain_follows (Some armed) plain ≡ true → false ≡ has_fabric fabric plain
+  plain_same : (plain : Option ℕ) → plain_follows (Some armed) plain ≡ true → false ≡ is_that fabric plain
   plain_same None follow = refl
   plain_same (Some other) follow = elim (cases_Bool (other == fabric)) [
     | inl mine ↦ elim (or_cases (other == 0) (was_added other (Some armed)) follow) [

@@ -2,18 +2,20 @@
 use Rattle.std.proofs.Common.{◌≡◌, ℕ, ◌==◌, ◌&&◌, ◌||◌, ◌++◌, inl, inr, not, is_none, is_some, Bool, true, false, List, [], ◌∷◌, Option, Some, None, Result, Ok, Err, option_map, refl, sym, ap, ◌∙◌, subst, filter, arith, if◌then◌else◌}
 use Rattle.std.proofs.lemmas.Bool.{and_from, and_parts, cases_Bool, eqb-true, false_from_ne_true}
 use Rattle.std.specs.List.{list_all}
-use Rattle.mt_failsafe.specs.Notes.{is_that, was_added, was_updated}
+use Rattle.mt_failsafe.specs.Notes.{was_added, was_updated}
 use Rattle.mt_tlv.specs.declared.value.Value.{Value}
 use Rattle.mt_commission.specs.Laws as commission
 use Rattle.mt_fabrics.specs.Table.{IsLeastUnused, IsTable, is_used, least_unused, removed}
 use Rattle.mt_failsafe.specs.Calls.{is_armed_by, is_context}
 use Rattle.mt_failsafe.specs.Notes as notes
+use Rattle.mt_model.specs.Optional.{is_that}
 use Rattle.mt_model.specs.rows.Order.{are_ascending}
 use Rattle.mt_model.specs.rows.Setting.{is_above, is_at, is_below, is_entry_above, is_entry_below, is_entry_of, with_entries, with_rows}
 use Rattle.mt_model.specs.tables.Known.{Known, bare_armed, known_to}
 use Rattle.mt_meta.specs.Finding.{find_of}
 use Rattle.mt_meta.specs.Stored.{is_stored}
 use Rattle.mt_meta.specs.declared.meta.Meta.{Meta}
+use Rattle.mt_model.specs.tables.Leaving.{stays}
 use Rattle.mt_model.specs.declared.messages.status.Status.{Status}
 use Rattle.mt_model.specs.texts.Config.{are_credentials, ascend_from, is_fabric, is_label}
 use Rattle.mt_model.specs.declared.node.action.NodeStep.{NodeStep}
@@ -31,7 +33,7 @@ use Rattle.mt_opcreds.specs.Laws.{is_well_formed}
 use Rattle.mt_opcreds.specs.Moves.{IsMove, expires, expires_and_leaves, joins, leaves, names, nothing, renews, requests, trusts}
 use Rattle.mt_machine.specs.Effects.{after, after_all, is_pase, is_sound_step, joined, joined_as, may_join, may_leave, without_fabric}
 use Rattle.mt_machine.specs.Isolation.{own}
-use Rattle.mt_machine.specs.Rollback.{rolled_back, stays}
+use Rattle.mt_machine.specs.Rollback.{rolled_back}
 use Rattle.mt_machine.specs.State.{IsValid, is_added, is_among, is_member, is_updated, keeps_facts}
 use Rattle.mt_machine.specs.Taking.{may_take}
 use Rattle.mt_machine.specs.Touching.{StaysThere, may_touch}

@@ -4,8 +4,10 @@ use Rattle.std.specs.Option.{option_map}
 use Rattle.std.proofs.lemmas.Bool.{cases_Bool, eqb-true}
 use Rattle.mt_fabrics.specs.Table.{has_index}
 use Rattle.mt_tlv.specs.declared.value.Value.TheVariants as values
+use Rattle.mt_model.specs.Optional.{is_that}
 use Rattle.mt_model.specs.rows.Seen.{own_entries}
 use Rattle.mt_model.specs.tables.Known.{bare_armed}
+use Rattle.mt_model.specs.tables.Leaving.{stays}
 use Rattle.mt_model.specs.declared.node.action.Action.TheVariants.{Expire}
 use Rattle.mt_model.specs.declared.node.action.NodeStep.TheVariants.{SetRow}
 use Rattle.mt_model.specs.declared.node.action.NodeStep.TheVariants as steps
@@ -18,9 +20,9 @@ use Rattle.mt_model.specs.declared.tables.fabric.Credentials.{Credentials}
 use Rattle.mt_model.specs.declared.tables.fabric.Fabric.{Fabric}
 use Rattle.mt_model.specs.declared.tables.network.Armed.{Armed}
 use Rattle.mt_machine.specs.Given.{Given}
-use Rattle.mt_machine.specs.Isolation.{Own, has_fabric, is_deadline_in, is_live_for, own, own_of_whole, owns, saved_for, veil, veil_of_whole, with_saved}
+use Rattle.mt_machine.specs.Isolation.{Own, is_deadline_in, is_live_for, own, own_of_whole, owns, saved_for, veil, veil_of_whole, with_saved}
 use Rattle.mt_machine.specs.Lines.{next_tick}
-use Rattle.mt_machine.specs.Rollback.{breadcrumb, deadlines_left, ends, given_back, is_due, rolled_back, session_behind, stays, undone}
+use Rattle.mt_machine.specs.Rollback.{breadcrumb, deadlines_left, ends, given_back, is_due, rolled_back, session_behind, undone}
 use Rattle.mt_machine.specs.State.{IsValid, State}
 use Rattle.mt_machine.specs.Step.{after_action, after_steps, at_time}
 use Rattle.mt_machine.proofs.Again.{own-again}
@@ -95,9 +97,9 @@ module _ (fabric : ℕ) where
   -- What is given back to it is its own, and nothing is given back to it where another was updated.
 
   abbrev its_saved : Armed → Option Credentials
-  its_saved armed = if has_fabric fabric armed.updated then armed.saved_credentials else None
+  its_saved armed = if is_that fabric armed.updated then armed.saved_credentials else None
 
-  given_alike : (updated : Option ℕ) (saved : Option Credentials) (f : Fabric) → (f.index == fabric) ≡ true → given_back updated (if has_fabric fabric updated then saved else None) f ≡ given_back updated saved f
+  given_alike : (updated : Option ℕ) (saved : Option Credentials) (f : Fabric) → (f.index == fabric) ≡ true → given_back updated (if is_that fabric updated then saved else None) f ≡ given_back updated saved f
   given_alike None saved f mine = refl
   given_alike (Some u) None f mine = elim (cases_Bool (u == fabric)) [ inl its ↦ rw its refl | inr other ↦ rw other refl ]
   given_alike (Some u) (Some c) f mine = elim (cases_Bool (u == fabric)) [
@@ -108,7 +110,7 @@ module _ (fabric : ℕ) where
   ]
 
   all_given_alike : (updated : Option ℕ) (saved : Option Credentials) (keep : Fabric → Bool) (fs : List Fabric)
-      → map (given_back updated (if has_fabric fabric updated then saved else None)) (filter keep (filter (has_index fabric) fs)) ≡ map (given_back updated saved) (filter keep (filter (has_index fabric) fs))
+      → map (given_back updated (if is_that fabric updated then saved else None)) (filter keep (filter (has_index fabric) fs)) ≡ map (given_back updated saved) (filter keep (filter (has_index fabric) fs))
   all_given_alike updated saved keep [] = refl
   all_given_alike updated saved keep (f ∷ fs) =
       let rest = all_given_alike updated saved keep fs in

@@ -2,14 +2,16 @@
 use Rattle.std.proofs.Common.{◌≡◌, ℕ, ◌==◌, ◌&&◌, ◌||◌, ◌++◌, inl, inr, not, nat_lt, is_none, is_some, Bool, true, false, List, [], ◌∷◌, Option, Some, None, option_map, refl, sym, ap, ◌∙◌, subst, filter, map, arith, if◌then◌else◌}
 use Rattle.std.proofs.lemmas.Bool.{and_parts, cases_Bool, eqb-false, eqb-true, or_cases, or_parts}
 use Rattle.std.specs.List.{list_all}
-use Rattle.mt_failsafe.specs.Notes.{is_that, was_added, was_updated}
+use Rattle.mt_failsafe.specs.Notes.{was_added, was_updated}
 use Rattle.mt_tlv.specs.declared.value.Value.{Value}
 use Rattle.mt_fabrics.specs.Table.{added, changed, changed_at, credentials_at, has_index, has_other_index, label_refusal, least_unused, placed, removed, with_credentials, with_index, with_label}
 use Rattle.mt_failsafe.specs.Calls.{is_armed_by, is_context, renewed}
 use Rattle.mt_failsafe.specs.Notes as notes
+use Rattle.mt_model.specs.Optional.{is_that}
 use Rattle.mt_model.specs.rows.Order.{are_ascending}
 use Rattle.mt_model.specs.rows.Seen.{own_entries}
 use Rattle.mt_model.specs.rows.Setting.{is_above, is_at, is_below, is_entry_above, is_entry_below, is_entry_of, with_entries, with_rows}
+use Rattle.mt_model.specs.tables.Leaving.{stays}
 use Rattle.mt_model.specs.texts.Config.{ascend_from, has_identity}
 use Rattle.mt_model.specs.declared.node.action.NodeStep.{NodeStep}
 use Rattle.mt_model.specs.declared.node.action.NodeStep.TheVariants.{SetRow, SetEntries, PutNetwork, RemoveNetwork, ConnectNetwork, MoveNetwork, Arm, Renew, Expire, Complete, AddRoot, Csr, AddFabric, UpdateFabric, RemoveFabric, Label, Emit}
@@ -28,8 +30,8 @@ use Rattle.mt_model.specs.declared.tables.fabric.Fabric.{Fabric}
 use Rattle.mt_model.specs.declared.tables.network.Armed.{Armed}
 use Rattle.mt_model.specs.declared.tables.network.Network.{Network}
 use Rattle.mt_machine.specs.Effects.{after, armed_behind, completed, is_on, is_pase, is_plain, is_sound_step, joined, joined_as, labelled_in, may_join, may_leave, may_update, plain_joined, plain_without, session_completed, session_joined, session_without, standing_completed, standing_joined, trusting, updated_in, with_request, with_saved_credentials, without_fabric}
-use Rattle.mt_machine.specs.Isolation.{has_fabric, is_live_for, own, owns, saved_for}
-use Rattle.mt_machine.specs.Rollback.{rolled_back, stays}
+use Rattle.mt_machine.specs.Isolation.{is_live_for, own, owns, saved_for}
+use Rattle.mt_machine.specs.Rollback.{rolled_back}
 use Rattle.mt_machine.specs.State.{IsValid, follows, is_added, is_updated, keeps_facts, plain_follows}
 use Rattle.mt_machine.specs.Touching.{may_touch}
 use Rattle.mt_machine.proofs.Spared.{both-filters, spared, stays-other}
@@ -69,7 +71,7 @@ none-that : (fabric : ℕ) (o : Option ℕ) → is_none o ≡ true → is_that f
 none-that fabric None none = refl
 none-that fabric (Some n) none = impossible none
 
-none-has : (fabric : ℕ) (o : Option ℕ) → is_none o ≡ true → has_fabric fabric o ≡ false
+none-has : (fabric : ℕ) (o : Option ℕ) → is_none o ≡ true → is_that fabric o ≡ false
 none-has fabric None none = refl
 none-has fabric (Some n) none = impossible none
 
@@ -134,7 +136,7 @@ module _ (fabric context : ℕ) (apart : (context == fabric) ≡ false) where
       (λ session good not_live. completed-none fabric context session.auth session.standing not_live)
       sessions (all-any sessions)
 
-  without-plain : (plain : Option ℕ) → has_fabric fabric (plain_without context plain) ≡ has_fabric fabric plain
+  without-plain : (plain : Option ℕ) → is_that fabric (plain_without context plain) ≡ is_that fabric plain
   without-plain None = refl
   without-plain (Some other) = elim (cases_Bool (other == context)) [
     | inl over ↦ rw over (sym (same-apart other context fabric over apart))
@@ -142,7 +144,7 @@ module _ (fabric context : ℕ) (apart : (context == fabric) ≡ false) where
   ]
 
   -- what is saved is the context's
-  completed-saved : (fabrics : List Fabric) (armed : Armed) (added updated : Option ℕ) → armed.context ≡ context → is_updated fabrics armed added updated ≡ true → None ≡ (if has_fabric fabric updated then armed.saved_credentials else None)
+  completed-saved : (fabrics : List Fabric) (armed : Armed) (added updated : Option ℕ) → armed.context ≡ context → is_updated fabrics armed added updated ≡ true → None ≡ (if is_that fabric updated then armed.saved_credentials else None)
   completed-saved fabrics armed added None is facts = refl
   completed-saved fabrics armed (Some a) (Some u) is facts = impossible facts
   completed-saved fabrics armed None (Some u) is facts =
@@ -194,7 +196,7 @@ module _ (fabric index : ℕ) (apart : (index == fabric) ≡ false) where
   joined-none asks fits Case Ended not_live = refl
   joined-none asks fits Group Ended not_live = refl
 
-  pub index-apart : (plain : Option ℕ) → has_fabric fabric (option_map (λ (other : ℕ). index) plain) ≡ false
+  pub index-apart : (plain : Option ℕ) → is_that fabric (option_map (λ (other : ℕ). index) plain) ≡ false
   index-apart None = refl
   index-apart (Some other) = apart
 
@@ -228,14 +230,14 @@ module _ (fabric index : ℕ) (some : (fabric == 0) ≡ false) (apart : (index =
         (λ session follow live. ap (λ (standing : Standing). record session { standing = standing }) (joined-stays (is_on asker session) (has_identity session.root_key session.fabric_id joins) session.auth session.standing follow live))
         (λ session follow not_live. joined-none fabric index apart (is_on asker session) (has_identity session.root_key session.fabric_id joins) session.auth session.standing not_live)
 
-    plain-nobodys : (plain : Option ℕ) → plain_follows armed plain ≡ true → has_fabric fabric plain ≡ false
+    plain-nobodys : (plain : Option ℕ) → plain_follows armed plain ≡ true → is_that fabric plain ≡ false
     plain-nobodys None follow = refl
     plain-nobodys (Some other) follow = elim (cases_Bool (other == fabric)) [
       | inl mine ↦ impossible (nobodys-apart other (nobodys other follow) mine)
       | inr not_mine ↦ not_mine
     ]
 
-    joined-plain : (asker : Option Actor) (plain : Option ℕ) → plain_follows armed plain ≡ true → has_fabric fabric (plain_joined asker index plain) ≡ has_fabric fabric plain
+    joined-plain : (asker : Option Actor) (plain : Option ℕ) → plain_follows armed plain ≡ true → is_that fabric (plain_joined asker index plain) ≡ is_that fabric plain
     joined-plain asker plain follow = elim (cases_Bool (is_plain asker)) [
       | inl its ↦ rw its (index-apart fabric index apart plain ∙ sym (plain-nobodys plain follow))
       | inr not_its ↦ rw not_its refl
@@ -300,7 +302,7 @@ updated-own fabric index given s apart = elim (cases_Bool (may_update index give
         fabrics = fabrics i;
         saved = saved i;
         sessions = filter (λ (session : NodeSession). is_live_for fabric session.standing) s.sessions;
-        is_plain = has_fabric fabric s.plain;
+        is_plain = is_that fabric s.plain;
       })
   | inr not_now ↦ rw not_now refl
 ]

@@ -14,7 +14,7 @@ use Rattle.mt_model.specs.declared.texts.recording.Event.{Event}
 use Rattle.mt_model.specs.declared.texts.recording.Event.TheVariants as events
 use Rattle.mt_model.specs.declared.messages.status.Status.TheVariants.{Busy, Timeout}
 use Rattle.mt_machine.specs.Isolation.{Own, own, own_of_whole, veil, veil_of_whole}
-use Rattle.mt_machine.specs.Lines.{action_of, deadline_for, deadline_of, deadlines_after, deadlines_of_those_left, fabric_of, is_refused, is_tick, is_timed, line_reply, next, next_for, sent, sent_as, sent_for, sent_to}
+use Rattle.mt_machine.specs.Lines.{action_of, behind_action, deadline_for, deadline_of, deadlines_after, deadlines_of_those_left, fabric_of, is_refused, is_tick, is_timed, line_reply, next, next_for, sent, sent_as, sent_for, sent_to}
 use Rattle.mt_machine.specs.Given.{Given}
 use Rattle.mt_machine.specs.Leaving.{has_left}
 use Rattle.mt_machine.specs.Touching.{StaysThere}
@@ -147,6 +147,21 @@ module _ (given : Given) where
               (deadlines_after (asker veiled.node actor) veiled.deadlines ms asked) (deadlines_after (asker s.node actor) s.deadlines ms asked) (deadlines_left asked ms) i;
         }
 
+    pub action_leaves_same : AlikeOn s.node → (asked : Result Request ImFault) (deadline : Option ℕ) (ms : ℕ) → own_of_whole asking.fabric (behind_action given veiled (action_of actor deadline asked) ms) ≡ own_of_whole asking.fabric (behind_action given s (action_of actor deadline asked) ms)
+    action_leaves_same alike asked deadline ms =
+        let nodes = node_left alike asked deadline ms in
+        λ i. record {
+          node = nodes i;
+          deadlines = left_alike asking.fabric veiled.node s.node (after_action given veiled.node (action_of actor deadline asked) ms) (after_action given s.node (action_of actor deadline asked) ms)
+              (own-again asking.fabric s.node valid.fabrics_rise) nodes veiled.deadlines s.deadlines (own_twice asking.fabric s.deadlines) i;
+        }
+
+  pub time_keeps : (fabric : ℕ) (s : State) (ms : ℕ) → own_of_whole fabric (behind_action given s actions.Nothing ms) ≡ own_of_whole fabric s
+  time_keeps fabric s ms = λ i. record {
+    node = own fabric s.node;
+    deadlines = left_of_kept fabric s.node (after_action given s.node actions.Nothing ms) refl s.deadlines i;
+  }
+
   -- Where nobody is taken as asking.
 
   sends_none : (s t : State) (actor : Actor) (ms : ℕ) (asked : Result Request ImFault) → asker s.node actor ≡ None → asker t.node actor ≡ None → sent_for given s actor ms asked ≡ sent_for given t actor ms asked
@@ -232,6 +247,15 @@ module _ (given : Given) where
         → own fabric (after_action given s.node (action_of actor deadline asked) ms) ≡ own fabric s.node
     kept_node actor asking (Ok request) deadline ms is other there = kept actor asking request deadline ms is other there
     kept_node actor asking (Err fault) deadline ms is other there = refl
+
+    pub kept_behind : (actor asking : Actor) (asked : Result Request ImFault) (deadline : Option ℕ) (ms : ℕ) → asker s.node actor ≡ Some asking → fabric ≢ asking.fabric
+        → StaysThere fabric s.node (behind_action given s (action_of actor deadline asked) ms).node → own_of_whole fabric (behind_action given s (action_of actor deadline asked) ms) ≡ own_of_whole fabric s
+    kept_behind actor asking asked deadline ms is differ there =
+        let node = kept_node actor asking asked deadline ms is (not_equal fabric asking.fabric differ) there in
+        λ i. record {
+          node = node i;
+          deadlines = left_of_kept fabric s.node (after_action given s.node (action_of actor deadline asked) ms) node s.deadlines i;
+        }
 
     kept_whole : (actor asking : Actor) (ms : ℕ) (asked : Result Request ImFault) → asker s.node actor ≡ Some asking → (asking.fabric == fabric) ≡ false
         → StaysThere fabric s.node (next_for given s actor ms asked).node → own_of_whole fabric (next_for given s actor ms asked) ≡ own_of_whole fabric s

@@ -6,8 +6,10 @@ use Rattle.mt_commission.specs.NetworkCommissioning.{has_id}
 use Rattle.mt_fabrics.specs.Table.{add_refusal, added, credentials_at, is_used, label_refusal, labelled, least_unused, removed, update_refusal, updated}
 use Rattle.mt_failsafe.specs.Calls.{armed_by, is_armed_by, is_context, renewed}
 use Rattle.mt_failsafe.specs.Notes as notes
+use Rattle.mt_model.specs.Optional.{is_that}
 use Rattle.mt_model.specs.rows.Setting.{is_entry_of, with_entries, with_rows}
 use Rattle.mt_model.specs.rows.Stored.{is_stored_place}
+use Rattle.mt_model.specs.tables.Leaving.{stays}
 use Rattle.mt_model.specs.texts.Config.{are_credentials, has_identity, has_up_to, is_fabric, is_label}
 use Rattle.mt_model.specs.texts.Config as config
 use Rattle.mt_model.specs.declared.tables.access.AclEntry.{AclEntry}
@@ -25,8 +27,8 @@ use Rattle.mt_model.specs.declared.node.state.NodeSession.{NodeSession}
 use Rattle.mt_model.specs.declared.node.state.NodeState.{NodeState}
 use Rattle.mt_model.specs.declared.node.state.Standing.{Standing}
 use Rattle.mt_model.specs.declared.node.state.Standing.TheVariants.{Waits, Live, Ended}
-use Rattle.mt_machine.specs.Isolation.{has_fabric, is_live_for}
-use Rattle.mt_machine.specs.Rollback.{rollback, roots_behind, stays}
+use Rattle.mt_machine.specs.Isolation.{is_live_for}
+use Rattle.mt_machine.specs.Rollback.{rollback, roots_behind}
 use Rattle.mt_machine.specs.State as states
 
 -- Networks.
@@ -103,7 +105,7 @@ is_pase (Some asker) = config.is_pase asker.auth
 -- whether it was asked on this session
 abbrev pub is_on : Option Actor → NodeSession → Bool
 is_on None session = false
-is_on (Some asker) session = has_fabric session.session asker.session
+is_on (Some asker) session = is_that session.session asker.session
 
 -- The session of PASE on which it was asked has the fabric from now on; one that waited for the fabric may be used.
 abbrev pub standing_joined : Bool → ℕ → Bool → Auth → Standing → Standing

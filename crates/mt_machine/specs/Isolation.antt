@@ -3,6 +3,7 @@ use Rattle.std.specs.Prelude.{ℕ, ◌==◌, ◌&&◌, not, Bool, false, List, [
 use Rattle.std.specs.List.{find}
 use Rattle.std.specs.Option.{option_map}
 use Rattle.mt_fabrics.specs.Table.{has_index}
+use Rattle.mt_model.specs.Optional.{is_that}
 use Rattle.mt_model.specs.rows.Seen.{own_entries}
 use Rattle.mt_model.specs.rows.Sight.{seen_by}
 use Rattle.mt_model.specs.tables.Known.{bare_armed, bare_network}
@@ -29,10 +30,6 @@ use Rattle.mt_machine.specs.State.{State}
 abbrev pub owns : ℕ → Row → Bool
 owns fabric row = row.fabric == fabric && not (row.fabric == 0)
 
-abbrev pub has_fabric : ℕ → Option ℕ → Bool
-has_fabric fabric None = false
-has_fabric fabric (Some other) = other == fabric
-
 abbrev pub is_live_for : ℕ → Standing → Bool
 is_live_for fabric Waits = false
 is_live_for fabric (Live other) = other == fabric
@@ -41,7 +38,7 @@ is_live_for fabric Ended = false
 -- the credentials that the fabric had before it was updated under the fail-safe
 abbrev pub saved_for : ℕ → Option Armed → Option Credentials
 saved_for fabric None = None
-saved_for fabric (Some armed) = if has_fabric fabric armed.updated then armed.saved_credentials else None
+saved_for fabric (Some armed) = if is_that fabric armed.updated then armed.saved_credentials else None
 
 -- Its items of fabric-scoped lists, its access control entries, its credentials, those that an expiry gives back to it,
 -- its live sessions, and whether the plain PASE session is its own.
@@ -60,7 +57,7 @@ own fabric s = record {
   fabrics = filter (has_index fabric) s.fabrics;
   saved = saved_for fabric s.armed;
   sessions = filter (λ (session : NodeSession). is_live_for fabric session.standing) s.sessions;
-  is_plain = has_fabric fabric s.plain;
+  is_plain = is_that fabric s.plain;
 }
 
 -- What is public to a fabric.

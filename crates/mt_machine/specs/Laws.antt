@@ -1,7 +1,8 @@
 -- Laws of the written machine.
-use Rattle.std.specs.Prelude.{◌≡◌, ◌≢◌, ℕ, List, [], ◌∷◌, None, Option, Some, false, true, if◌then◌else◌}
+use Rattle.std.specs.Prelude.{◌≡◌, ◌≢◌, ℕ, List, [], ◌∷◌, None, Option, Result, Some, false, map, true, if◌then◌else◌}
 use Rattle.std.specs.List.{list_all}
 use Rattle.mt_failsafe.specs.Notes.{was_added, was_updated}
+use Rattle.mt_model.specs.Optional.{is_that}
 use Rattle.mt_model.specs.texts.Config.{are_entries, are_fabrics}
 use Rattle.mt_model.specs.rows.Seen.{seen_as}
 use Rattle.mt_model.specs.declared.tables.access.AclEntry.{AclEntry}
@@ -22,18 +23,21 @@ use Rattle.mt_machine.specs.Effects.{after, after_all, is_setting_step, is_sound
 use Rattle.mt_machine.specs.Taking.{may_take, may_take_all}
 use Rattle.mt_machine.specs.Touching.{StaysThere, is_its_step, may_touch}
 use Rattle.mt_machine.specs.Given.{Given}
-use Rattle.mt_machine.specs.Isolation.{has_fabric, own, own_of_whole, public_view, veil, veil_of_whole}
+use Rattle.mt_machine.specs.Isolation.{own, own_of_whole, public_view, veil, veil_of_whole}
 use Rattle.mt_model.specs.declared.node.action.NodeStep.TheVariants as steps
 use Rattle.mt_machine.specs.Leaving.{has_left}
 use Rattle.mt_model.specs.declared.texts.recording.Event.TheVariants.{Tick}
-use Rattle.mt_machine.specs.Lines.{fabric_of, is_tick, next, sent}
+use Rattle.mt_machine.specs.Lines.{action_of, behind_action, fabric_of, is_tick, next, sent}
 use Rattle.mt_machine.specs.Observation.{observation}
 use Rattle.mt_machine.specs.Opened.{opened_with}
 use Rattle.mt_machine.specs.Rollback.{added_in, deadlines_left, is_due, rollback}
-use Rattle.mt_model.specs.declared.node.action.Action.TheVariants.{Expire}
+use Rattle.mt_model.specs.declared.node.action.Action.TheVariants.{Expire, Nothing}
+use Rattle.mt_im.specs.declared.fault.ImFault.{ImFault}
+use Rattle.mt_model.specs.declared.messages.message.Request.{Request}
+use Rattle.mt_model.specs.declared.node.state.NodeSession.{NodeSession}
 use Rattle.mt_machine.specs.State.{IsValid, State, rows_of}
 use Rattle.mt_opcreds.specs.Laws.{KeepsRules}
-use Rattle.mt_machine.specs.Step.{after_action, after_steps, aside_between, aside_of, asker_of, at_time, gone_between, steps_of}
+use Rattle.mt_machine.specs.Step.{after_action, after_steps, asker, aside_between, aside_of, asker_of, at_time, gone_between, steps_of}
 
 -- What a fabric observes of a state is what it observes of the veil, which is made of its own part and of what is
 -- public to it.
@@ -77,6 +81,28 @@ LeavesItsOwnByItsView = (given : Given) (s t : State) (e : Event) → KeepsRules
 abbrev pub LeavesTheOwnOnTheVeil : Type 0
 LeavesTheOwnOnTheVeil = (given : Given) (s : State) (e : Event) → KeepsRules given.judged → IsValid s.node
     → own_of_whole (fabric_of s.node e) (next given (veil_of_whole (fabric_of s.node e) s) e) ≡ own_of_whole (fabric_of s.node e) (next given s e)
+
+-- What an actor asks leaves on the veil of its fabric the same own part as on the state, where it is taken as the same one on both.
+abbrev pub ActionsLeaveTheOwnOnTheVeil : Type 0
+ActionsLeaveTheOwnOnTheVeil = (given : Given) (s : State) (actor asking : Actor) (asked : Result Request ImFault) (deadline : Option ℕ) (ms : ℕ) → KeepsRules given.judged → IsValid s.node
+    → asker s.node actor ≡ Some asking → asker (veil asking.fabric s.node) actor ≡ Some asking
+    → own_of_whole asking.fabric (behind_action given (veil_of_whole asking.fabric s) (action_of actor deadline asked) ms) ≡ own_of_whole asking.fabric (behind_action given s (action_of actor deadline asked) ms)
+
+-- It changes nothing that is the own of another fabric, unless that enters the table or leaves it.
+abbrev pub ActionsKeepTheOwn : Type 0
+ActionsKeepTheOwn = (given : Given) (fabric : ℕ) (s : State) (actor asking : Actor) (asked : Result Request ImFault) (deadline : Option ℕ) (ms : ℕ) → KeepsRules given.judged → IsValid s.node
+    → asker s.node actor ≡ Some asking → fabric ≢ asking.fabric
+    → StaysThere fabric s.node (behind_action given s (action_of actor deadline asked) ms).node
+    → own_of_whole fabric (behind_action given s (action_of actor deadline asked) ms) ≡ own_of_whole fabric s
+
+-- Where time alone passes every own part stays.
+abbrev pub TimeKeepsTheOwn : Type 0
+TimeKeepsTheOwn = (given : Given) (fabric : ℕ) (s : State) (ms : ℕ) → own_of_whole fabric (behind_action given s Nothing ms) ≡ own_of_whole fabric s
+
+-- No action takes a session from its place or gives it another id.
+abbrev pub SessionsKeepTheirIds : Type 0
+SessionsKeepTheirIds = (given : Given) (s : NodeState) (action : Action) (now : ℕ)
+    → map (λ (session : NodeSession). session.session) (after_action given s action now).sessions ≡ map (λ (session : NodeSession). session.session) s.sessions
 
 -- An event changes nothing that is the own of another fabric, unless that enters the table or leaves it. (A time step is nobody's event:
 -- the next laws say what it changes.)
@@ -171,11 +197,11 @@ RemovalsSeeTheVeil = (fabric : ℕ) (asker : Option Actor) (index : ℕ) (s : No
 -- that takes none away.
 abbrev pub LeftIsGone : Type 0
 LeftIsGone = (fabric : ℕ) (asker : Option Actor) (step : NodeStep) (s : NodeState)
-    → has_left s (after asker step s) fabric ≡ has_fabric fabric (gone_between s.fabrics (after asker step s).fabrics)
+    → has_left s (after asker step s) fabric ≡ is_that fabric (gone_between s.fabrics (after asker step s).fabrics)
 
 abbrev pub LeftIsGoneBehindAnExpiry : Type 0
 LeftIsGoneBehindAnExpiry = (fabric : ℕ) (asker : Option Actor) (index : ℕ) (s : NodeState) → added_in s.armed ≡ None
-    → has_left s (after_all asker (steps.Expire ∷ RemoveFabric index ∷ []) s) fabric ≡ has_fabric fabric (gone_between s.fabrics (after_all asker (steps.Expire ∷ RemoveFabric index ∷ []) s).fabrics)
+    → has_left s (after_all asker (steps.Expire ∷ RemoveFabric index ∷ []) s) fabric ≡ is_that fabric (gone_between s.fabrics (after_all asker (steps.Expire ∷ RemoveFabric index ∷ []) s).fabrics)
 
 -- An action that makes no step sets the time, and nothing else: no version moves, and no change is counted.
 abbrev pub SetsTheTime : Type 0
@@ -201,7 +227,7 @@ EndsNothing = (session : Option ℕ) (asker : Option Actor) (steps : List NodeSt
 -- By an action at most one fabric leaves the table, which is the one that is told as gone.
 abbrev pub OneLeaves : Type 0
 OneLeaves = (given : Given) (s : NodeState) (action : Action) (now fabric : ℕ) → KeepsRules given.judged → IsValid s
-    → has_left s (after_action given s action now) fabric ≡ has_fabric fabric (aside_of given s action now).gone
+    → has_left s (after_action given s action now) fabric ≡ is_that fabric (aside_of given s action now).gone
 
 -- The rows of each place stand in the order in which a fabric sees them.
 abbrev pub StandsInOrder : Type 0

@@ -151,6 +151,13 @@ next_for given s actor ms asked = record {
   deadlines = deadlines_of_those_left s.node (after_action given s.node (action_of actor (deadline_for s (asker s.node actor)) asked) ms) (deadlines_after (asker s.node actor) s.deadlines ms asked);
 }
 
+-- The state behind an action that no line of a plain actor makes. Nobody's deadline goes but those of a fabric that leaves.
+abbrev pub behind_action : Given → State → Action → ℕ → State
+behind_action given s action ms = record {
+  node = after_action given s.node action ms;
+  deadlines = deadlines_of_those_left s.node (after_action given s.node action ms) s.deadlines;
+}
+
 -- A time step lets the fail-safe expire where it is time: then the deadlines of the fabric that goes, go with it.
 abbrev pub next_tick : Given → State → ℕ → State
 next_tick given s ms = record {

@@ -1,9 +1,10 @@
 -- What an expiry of the fail-safe takes back (Matter Core Specification, chapter 11, General Commissioning Cluster): it filters the state
 -- as it stands then, and is no copy of an earlier one. All that it does not name stays.
-use Rattle.std.specs.Prelude.{ℕ, ◌==◌, ◌&&◌, ◌||◌, nat_le, not, is_some, Bool, true, false, List, [], ◌∷◌, Option, Some, None, filter, map, if◌then◌else◌}
+use Rattle.std.specs.Prelude.{ℕ, ◌==◌, ◌&&◌, ◌||◌, nat_le, is_some, Bool, true, false, List, [], ◌∷◌, Option, Some, None, filter, map, if◌then◌else◌}
 use Rattle.std.specs.List.{list_any}
 use Rattle.mt_tlv.specs.declared.value.Value.TheVariants as values
 use Rattle.mt_model.specs.rows.Setting.{with_rows}
+use Rattle.mt_model.specs.tables.Leaving.{stays}
 use Rattle.mt_model.specs.declared.node.action.PlainDeadline.{PlainDeadline}
 use Rattle.mt_model.specs.declared.node.state.NodeSession.{NodeSession}
 use Rattle.mt_model.specs.declared.node.state.NodeState.{NodeState}
@@ -18,14 +19,6 @@ use Rattle.mt_model.specs.declared.tables.fabric.Credentials.{Credentials}
 use Rattle.mt_model.specs.declared.tables.fabric.Fabric.{Fabric}
 use Rattle.mt_model.specs.declared.tables.network.Armed.{Armed}
 use Rattle.mt_machine.specs.State.{is_root_of}
-
--- whether this is the fabric that was added, which goes
-abbrev pub is_gone : Option ℕ → ℕ → Bool
-is_gone None fabric = false
-is_gone (Some added) fabric = added == fabric
-
-abbrev pub stays : Option ℕ → ℕ → Bool
-stays added fabric = not (is_gone added fabric)
 
 -- The fabric that was updated has the credentials that it had; its label and its vendor stay as they are now.
 abbrev pub given_back : Option ℕ → Option Credentials → Fabric → Fabric

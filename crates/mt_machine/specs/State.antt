@@ -3,7 +3,7 @@ use Rattle.std.specs.Prelude.{◌≡◌, ℕ, ◌-◌, ◌^◌, ◌==◌, ◌&&�
 use Rattle.std.specs.List.{list_all, list_any}
 use Rattle.mt_fabrics.specs.Table.{has_index_up_to}
 use Rattle.mt_fabrics.specs.Table as table
-use Rattle.mt_failsafe.specs.Facts.{is_saved}
+use Rattle.mt_failsafe.specs.Facts.{is_added_to, is_updated_in}
 use Rattle.mt_failsafe.specs.Notes.{was_added}
 use Rattle.mt_meta.specs.Finding.{find_of}
 use Rattle.mt_meta.specs.Forms.{has_form}
@@ -128,22 +128,18 @@ is_plain_of fabrics (Some fabric) = fabric == 0 || is_among fabrics fabric
 abbrev pub is_change_up_to : ℕ → ChangeNumber → Bool
 is_change_up_to changed change = nat_le change.number changed
 
--- The fail-safe's facts: not both of added and updated; what was added is the context and in the table; what was updated
--- is owner and context and in the table; where nothing was added the context is the owner; credentials are saved exactly
--- where there was an update, with the identity of that fabric.
+-- The fail-safe's facts, with this table: what was added is there, and credentials are saved with the identity of the fabric that
+-- was updated, which is there.
 
 abbrev pub is_added : List Fabric → Armed → Option ℕ → Bool
-is_added fabrics armed None = armed.context == armed.owner
-is_added fabrics armed (Some fabric) = armed.context == fabric && is_among fabrics fabric
+is_added fabrics armed added = is_added_to (is_among fabrics) armed added
 
 abbrev pub saves_identity : List Fabric → ℕ → Option Credentials → Bool
 saves_identity fabrics fabric None = false
 saves_identity fabrics fabric (Some saved) = list_any (λ (f : Fabric). f.index == fabric && has_identity saved.root_key saved.fabric_id f) fabrics
 
 abbrev pub is_updated : List Fabric → Armed → Option ℕ → Option ℕ → Bool
-is_updated fabrics armed added None = not (is_saved armed.saved_credentials)
-is_updated fabrics armed None (Some fabric) = armed.owner == fabric && (armed.context == fabric && saves_identity fabrics fabric armed.saved_credentials)
-is_updated fabrics armed (Some added) (Some fabric) = false
+is_updated fabrics armed added updated = is_updated_in (saves_identity fabrics) armed added updated
 
 abbrev pub keeps_facts : List Fabric → Option Armed → Bool
 keeps_facts fabrics None = true

@@ -3,6 +3,7 @@ use Rattle.std.specs.Prelude.{ℕ, ◌==◌, ◌&&◌, ◌++◌, not, nat_lt, Bo
 use Rattle.std.specs.List.{find, list_any}
 use Rattle.std.specs.Option.{option_and_then, option_map}
 use Rattle.mt_tlv.specs.declared.value.Value.{Value}
+use Rattle.mt_model.specs.messages.Blocks.{names_item}
 use Rattle.mt_model.specs.rows.Seen.{Observation}
 use Rattle.mt_model.specs.messages.Status.{code_of}
 use Rattle.mt_model.specs.declared.tables.access.Actor.{Actor}
@@ -13,8 +14,6 @@ use Rattle.mt_model.specs.declared.node.action.Action.TheVariants.{Ask, Expire, 
 use Rattle.mt_model.specs.declared.node.action.NodeStep.{NodeStep}
 use Rattle.mt_model.specs.declared.node.action.NodeStep.TheVariants as steps
 use Rattle.mt_model.specs.declared.tables.fabric.Fabric.{Fabric}
-use Rattle.mt_model.specs.declared.messages.message.Index.{Index}
-use Rattle.mt_model.specs.declared.messages.message.Index.TheVariants.{Whole, Append, At}
 use Rattle.mt_model.specs.declared.messages.message.Item.{Item}
 use Rattle.mt_model.specs.declared.messages.message.Path.{Path}
 use Rattle.mt_model.specs.declared.rows.place.Place.{Place}
@@ -77,15 +76,6 @@ asker s actor = asker_on s actor actor.session
 
 abbrev pub refusal : ℕ → Reply
 refusal code = replies.Status code
-
--- whether a path names a single item of a list
-abbrev pub is_item : Index → Bool
-is_item Whole = false
-is_item Append = false
-is_item (At n) = true
-
-abbrev pub names_item : Path → Bool
-names_item path = is_item path.index
 
 abbrev pub report_of : Option (List Item) → Reply
 report_of None = refusal (code_of InvalidAction)

@@ -26,7 +26,7 @@ ghost use Rattle.mt_model.specs.declared.node.state.Standing.TheVariants.{Live, 
 ghost use Rattle.mt_machine.specs.Bench.{bench_entries};
 ghost use Rattle.mt_machine.specs.Effects.{after_all};
 ghost use Rattle.mt_machine.specs.Joins.{end_of, first_administrator, indexes, joined_again, joined_by, labels, left_by_owner, nocs, node_label, number_row, owner_and_context, plain_pase, renewed_late, rows_at, session_pase, standings, ticked, updated_node};
-ghost use Rattle.mt_machine.specs.Laws.{AllStayValid, ChangesNowhere, EndsNothing, ExpiresWhereDue, HidesWhatIsSaved, KeepsItsOwnPart, KeepsItsPublicView, KeepsTheOwn, LeavesItsOwnByItsView, LeavesTheOwnOnTheVeil, LeftIsGone, LeftIsGoneBehindAnExpiry, OneLeaves, OpensValid, PassesOtherwise, RemovalsSeeTheVeil, RollsBackValid, SavesWhatItHad, SeesItsViewAlone, SeesTheVeil, SendsOnTheVeil, SetsTheTime, SparesOthers, StandsInOrder, StaysSettled, StaysValid, StepsSeeTheVeil, StepsSpareOthers, StepsStayValid, TakenValuesFit, TakesItsSteps, TakesTheAddedAway, TicksOnTheVeil, TicksSeeTheMarkAlone, TicksSpareOthers, TimesStayValid};
+ghost use Rattle.mt_machine.specs.Laws.{ActionsKeepTheOwn, ActionsLeaveTheOwnOnTheVeil, AllStayValid, ChangesNowhere, EndsNothing, ExpiresWhereDue, HidesWhatIsSaved, KeepsItsOwnPart, KeepsItsPublicView, KeepsTheOwn, LeavesItsOwnByItsView, LeavesTheOwnOnTheVeil, LeftIsGone, LeftIsGoneBehindAnExpiry, OneLeaves, OpensValid, PassesOtherwise, RemovalsSeeTheVeil, RollsBackValid, SavesWhatItHad, SeesItsViewAlone, SeesTheVeil, SendsOnTheVeil, SessionsKeepTheirIds, SetsTheTime, SparesOthers, StandsInOrder, StaysSettled, StaysValid, StepsSeeTheVeil, StepsSpareOthers, StepsStayValid, TakenValuesFit, TakesItsSteps, TakesTheAddedAway, TicksOnTheVeil, TicksSeeTheMarkAlone, TicksSpareOthers, TimeKeepsTheOwn, TimesStayValid};
 ghost use Rattle.mt_machine.specs.Rollback.{breadcrumb};
 ghost use Rattle.mt_machine.specs.Samples.{acl_report, data_report, denial_report, empty_report, hidden_report, invalid_action, no_cluster_report, no_endpoint_report, read_acl, read_acl_anywhere, read_cluster_99, read_endpoint_7, read_on_off, sent_to_reader, too_deep};
 
@@ -65,9 +65,10 @@ pub fn sees_its_view_alone()
     ensures { SeesItsViewAlone }
 {}
 
-/// On the veil of its fabric an event leaves the same own part as on the state.
+/// On the veil of its fabric an event leaves the same own part as on the state. So does what an actor asks.
 pub fn leaves_the_own_on_the_veil()
-    ensures { LeavesTheOwnOnTheVeil }
+    ensures event { LeavesTheOwnOnTheVeil }
+    ensures action { ActionsLeaveTheOwnOnTheVeil }
 {
     writes_touch_their_own();
     writes_keep_forms();
@@ -101,9 +102,11 @@ pub fn leaves_its_own_by_its_view()
 }
 
 /// An event that is no time step changes nothing that is the own of another fabric, unless that enters the table or
-/// leaves it.
+/// leaves it. Neither does what an actor asks; where time alone passes every own part stays.
 pub fn keeps_the_own()
-    ensures { KeepsTheOwn }
+    ensures event { KeepsTheOwn }
+    ensures action { ActionsKeepTheOwn }
+    ensures time { TimeKeepsTheOwn }
 {
     set_rows_stand_in_order();
     set_entries_stand_in_order();
@@ -235,6 +238,11 @@ pub fn actions_set_values()
     what_is_told_the_same_is();
     stored_places_are_those_of_the_model();
 }
+
+/// No action takes a session from its place or gives it another id.
+pub fn sessions_keep_their_ids()
+    ensures { SessionsKeepTheirIds }
+{}
 
 /// The rows of each place stand in the order in which every fabric sees them.
 pub fn rows_stand_in_order()

@@ -1,12 +1,25 @@
 use Rattle.std.proofs.Common.{arith}
-use Rattle.mt_machine.proofs.Kept.{keeps_own}
+use Rattle.mt_machine.proofs.Kept.{action_keeps_own, keeps_own}
+use Rattle.mt_machine.proofs.Veiled.{time_keeps}
 use Rattle.mt_machine.proofs.keeps_the_own.Goals as goal
 
-pub returns : goal.returns
-returns c =
+pub returns-clause-event : goal.returns-clause-event
+returns-clause-event c =
     keeps_own
     c.writes_touch_their_own.ensures c.writes_keep_forms.ensures c.nobody_writes_scoped.ensures c.steps_are_sound.ensures c.steps_stand_first.ensures c.steps_are_well_formed.ensures c.steps_fit.ensures c.steps_are_moves.ensures
     c.what_stays_stands_in_order.ensures.rows c.what_stays_stands_in_order.ensures.entries
     c.set_rows_stand_in_order.ensures.ascending c.set_rows_stand_in_order.ensures.others
     (λ es new whose. c.set_entries_stand_in_order.ensures.ascending es new 0 whose (omega arith)) c.set_entries_stand_in_order.ensures.others
     c.the_index_is_the_least.ensures c.steps_leave_states_valid.ensures.each
+
+pub returns-clause-action : goal.returns-clause-action
+returns-clause-action c =
+    action_keeps_own
+    c.writes_touch_their_own.ensures c.writes_keep_forms.ensures c.nobody_writes_scoped.ensures c.steps_are_sound.ensures c.steps_stand_first.ensures c.steps_are_well_formed.ensures c.steps_fit.ensures c.steps_are_moves.ensures
+    c.what_stays_stands_in_order.ensures.rows c.what_stays_stands_in_order.ensures.entries
+    c.set_rows_stand_in_order.ensures.ascending c.set_rows_stand_in_order.ensures.others
+    (λ es new whose. c.set_entries_stand_in_order.ensures.ascending es new 0 whose (omega arith)) c.set_entries_stand_in_order.ensures.others
+    c.the_index_is_the_least.ensures c.steps_leave_states_valid.ensures.each
+
+pub returns-clause-time : goal.returns-clause-time
+returns-clause-time c = time_keeps

@@ -1,0 +1,7 @@
+pub mod Ids
+pub mod Sessions
+pub mod Talks
+pub mod Valid
+pub mod Sending
+pub mod Leaving
+pub mod Keeping

@@ -1,0 +1,102 @@
+-- The whole that a configuration begins is valid, and lines leave it so.
+use Rattle.std.proofs.Common.{◌≡◌, ℕ, ◌==◌, ◌&&◌, ◌||◌, ◌^◌, ◌-◌, not, inl, inr, Bool, true, false, nat_le, List, [], ◌∷◌, arith, refl, sym, ap, ◌∙◌, subst, filter, length, map}
+use Rattle.std.proofs.lemmas.Bool.{and_from, and_parts, cases_Bool, eqb-true}
+use Rattle.std.specs.List.{list_all, list_any}
+use Rattle.mt_model.specs.texts.Config.{are_entries, are_fabrics, are_sessions, have_one_session, is_session, none_alike}
+use Rattle.mt_model.specs.declared.limits.TheConstants.{SESSIONS}
+use Rattle.mt_model.specs.declared.node.action.Action.{Action}
+use Rattle.mt_model.specs.declared.node.action.Action.TheVariants as actions
+use Rattle.mt_model.specs.declared.node.state.NodeSession.{NodeSession}
+use Rattle.mt_model.specs.declared.node.state.NodeState.{NodeState}
+use Rattle.mt_model.specs.declared.tables.access.AclEntry.{AclEntry}
+use Rattle.mt_model.specs.declared.tables.fabric.Fabric.{Fabric}
+use Rattle.mt_model.specs.declared.texts.config.SessionRow.{SessionRow}
+use Rattle.mt_model.specs.declared.texts.recording.Event.{Event}
+use Rattle.mt_model.specs.declared.texts.recording.Event.TheVariants as events
+use Rattle.mt_opcreds.specs.Laws.{KeepsRules}
+use Rattle.mt_im.specs.Reading.{request_in}
+use Rattle.mt_machine.specs.Given.{Given}
+use Rattle.mt_machine.specs.Laws as machine
+use Rattle.mt_machine.specs.Lines.{action_of, deadline_for, line_actor}
+use Rattle.mt_machine.specs.Opened.{session_of, sessions_of}
+use Rattle.mt_machine.specs.State.{IsValid}
+use Rattle.mt_machine.specs.Step.{asker}
+use Rattle.mt_lines.specs.Datagrams.{session_named}
+use Rattle.mt_lines.specs.Isolation.{IsValidWhole, have_one_id}
+use Rattle.mt_lines.specs.Lines.{action_named, next, state_behind}
+use Rattle.mt_lines.specs.Whole.{Whole, talk_of, whole_with}
+use Rattle.mt_lines.proofs.Ids.{differ_still, ids_of, not_false, or_parts}
+
+-- Rows of one boot with different ids give sessions with different ids.
+
+abbrev is_first : SessionRow → Bool
+is_first row = row.boot == 1
+
+turned : (a b : ℕ) → (a == b) ≡ true → (b == a) ≡ true
+turned a b same = grind (arith, same)
+
+none_alike_row : (fabrics : List Fabric) (row : SessionRow) (rows : List SessionRow) → is_first row ≡ true → list_any (have_one_session row) rows ≡ false
+    → list_any (have_one_id (session_of fabrics row)) (map (session_of fabrics) (filter is_first rows)) ≡ false
+none_alike_row fabrics row [] first none = refl
+none_alike_row fabrics row (other ∷ others) first none =
+    let both = or_parts (have_one_session row other) (list_any (have_one_session row) others) none in
+    let rest = none_alike_row fabrics row others first both.1 in
+    elim (cases_Bool (is_first other)) [
+      | inl here ↦
+          let boots : (row.boot == other.boot) ≡ true = ap (λ n. row.boot == n) (eqb-true other.boot 1 here) ∙ first in
+          let apart : (row.session == other.session) ≡ false = sym (ap (λ (b : Bool). b && (row.session == other.session)) boots) ∙ both.0 in
+          rw (here, apart) rest
+      | inr later ↦ rw later rest
+    ]
+
+rows_differ : (fabrics : List Fabric) (rows : List SessionRow) → none_alike have_one_session rows ≡ true → none_alike have_one_id (map (session_of fabrics) (filter is_first rows)) ≡ true
+rows_differ fabrics [] apart = refl
+rows_differ fabrics (row ∷ rows) apart =
+    let both = and_parts (not (list_any (have_one_session row) rows)) (none_alike have_one_session rows) apart in
+    elim (cases_Bool (is_first row)) [
+      | inl here ↦
+          rw here (and_from _ _ (ap not (none_alike_row fabrics row rows here (not_false (list_any (have_one_session row) rows) both.0))) (rows_differ fabrics rows both.1))
+      | inr later ↦ rw later (rows_differ fabrics rows both.1)
+    ]
+
+pub opens : machine.OpensValid → (fabrics : List Fabric) (entries : List AclEntry) (sessions : List SessionRow) → are_fabrics fabrics ≡ true → are_entries fabrics entries ≡ true → are_sessions sessions ≡ true
+    → IsValidWhole (whole_with fabrics entries sessions)
+unfolding are_sessions
+opens opens_valid fabrics entries sessions fabrics_fit entries_fit sessions_fit = record {
+  node = opens_valid fabrics entries sessions fabrics_fit entries_fit;
+  sessions_differ = rows_differ fabrics sessions (third sessions_fit);
+}
+  where
+    third : are_sessions sessions ≡ true → none_alike have_one_session sessions ≡ true
+    third fit =
+        let front = and_parts (nat_le (length sessions) SESSIONS && list_all is_session sessions && none_alike have_one_session sessions && _) _ fit in
+        let before = and_parts (nat_le (length sessions) SESSIONS && list_all is_session sessions && none_alike have_one_session sessions) _ front.0 in
+        (and_parts (nat_le (length sessions) SESSIONS && list_all is_session sessions) (none_alike have_one_session sessions) before.0).1
+
+-- Sessions keep their ids.
+
+pub ids_behind : machine.SessionsKeepTheirIds → (given : Given) (w : Whole) (e : Event) → ids_of (state_behind given w e).node.sessions ≡ ids_of w.state.node.sessions
+ids_behind kept given w (events.Ask ms fabric node cats opcode payload) =
+    let actor = line_actor fabric node cats in
+    kept given w.state.node (action_of actor (deadline_for w.state (asker w.state.node actor)) (request_in opcode payload)) ms
+ids_behind kept given w (events.Datagram ms from bytes) = kept given w.state.node (action_named w.state.node bytes (talk_of (session_named bytes) w.talks)) ms
+ids_behind kept given w (events.Tick ms) = kept given w.state.node actions.Expire ms
+ids_behind kept given w (events.Report ms fabric subscription) = refl
+ids_behind kept given w (events.Resend ms session) = kept given w.state.node actions.Nothing ms
+ids_behind kept given w (events.Stop calls fate) = refl
+
+node_stays : machine.StaysValid → (given : Given) (w : Whole) (e : Event) → KeepsRules given.judged → IsValid w.state.node → IsValid (state_behind given w e).node
+node_stays stays given w (events.Ask ms fabric node cats opcode payload) keeps valid =
+    let actor = line_actor fabric node cats in
+    stays given w.state.node (action_of actor (deadline_for w.state (asker w.state.node actor)) (request_in opcode payload)) ms keeps valid
+node_stays stays given w (events.Datagram ms from bytes) keeps valid = stays given w.state.node (action_named w.state.node bytes (talk_of (session_named bytes) w.talks)) ms keeps valid
+node_stays stays given w (events.Tick ms) keeps valid = stays given w.state.node actions.Expire ms keeps valid
+node_stays stays given w (events.Report ms fabric subscription) keeps valid = valid
+node_stays stays given w (events.Resend ms session) keeps valid = stays given w.state.node actions.Nothing ms keeps valid
+node_stays stays given w (events.Stop calls fate) keeps valid = valid
+
+pub stays : machine.StaysValid → machine.SessionsKeepTheirIds → (given : Given) (w : Whole) (e : Event) → KeepsRules given.judged → IsValidWhole w → IsValidWhole (next given w e)
+stays node kept given w e keeps valid = record {
+  node = node_stays node given w e keeps valid.node;
+  sessions_differ = differ_still w.state.node.sessions (state_behind given w e).node.sessions (ids_behind kept given w e) valid.sessions_differ;
+}

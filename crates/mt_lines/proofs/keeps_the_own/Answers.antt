@@ -1,0 +1,6 @@
+use Rattle.mt_lines.proofs.Keeping.{keeps_own}
+use Rattle.mt_lines.proofs.keeps_the_own.Goals as goal
+
+pub returns : goal.returns
+returns c = λ given fabric w e rules valid no_tick differ there.
+    keeps_own c.sessions_keep_their_ids.ensures given fabric w valid c.keeps_the_own.ensures.action c.keeps_the_own.ensures.time rules c.keeps_the_own.ensures.event e no_tick differ there

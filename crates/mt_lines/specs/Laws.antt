@@ -1,0 +1,78 @@
+-- Laws of every line.
+use Rattle.std.specs.Prelude.{◌≡◌, ◌≢◌, ℕ, List, false, true}
+use Rattle.mt_fabrics.specs.Table as table
+use Rattle.mt_failsafe.specs.Notes.{was_added, was_updated}
+use Rattle.mt_model.specs.texts.Config.{are_entries, are_fabrics, are_sessions}
+use Rattle.mt_model.specs.declared.tables.access.AclEntry.{AclEntry}
+use Rattle.mt_model.specs.declared.tables.fabric.Fabric.{Fabric}
+use Rattle.mt_model.specs.declared.texts.config.SessionRow.{SessionRow}
+use Rattle.mt_model.specs.declared.texts.recording.Event.{Event}
+use Rattle.mt_model.specs.declared.texts.recording.Event.TheVariants.{Tick}
+use Rattle.mt_opcreds.specs.Laws.{KeepsRules}
+use Rattle.mt_machine.specs.Given.{Given}
+use Rattle.mt_machine.specs.Isolation.{public_view}
+use Rattle.mt_machine.specs.Lines.{is_tick}
+use Rattle.mt_machine.specs.Touching.{StaysThere}
+use Rattle.mt_lines.specs.Isolation.{IsValidWhole, own_part, veil}
+use Rattle.mt_lines.specs.Lines.{fabric_of, next, sent}
+use Rattle.mt_lines.specs.Whole.{Whole, whole_with}
+
+-- What a configuration begins is valid.
+abbrev pub OpensValid : Type 0
+OpensValid = (fabrics : List Fabric) (entries : List AclEntry) (sessions : List SessionRow) → are_fabrics fabrics ≡ true → are_entries fabrics entries ≡ true → are_sessions sessions ≡ true
+    → IsValidWhole (whole_with fabrics entries sessions)
+
+-- A line leaves it so.
+abbrev pub StaysValid : Type 0
+StaysValid = (given : Given) (w : Whole) (e : Event) → KeepsRules given.judged → IsValidWhole w → IsValidWhole (next given w e)
+
+-- The veil has the own part of its fabric, and shows it the same public view.
+abbrev pub KeepsItsOwnPart : Type 0
+KeepsItsOwnPart = (fabric : ℕ) (w : Whole) → IsValidWhole w → own_part fabric (veil fabric w) ≡ own_part fabric w
+
+-- What an event sends on the veil of its fabric is what it sends on the whole.
+abbrev pub SendsOnTheVeil : Type 0
+SendsOnTheVeil = (given : Given) (w : Whole) (e : Event) → IsValidWhole w → sent given (veil (fabric_of w.state.node e) w) e ≡ sent given w e
+
+-- What an event sends is determined by the own part of its fabric and by what is public to it.
+abbrev pub SeesItsViewAlone : Type 0
+SeesItsViewAlone = (given : Given) (w v : Whole) (e : Event) → IsValidWhole w → IsValidWhole v
+    → fabric_of w.state.node e ≡ fabric_of v.state.node e
+    → own_part (fabric_of w.state.node e) w ≡ own_part (fabric_of v.state.node e) v
+    → public_view (fabric_of w.state.node e) w.state.node ≡ public_view (fabric_of v.state.node e) v.state.node
+    → sent given w e ≡ sent given v e
+
+-- On the veil of its fabric an event leaves the same own part as on the whole.
+abbrev pub LeavesTheOwnOnTheVeil : Type 0
+LeavesTheOwnOnTheVeil = (given : Given) (w : Whole) (e : Event) → KeepsRules given.judged → IsValidWhole w
+    → own_part (fabric_of w.state.node e) (next given (veil (fabric_of w.state.node e) w) e) ≡ own_part (fabric_of w.state.node e) (next given w e)
+
+-- And so it is determined by that part and by what is public to it.
+abbrev pub LeavesItsOwnByItsView : Type 0
+LeavesItsOwnByItsView = (given : Given) (w v : Whole) (e : Event) → KeepsRules given.judged → IsValidWhole w → IsValidWhole v
+    → fabric_of w.state.node e ≡ fabric_of v.state.node e
+    → own_part (fabric_of w.state.node e) w ≡ own_part (fabric_of v.state.node e) v
+    → public_view (fabric_of w.state.node e) w.state.node ≡ public_view (fabric_of v.state.node e) v.state.node
+    → own_part (fabric_of w.state.node e) (next given w e) ≡ own_part (fabric_of v.state.node e) (next given v e)
+
+-- An event changes nothing that is the own of another fabric, unless that enters the table or leaves it: another's datagrams, what is sent
+-- again and sessions that end leave its exchanges as they are.
+abbrev pub KeepsTheOwn : Type 0
+KeepsTheOwn = (given : Given) (fabric : ℕ) (w : Whole) (e : Event) → KeepsRules given.judged → IsValidWhole w → is_tick e ≡ false → fabric ≢ fabric_of w.state.node e
+    → StaysThere fabric w.state.node (next given w e).state.node
+    → own_part fabric (next given w e) ≡ own_part fabric w
+
+-- A time step leaves a fabric that was neither added nor updated under the fail-safe its own part.
+abbrev pub TicksSpareOthers : Type 0
+TicksSpareOthers = (given : Given) (fabric : ℕ) (w : Whole) (ms : ℕ) → IsValidWhole w → fabric ≢ 0 → was_added fabric w.state.node.armed ≡ false → was_updated fabric w.state.node.armed ≡ false
+    → own_part fabric (next given w (Tick ms)) ≡ own_part fabric w
+
+-- The own part that a time step leaves to any fabric is what it leaves on the veil of that fabric, and so it is determined by that part and
+-- by what is public to it, as both were before.
+abbrev pub TicksOnTheVeil : Type 0
+TicksOnTheVeil = (given : Given) (fabric : ℕ) (w : Whole) (ms : ℕ) → IsValidWhole w → own_part fabric (next given (veil fabric w) (Tick ms)) ≡ own_part fabric (next given w (Tick ms))
+
+abbrev pub TicksSeeTheMarkAlone : Type 0
+TicksSeeTheMarkAlone = (given : Given) (fabric : ℕ) (w v : Whole) (ms : ℕ) → IsValidWhole w → IsValidWhole v
+    → own_part fabric w ≡ own_part fabric v → public_view fabric w.state.node ≡ public_view fabric v.state.node
+    → own_part fabric (next given w (Tick ms)) ≡ own_part fabric (next given v (Tick ms))

@@ -1,0 +1,79 @@
+//! The written machine's lines, those of datagrams among them: what each line of a recording sends, and the whole behind
+//! it. What a node makes of an action stands in mt_machine, what is said over a session in mt_talk; here both are joined.
+//! The definitions stand in `specs/`, a chapter a file; the functions here do nothing, and their contracts are the laws.
+//!
+//! - `Whole`: the node, the deadlines of plain actors, and what is said over each session;
+//! - `Datagrams`: what a datagram comes to, and what is sent again;
+//! - `Lines`: every line of a recording;
+//! - `Isolation`: what is a fabric's own of the whole, and the veil that is built of that and of what is public to it;
+//! - `Laws`: the laws.
+#![tactic(auto)]
+
+ghost use Rattle.mt_lines.specs.Laws.{KeepsItsOwnPart, KeepsTheOwn, LeavesItsOwnByItsView, LeavesTheOwnOnTheVeil, OpensValid, SeesItsViewAlone, SendsOnTheVeil, StaysValid, TicksOnTheVeil, TicksSeeTheMarkAlone, TicksSpareOthers};
+
+use mt_machine::{
+    keeps_the_own as the_own_is_kept, leaves_the_own_on_the_veil as the_own_is_left_on_the_veil,
+    sees_the_veil, sends_on_the_veil as it_is_sent_on_the_veil, sessions_keep_their_ids,
+    states_are_valid, ticks_let_the_failsafe_expire, veil_keeps_both_parts,
+};
+
+/// The whole that a configuration begins is valid, and a line leaves it so: its node is valid, and the ids of sessions
+/// differ.
+pub fn wholes_are_valid()
+    ensures opens { OpensValid }
+    ensures stays { StaysValid }
+{
+    states_are_valid();
+    sessions_keep_their_ids();
+}
+
+/// The veil has the own part of its fabric, what is said over its live sessions among it.
+pub fn veil_keeps_the_own()
+    ensures { KeepsItsOwnPart }
+{
+    veil_keeps_both_parts();
+}
+
+/// What an event sends on the veil of its fabric is what it sends on the whole. So it is determined by the own part of
+/// its fabric and by what is public to it.
+pub fn sends_on_the_veil()
+    ensures veil { SendsOnTheVeil }
+    ensures view { SeesItsViewAlone }
+{
+    it_is_sent_on_the_veil();
+    sees_the_veil();
+}
+
+/// On the veil of its fabric an event leaves the same own part as on the whole. So that is determined by the own part of
+/// its fabric and by what is public to it, as both were before.
+pub fn leaves_the_own_on_the_veil()
+    ensures veil { LeavesTheOwnOnTheVeil }
+    ensures view { LeavesItsOwnByItsView }
+{
+    the_own_is_left_on_the_veil();
+    the_own_is_kept();
+    sees_the_veil();
+    veil_keeps_both_parts();
+    sessions_keep_their_ids();
+}
+
+/// An event that is no time step changes nothing that is the own of another fabric, unless that enters the table or
+/// leaves it: another's datagrams, what is sent again and sessions that end leave its exchanges as they are.
+pub fn keeps_the_own()
+    ensures { KeepsTheOwn }
+{
+    the_own_is_kept();
+    sessions_keep_their_ids();
+}
+
+/// A time step leaves a fabric that was neither added nor updated under the fail-safe its own part, and what it leaves
+/// to any fabric is determined by that part and by what is public to it.
+pub fn ticks_see_the_mark_alone()
+    ensures others { TicksSpareOthers }
+    ensures veil { TicksOnTheVeil }
+    ensures mark { TicksSeeTheMarkAlone }
+{
+    ticks_let_the_failsafe_expire();
+    veil_keeps_both_parts();
+    sessions_keep_their_ids();
+}
