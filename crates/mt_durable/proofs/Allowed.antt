@@ -1,5 +1,5 @@
 -- What is allowed of the entries of a map and of a change is allowed of those after it.
-use Rattle.std.proofs.Common.{◌≡◌, ◌≤◌, ℕ, true, false, List, [], ◌∷◌, ◌++◌, length, refl, ⊎_elim, arith}
+use Rattle.std.proofs.Common.{◌≡◌, ◌≤◌, ℕ, true, false, List, [], ◌∷◌, ◌++◌, length, refl, ⊎_elim}
 use Rattle.std.specs.Prelude.{⊤}
 use Rattle.std.proofs.lemmas.Bool.{cases_Bool}
 use Rattle.mt_tlv.specs.Limits.{AreAllowed, IsAllowed, IsElement, IsTag, deepest, longest}
@@ -12,18 +12,18 @@ use Rattle.mt_durable.specs.Changes.{change_bytes, entry_tree, entry_trees}
 use Rattle.mt_durable.specs.Keys.{is_before, is_same}
 use Rattle.mt_durable.specs.Maps.{has_value, keys_ascend}
 use Rattle.mt_durable.specs.Reading.{Says}
-use Rattle.mt_durable.specs.Setting.{in_front, placed, with_all, with_entry, without}
+use Rattle.mt_durable.specs.Setting.{in_front, with_all, with_entry}
 use Rattle.mt_durable.specs.declared.durable.Entry.{Entry}
 
-abbrev AllAllowed : List Entry → Type 0
+abbrev pub AllAllowed : List Entry → Type 0
 AllAllowed [] = ⊤
 AllAllowed (entry ∷ entries) = IsAllowed (entry_tree entry) 15 × AllAllowed entries
 
-each_allowed : (entries : List Entry) (tags : List Tag) → AreAllowed (entry_trees entries) kinds.Array tags 15 → AllAllowed entries
+pub each_allowed : (entries : List Entry) (tags : List Tag) → AreAllowed (entry_trees entries) kinds.Array tags 15 → AllAllowed entries
 each_allowed [] tags are = tt
 each_allowed (entry ∷ entries) tags are = (are.2, each_allowed entries (tags ++ Anonymous ∷ []) are.3)
 
-all_allowed : (entries : List Entry) (tags : List Tag) → AllAllowed entries → AreAllowed (entry_trees entries) kinds.Array tags 15
+pub all_allowed : (entries : List Entry) (tags : List Tag) → AllAllowed entries → AreAllowed (entry_trees entries) kinds.Array tags 15
 all_allowed [] tags each = tt
 all_allowed (entry ∷ entries) tags each = (tt, refl, each.0, all_allowed entries (tags ++ Anonymous ∷ []) each.1)
 

@@ -1,10 +1,10 @@
 -- The entries of a map, set one after the other, are the map.
-use Rattle.std.proofs.Common.{◌≡◌, true, false, List, [], ◌∷◌, ◌++◌, refl, ap, sym, ◌∙◌, append_assoc}
+use Rattle.std.proofs.Common.{◌≡◌, true, List, [], ◌∷◌, ◌++◌, refl, ap, ◌∙◌, append_assoc}
 use Rattle.std.proofs.lemmas.Bool.{and_parts}
 use Rattle.std.specs.Prelude.{Bool, ◌&&◌, ℕ}
 use Rattle.mt_durable.specs.Keys.{is_before}
 use Rattle.mt_durable.specs.Maps.{ascend_above, has_value, have_values, keys_ascend}
-use Rattle.mt_durable.specs.Setting.{in_front, with_all, with_entry}
+use Rattle.mt_durable.specs.Setting.{with_all, with_entry}
 use Rattle.mt_durable.specs.declared.durable.Entry.{Entry}
 use Rattle.mt_durable.proofs.Keys.{before_then}
 

@@ -1,7 +1,11 @@
 pub mod Allowed
+pub mod Fronts
 pub mod FromEmpty
+pub mod KeyParts
 pub mod Keys
+pub mod Lengths
 pub mod Merging
 pub mod Said
 pub mod Setting
 pub mod Structures
+pub mod Unique

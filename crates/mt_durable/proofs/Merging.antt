@@ -10,18 +10,18 @@ use Rattle.mt_durable.specs.declared.durable.Entry.{Entry}
 use Rattle.mt_durable.proofs.Keys.{before_differs, before_then, other_before, same_is}
 
 -- from a lower key on they ascend too
-above_lower : (low key : List ℕ) (entries : List Entry) → is_before low key ≡ true → ascend_above key entries ≡ true → ascend_above low entries ≡ true
+pub above_lower : (low key : List ℕ) (entries : List Entry) → is_before low key ≡ true → ascend_above key entries ≡ true → ascend_above low entries ≡ true
 above_lower low key [] lower up = refl
 above_lower low key (one ∷ rest) lower up =
     let both = and_parts (is_before key one.key) (ascend_above one.key rest) up in
     and_from _ _ (before_then low key one.key lower both.0) both.1
 
-ascend_rest : (key : List ℕ) (entries : List Entry) → ascend_above key entries ≡ true → keys_ascend entries ≡ true
+pub ascend_rest : (key : List ℕ) (entries : List Entry) → ascend_above key entries ≡ true → keys_ascend entries ≡ true
 ascend_rest key [] up = refl
 ascend_rest key (one ∷ rest) up = (and_parts (is_before key one.key) (ascend_above one.key rest) up).1
 
 -- a key stands nowhere among keys that ascend from above it on
-none_above : (key : List ℕ) (entries : List Entry) → ascend_above key entries ≡ true → value_under key entries ≡ None
+pub none_above : (key : List ℕ) (entries : List Entry) → ascend_above key entries ≡ true → value_under key entries ≡ None
 none_above key [] up = refl
 none_above key (one ∷ rest) up =
     let both = and_parts (is_before key one.key) (ascend_above one.key rest) up in

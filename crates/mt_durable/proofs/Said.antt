@@ -1,12 +1,13 @@
 -- The bytes of a change are read, and what is read has these bytes.
 use Rattle.std.proofs.Common.{◌≡◌, ℕ, true, false, List, [], ◌∷◌, ◌++◌, refl, sym, ap, subst, ◌∙◌, ⊎_elim, arith, append-nil, take, drop}
-use Rattle.std.specs.Prelude.{IfOk, Option, Some, None, Result, Ok, Err, ◌==◌, ◌&&◌, if◌then◌else◌}
+use Rattle.std.specs.Prelude.{IfOk, Option, Some, None, Result, Ok, Err, ◌&&◌}
 use Rattle.std.proofs.lemmas.Bool.{and_parts, cases_Bool}
 use Rattle.std.proofs.lemmas.List.{take-append-drop}
 use Rattle.std.proofs.lemmas.Bool.Decides.{nat_tests}
 use Rattle.mt_tlv.specs.Limits.{IsElement}
 use Rattle.mt_tlv.specs.Narrow.{narrow}
 use Rattle.mt_tlv.specs.Reading.{element_at}
+use Rattle.mt_tlv.specs.Scalars.{octets_in}
 use Rattle.mt_tlv.specs.Tree.{Tree, int, uint, bool, text, octets, null, bits32, bits64, structure, array, list, Elements, none, more}
 use Rattle.mt_tlv.specs.View.{tree, value_of}
 use Rattle.mt_tlv.specs.declared.fault.TlvFault.{TlvFault}
@@ -17,7 +18,7 @@ use Rattle.mt_tlv.specs.declared.value.Value.TheVariants as values
 use Rattle.mt_durable.specs.Changes.{change_bytes, entry_tree, entry_trees}
 use Rattle.mt_durable.specs.Keys.{is_same}
 use Rattle.mt_durable.specs.Maps.{keys_ascend}
-use Rattle.mt_durable.specs.Reading.{change_at, change_in, entries_in, entries_of, entry_in, entry_of, entry_with, if_ascending, in_front, is_empty, is_field, octets_in, Says}
+use Rattle.mt_durable.specs.Reading.{change_at, change_in, entries_in, entries_of, entry_in, entry_of, entry_with, if_ascending, in_front, is_empty, is_field, Says}
 use Rattle.mt_durable.specs.Readings.{Gives}
 use Rattle.mt_durable.specs.declared.durable.Entry.{Entry}
 use Rattle.mt_durable.specs.declared.reading.ChangeFault.{ChangeFault}

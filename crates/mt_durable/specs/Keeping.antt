@@ -1,5 +1,5 @@
 -- What a commit makes of the map of a keeper. Where a keeper cannot tell its map, nothing is said of it.
-use Rattle.std.specs.Prelude.{◌≡◌, ◌≤◌, ◌⊎◌, ℕ, Bool, List, length, Option, Some, None, ⊤}
+use Rattle.std.specs.Prelude.{◌≡◌, ◌≤◌, ◌⊎◌, ℕ, List, length, Option, Some, None, ⊤}
 use Rattle.mt_durable.specs.Changes.{change_bytes}
 use Rattle.mt_durable.specs.Maps.{Merged}
 use Rattle.mt_durable.specs.Reading.{Says}

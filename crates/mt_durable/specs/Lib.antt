@@ -1,8 +1,10 @@
 pub mod Changes
+pub mod Fronts
 pub mod Images
 pub mod Keepers
 pub mod Keeping
 pub mod Keys
+pub mod Lengths
 pub mod Maps
 pub mod Reading
 pub mod Readings

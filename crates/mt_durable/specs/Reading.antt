@@ -3,7 +3,8 @@ use Rattle.std.specs.Prelude.{◌≡◌, ℕ, ◌==◌, ◌&&◌, Bool, true, fa
 use Rattle.mt_tlv.specs.Limits.{IsElement}
 use Rattle.mt_tlv.specs.Narrow.{narrow}
 use Rattle.mt_tlv.specs.Reading.{element_at}
-use Rattle.mt_tlv.specs.Tree.{Tree, octets, structure, array, Elements, none, more}
+use Rattle.mt_tlv.specs.Scalars.{octets_in}
+use Rattle.mt_tlv.specs.Tree.{Tree, structure, array, Elements, none, more}
 use Rattle.mt_tlv.specs.View.{value_of}
 use Rattle.mt_tlv.specs.declared.fault.TlvFault.{TlvFault}
 use Rattle.mt_tlv.specs.declared.value.Tag.{Tag}
@@ -23,11 +24,6 @@ pub record Says (entries : List Entry) (bytes : List ℕ) : Type 0 where
 abbrev pub is_field : ℕ → Tag → Bool
 is_field number (Context n) = n == number
 is_field number tag = false
-
--- the octets that a tree is
-abbrev pub octets_in : Tree → Option (List ℕ)
-octets_in (octets s) = Some s
-octets_in tree = None
 
 -- the entry of this key, with what stands behind the key: nothing, or a value under 1
 abbrev pub entry_with : Option (List ℕ) → Elements → Option Entry

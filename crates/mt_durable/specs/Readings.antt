@@ -1,6 +1,5 @@
 -- What reading a change answers.
-use Rattle.std.specs.Prelude.{◌≡◌, List, Option, Some, None, Result, Ok, Err, ⊤}
-use Rattle.mt_durable.specs.declared.durable.Entry.{Entry}
+use Rattle.std.specs.Prelude.{◌≡◌, Option, Some, None, Result, Ok, Err, ⊤}
 use Rattle.mt_durable.specs.declared.reading.ChangeFault.{ChangeFault}
 use Rattle.mt_durable.specs.declared.reading.ChangeFault.TheVariants.{NotAChange, Memory}
 

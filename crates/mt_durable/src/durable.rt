@@ -66,6 +66,13 @@ impl Change {
         }
     }
 
+    /// Whether each entry has a value, so that the change is one from the empty map.
+    pub fn is_whole(&self) -> bool
+        ensures { result ≡ have_values self.now }
+    {
+        have_values(self.entries.as_slice())
+    }
+
     /// The change of these entries, whose keys ascend, in the same memory.
     pub fn from_vec(entries: Vec<Entry>) -> Self
         requires { IsTrue (keys_ascend entries.items) }
@@ -179,13 +186,15 @@ impl Durable {
 fn value_under<'a>(key: &[u8], entries: &'a [Entry]) -> Option<&'a Value>
     ensures { option_map (λ value. value.now) result ≡ value_under key.now entries.now }
 {
-    let [first, rest @ ..] = entries else {
-        return None;
-    };
-    if is_same(key, first.key.as_slice()) {
-        first.value.as_ref()
-    } else {
-        value_under(key, rest)
+    let mut left = entries;
+    'entries: loop {
+        let [first, rest @ ..] = left else {
+            return None;
+        };
+        if is_same(key, first.key.as_slice()) {
+            return first.value.as_ref();
+        }
+        left = rest;
     }
 }
 
@@ -193,10 +202,34 @@ fn value_under<'a>(key: &[u8], entries: &'a [Entry]) -> Option<&'a Value>
 fn ascend_above(key: &[u8], entries: &[Entry]) -> bool
     ensures { result ≡ ascend_above key.now entries.now }
 {
-    let [first, rest @ ..] = entries else {
-        return true;
-    };
-    is_before(key, first.key.as_slice()) && ascend_above(first.key.as_slice(), rest)
+    let mut low = key;
+    let mut left = entries;
+    'entries: loop {
+        let [first, rest @ ..] = left else {
+            return true;
+        };
+        if !is_before(low, first.key.as_slice()) {
+            return false;
+        }
+        low = first.key.as_slice();
+        left = rest;
+    }
+}
+
+// Whether each entry has a value.
+fn have_values(entries: &[Entry]) -> bool
+    ensures { result ≡ have_values entries.now }
+{
+    let mut left = entries;
+    'entries: loop {
+        let [first, rest @ ..] = left else {
+            return true;
+        };
+        if first.value.is_none() {
+            return false;
+        }
+        left = rest;
+    }
 }
 
 // How many entries stand before a key.
@@ -204,13 +237,17 @@ fn count_before(key: &[u8], entries: &[Entry]) -> usize
     ensures count { result ≡ count_before key.now entries.now }
     ensures at_most { result ≤ length entries.now }
 {
-    let [first, rest @ ..] = entries else {
-        return 0;
-    };
-    if is_before(first.key.as_slice(), key) {
-        1 + count_before(key, rest)
-    } else {
-        0
+    let mut count = 0;
+    let mut left = entries;
+    'entries: loop {
+        let [first, rest @ ..] = left else {
+            return count;
+        };
+        if !is_before(first.key.as_slice(), key) {
+            return count;
+        }
+        count += 1;
+        left = rest;
     }
 }
 

@@ -7,24 +7,26 @@ ghost use Rattle.mt_durable.specs.Keys.{is_before, is_same};
 pub fn is_before(key: &[u8], other: &[u8]) -> bool
     ensures { result ≡ is_before key.now other.now }
 {
-    let [next, others @ ..] = other else {
-        return false;
-    };
-    let [first, rest @ ..] = key else {
-        return true;
-    };
-    *first < *next || (*first == *next && is_before(rest, others))
+    let mut left = key;
+    let mut right = other;
+    'bytes: loop {
+        let [next, others @ ..] = right else {
+            return false;
+        };
+        let [first, rest @ ..] = left else {
+            return true;
+        };
+        if *first != *next {
+            return *first < *next;
+        }
+        left = rest;
+        right = others;
+    }
 }
 
-// Whether both are the same key.
+// Whether both are the same bytes.
 pub(crate) fn is_same(key: &[u8], other: &[u8]) -> bool
     ensures { result ≡ is_same key.now other.now }
 {
-    let [first, rest @ ..] = key else {
-        return other.is_empty();
-    };
-    let [next, others @ ..] = other else {
-        return false;
-    };
-    *first == *next && is_same(rest, others)
+    key == other
 }

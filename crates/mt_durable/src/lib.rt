@@ -4,25 +4,32 @@
 //! - `key`: the order of keys;
 //! - `durable`: the map, and a change merged into it;
 //! - `change`: a change as bytes, `reading`: a change from its bytes;
-//! - `keeper`: what keeps the map, `list_keeper`: a form of it in memory, some of whose calls fail;
+//! - `image`: a change merged into an image as bytes, in no memory, `length`: how many bytes an element takes;
+//! - `keeper`: what keeps the map, `list_keeper`: a form of it in memory, some of whose calls fail, `room`: whether one
+//!   has room for a change;
 //! - `laws`: what holds of maps and changes, whatever they are.
 #![tactic(auto)]
 
 mod change;
 mod durable;
+mod image;
 mod keeper;
 mod key;
 mod laws;
+mod length;
 mod list_keeper;
 mod reading;
+mod room;
 
 pub use change::{write_change, write_image};
 pub use durable::{Change, Durable, Entry};
+pub use image::merge_image;
 pub use keeper::Keeper;
 pub use key::is_before;
 pub use laws::{changes_lead_on, maps_have_images};
 pub use list_keeper::ListKeeper;
 pub use reading::{ChangeFault, bytes_of_a_change_are_read, read_change};
+pub use room::has_room;
 
 #[cfg(test)]
 mod tests;

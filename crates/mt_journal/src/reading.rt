@@ -208,7 +208,10 @@ pub fn read_at_gate<D: Disk, F: Form>(
         return Ok(AtGate::Moved);
     }
     let change = read_content(alloc, disk, whole, limit, gate + 1, count)?;
-    if !F::is_change(&change) {
+    let Ok(is_change) = F::is_change(alloc, &change) else {
+        return Err(JournalFault::Memory);
+    };
+    if !is_change {
         return Err(JournalFault::NotAJournal(gate + 5));
     }
     Ok(AtGate::Change(Bytes::from_vec(change)))

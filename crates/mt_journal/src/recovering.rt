@@ -207,7 +207,10 @@ fn read_image<D: Disk, F: Form>(
     ensures cause { HasReadCause (D.faults disk.old) (D.faults disk.new) result }
 {
     let image = read_piece(alloc, disk, whole, Some(start + SLOT_LENGTH), start)?;
-    if !F::is_image(&image) {
+    let Ok(is_image) = F::is_image(alloc, &image) else {
+        return Err(JournalFault::Memory);
+    };
+    if !is_image {
         return Err(JournalFault::NotAJournal(start + 4));
     }
     let gate = start + 4 + image.len() as u64;

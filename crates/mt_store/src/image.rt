@@ -1,10 +1,10 @@
 //! The image of a map, in memory of which there is always enough.
 
-ghost use Rattle.std.specs.Prelude.{◌≡◌, ◌<◌, Some, length, IfOk, IsTrue};
+ghost use Rattle.std.specs.Prelude.{◌≡◌, ◌<◌, ◌↔◌, None, Some, length, IfOk, IsTrue};
 ghost use Rattle.mt_durable.specs.Changes.{change_bytes, entry_trees};
 ghost use Rattle.mt_durable.specs.Keeping.{HasRoom, IsChange, LeadsTo};
 ghost use Rattle.mt_durable.specs.Maps.{have_values};
-ghost use Rattle.mt_durable.specs.Reading.{Says, said};
+ghost use Rattle.mt_durable.specs.Reading.{Says, change_at, said};
 ghost use Rattle.mt_durable.specs.Setting.{with_all};
 ghost use Rattle.mt_store.specs.Leading.{IfNotAChange};
 ghost use Rattle.mt_tlv.specs.Limits.{IsAllowed, deepest};
@@ -12,10 +12,10 @@ ghost use Rattle.mt_tlv.specs.Tree.{array};
 
 use crate::map_form::MapForm;
 use mt_durable::{
-    ChangeFault, Durable, bytes_of_a_change_are_read, changes_lead_on, maps_have_images,
-    write_image,
+    ChangeFault, Durable, bytes_of_a_change_are_read, changes_lead_on, has_room, maps_have_images,
+    read_change, write_image,
 };
-use std::alloc::Global;
+use std::alloc::{AllocError, Global};
 use std::marker::Model;
 
 // How long an image is at most, as an element.
@@ -70,6 +70,32 @@ impl Image {
         ensures whole { IsTrue (have_values self.now) }
     {
         self.bytes.as_slice()
+    }
+
+    /// The map.
+    pub fn map(&self, alloc: Global) -> Result<Durable, AllocError>
+        ensures { IfOk result (λ map. map ≡ self.now) }
+    {
+        bytes_of_a_change_are_read();
+        changes_lead_on();
+        let Ok(change) = read_change(alloc, self.as_slice()) else {
+            return Err(AllocError);
+        };
+        let mut map = Durable::new(alloc);
+        map.merge(change)?;
+        Ok(map)
+    }
+
+    /// Whether there is room for a change, as a commit wants: whether the image of the map after it is no
+    /// longer than an element may be. NotAChange says that the bytes are no change.
+    pub fn has_room(&self, alloc: Global, change: &[u8]) -> Result<bool, ChangeFault>
+        ensures form { IfOk result (λ _. IsChange change.now) }
+        ensures room { IfOk result (λ room. IsTrue room ↔ HasRoom change.now (Some self.now)) }
+        ensures refused { IfNotAChange result (change_at change.now ≡ None) }
+    {
+        let entries = read_change(alloc, change)?;
+        let map = self.map(alloc)?;
+        Ok(has_room(alloc, &map, entries)?)
     }
 
     /// Becomes the image of the map to which a change leads from that of another image. It takes no memory.

@@ -8,6 +8,7 @@ ghost use Rattle.speed_journal.specs.Form.{is_any};
 
 use mt_file_disk::FileDisk;
 use mt_journal::{Form, Journal};
+use std::alloc::{AllocError, Global};
 use std::fs::{OpenOptions, remove_file};
 use std::time::{Duration, Instant};
 use std::{env, io};
@@ -23,12 +24,12 @@ impl Form for Any {
 
     ghost change = { is_any };
 
-    fn is_image(_bytes: &[u8]) -> bool {
-        true
+    fn is_image(_alloc: Global, _bytes: &[u8]) -> Result<bool, AllocError> {
+        Ok(true)
     }
 
-    fn is_change(_bytes: &[u8]) -> bool {
-        true
+    fn is_change(_alloc: Global, _bytes: &[u8]) -> Result<bool, AllocError> {
+        Ok(true)
     }
 }
 

@@ -5,7 +5,7 @@ use Rattle.mt_durable.specs.Setting.{with_all}
 use Rattle.mt_durable.specs.declared.durable.Entry.{Entry}
 use Rattle.mt_journal.specs.Standing.{HasEither, StandsFor}
 use Rattle.mt_store.specs.Leading.{HoldsEither, Keeps, map_of}
-use Rattle.mt_store.proofs.Maps.{change_is, either_holds, leaves_then, map_more, map_of_image, on_ok}
+use Rattle.mt_store.proofs.Leads.{change_is, either_holds, leaves_then, map_more, map_of_image, on_ok}
 use Rattle.mt_store.proofs.store.put.Goals as goal
 
 pub returns-then-fits-clause-kept : goal.returns-then-fits-clause-kept

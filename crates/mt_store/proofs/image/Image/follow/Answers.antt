@@ -5,7 +5,7 @@ use Rattle.mt_durable.specs.Keeping.{LeadsTo}
 use Rattle.mt_durable.specs.Reading.{said}
 use Rattle.mt_durable.specs.Setting.{with_all}
 use Rattle.mt_durable.specs.declared.durable.Entry.{Entry}
-use Rattle.mt_store.proofs.Maps.{followed}
+use Rattle.mt_store.proofs.Leads.{followed}
 use Rattle.mt_store.proofs.image.Image.follow.Goals as goal
 
 pub invariant_of-self : goal.invariant_of-self

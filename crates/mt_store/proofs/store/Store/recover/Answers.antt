@@ -1,7 +1,7 @@
 use Rattle.std.proofs.Common.{◌≡◌, ◌⊎◌, ℕ, Err, inl, rules}
 use Rattle.mt_journal.specs.Layout.{journal_at}
 use Rattle.mt_store.specs.Leading.{LeadsNowhere}
-use Rattle.mt_store.proofs.Maps.{place_then}
+use Rattle.mt_store.proofs.Leads.{place_then}
 use Rattle.mt_store.proofs.store.Store.recover.Goals as goal
 
 pub returns-in_err-journal-clause-refused : goal.returns-in_err-journal-clause-refused

@@ -3,7 +3,7 @@ use Rattle.std.specs.Prelude.{Some}
 use Rattle.mt_durable.specs.Reading.{said}
 use Rattle.mt_durable.specs.Setting.{with_all}
 use Rattle.mt_durable.specs.declared.durable.Entry.{Entry}
-use Rattle.mt_store.proofs.Maps.{said_is}
+use Rattle.mt_store.proofs.Leads.{said_is}
 use Rattle.mt_store.proofs.store.StoreKeeper.commit.Goals as goal
 
 pub returns-in_err-put-clause-moments : goal.returns-in_err-put-clause-moments

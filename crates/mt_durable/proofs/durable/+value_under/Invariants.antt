@@ -1,5 +1,0 @@
-use Rattle.std.proofs.Common.{length}
-use Rattle.mt_durable.proofs.durable.+value_under.Given as goal
-
-abbrev pub decreases-value_under : goal.decreases-value_under
-decreases-value_under l = length l.entries.now

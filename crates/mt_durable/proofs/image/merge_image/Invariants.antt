@@ -1,0 +1,18 @@
+use Rattle.std.proofs.Common.{◌≡◌, ◌++◌, length}
+use Rattle.std.specs.Prelude.{vec_capacity}
+use Rattle.mt_durable.specs.Fronts.{AreEntries, bytes_to_end, entries_said}
+use Rattle.mt_durable.specs.Images.{image_after}
+use Rattle.mt_durable.specs.Setting.{with_all}
+use Rattle.mt_durable.proofs.image.merge_image.Given as goal
+
+-- what is added, and what the entries that are left lead to, is the image after the change
+abbrev pub invariant-entries : goal.invariant-entries
+invariant-entries l = record {
+  image : AreEntries l.image;
+  change : AreEntries l.entries;
+  added : l.into.items ++ bytes_to_end (with_all (entries_said l.entries) (entries_said l.image)) ≡ image_after l.change l.from;
+  capacity : vec_capacity l.into ≡ vec_capacity l.fn.into;
+}
+
+abbrev pub decreases-entries : goal.decreases-entries
+decreases-entries l = length (entries_said l.entries)
