@@ -1,0 +1,283 @@
+//! Why a run ended before its end, in words, with the statuses that `replay` has for it.
+
+use crate::options::Options;
+use crate::rows::{Row, faulty_row};
+use mt_files::{ConfigField, LineFault, LineKind};
+use mt_model::limits::{LINE_BYTES, RECORDING_BYTES};
+use serde_json::Value as Json;
+use std::alloc::{AllocError, AllocFailed, Global};
+use std::{io, str};
+
+/// The most bytes of a faulty line that are shown.
+const SHOWN: usize = 120;
+
+/// Which of the two files it is.
+#[derive(Clone, Copy)]
+pub(crate) enum Which {
+    Configuration,
+    Recording,
+}
+
+/// Why a run ended before its end.
+#[derive(Drop)]
+pub(crate) enum Fault {
+    Unread(Which),
+    /// The first field that is wrong, the line at which it begins, and what is wrong with the text as JSON,
+    /// or the first row that is wrong.
+    Configuration {
+        field: ConfigField,
+        line: Option<u64>,
+        syntax: Option<String>,
+        row: Option<Row>,
+    },
+    /// The first line that is wrong, and what of its text is shown.
+    Line {
+        line: u64,
+        kind: LineKind,
+        text: Vec<u8>,
+    },
+    /// The first line of a recording that is too long, None where the recording is.
+    TooLong(Option<u64>),
+    Unwritten,
+    Memory,
+    /// The first line that the node does not support yet.
+    Unbuilt(u64),
+}
+
+impl From<AllocError> for Fault {
+    fn from(_error: AllocError) -> Fault {
+        Fault::Memory
+    }
+}
+
+impl<T: Drop> From<AllocFailed<T>> for Fault {
+    fn from(_error: AllocFailed<T>) -> Fault {
+        Fault::Memory
+    }
+}
+
+impl Fault {
+    /// The exit status.
+    pub(crate) fn status(&self) -> u8 {
+        match self {
+            Fault::Configuration { .. } => 3,
+            Fault::Line { .. } => 4,
+            Fault::Unread(_) => 5,
+            Fault::Unwritten => 6,
+            Fault::Memory => 7,
+            Fault::TooLong(_) => 10,
+            Fault::Unbuilt(_) => 14,
+        }
+    }
+
+    /// Writes on standard error what was wrong.
+    pub(crate) fn tell(&self, rt: &HostRuntime, options: &Options<'_>) -> io::Result<()> {
+        let config = options.config;
+        let recording = options.recording;
+        match self {
+            Fault::Unread(Which::Configuration) => {
+                eprintln!(rt; "The configuration {config} can't be read.")
+            }
+            Fault::Unread(Which::Recording) => {
+                eprintln!(rt; "The recording {recording} can't be read.")
+            }
+            Fault::Configuration {
+                field,
+                line,
+                syntax,
+                row,
+            } => {
+                tell_configuration(rt, *field, *line)?;
+                tell_cause(rt, syntax, row)
+            }
+            Fault::Line { line, kind, text } => tell_line(rt, *line, *kind, text.as_slice()),
+            Fault::TooLong(Some(line)) => {
+                eprintln!(rt; "Line {line} of the recording has more than 4,096 bytes.")
+            }
+            Fault::TooLong(None) => {
+                eprintln!(rt;
+                    "The recording has more than 67,108,864 bytes, or more than 1,048,576 lines behind its head."
+                )
+            }
+            Fault::Unwritten => eprintln!(rt; "What is shown can't be written."),
+            Fault::Memory => eprintln!(rt; "There is not enough memory."),
+            Fault::Unbuilt(line) => {
+                eprintln!(rt;
+                    "Line {line} is of a kind that the node does not support yet: the run ends before it."
+                )
+            }
+        }
+    }
+}
+
+// What is wrong with a configuration.
+fn tell_configuration(rt: &HostRuntime, field: ConfigField, line: Option<u64>) -> io::Result<()> {
+    let wrong = match field {
+        ConfigField::Size => "it has more than 1,048,576 bytes",
+        ConfigField::Json =>
+            "it is no object of JSON in UTF-8, or has more than 127 objects and arrays inside each other",
+        ConfigField::Fabrics => {
+            "`fabrics` is not as it must be: its rows' fields, their forms, or the rules on fabrics and their entries"
+        }
+        ConfigField::Sessions => {
+            "`sessions` is not as it must be: its rows' fields, their forms, or the rules on sessions"
+        }
+        ConfigField::Roots => "`roots` is not as it must be",
+        ConfigField::Csrs => "`csrs` is not as it must be",
+        ConfigField::Joins => "`joins` is not as it must be",
+        ConfigField::Reachable => "`reachable` is not as it must be",
+    };
+    match line {
+        Some(line) => eprintln!(rt; "Line {line} of the configuration: {wrong}."),
+        None => eprintln!(rt; "The configuration is faulty: {wrong}."),
+    }
+}
+
+// What of a configuration is wrong: its text as JSON, or a row.
+fn tell_cause(rt: &HostRuntime, syntax: &Option<String>, row: &Option<Row>) -> io::Result<()> {
+    if let Some(syntax) = syntax {
+        eprintln!(rt; "  {syntax}")?;
+    }
+    if let Some(row) = row {
+        let number = row.number;
+        let text = &row.text;
+        eprintln!(rt; "  The first row that does not fit is row {number}: {text}")?;
+    }
+    Ok(())
+}
+
+// What is wrong with a line of a recording, and the line.
+fn tell_line(rt: &HostRuntime, line: u64, kind: LineKind, text: &[u8]) -> io::Result<()> {
+    let wrong = match kind {
+        LineKind::Head => "it is not the head `matter-record 1`",
+        LineKind::Form => {
+            "no line begins with this letter and has this number of fields, one space between two, or a stop has no such fate"
+        }
+        LineKind::Number => {
+            "a decimal field is no number, has a leading zero, or is out of its range"
+        }
+        LineKind::Hex => {
+            "a field in hex has other characters than digits, the wrong number of them or too many, or node and CATs name nobody who can ask"
+        }
+        LineKind::Time => "its time is before that of an earlier line",
+    };
+    let text = String::from_utf8_lossy(rt.alloc(), text)?;
+    eprintln!(rt; "Line {line} of the recording is faulty: {wrong}.")?;
+    eprintln!(rt; "  {text}")
+}
+
+/// What a text comes to that is no configuration.
+pub(crate) fn of_configuration(alloc: Global, field: ConfigField, bytes: &[u8]) -> Fault {
+    match (syntax_of(alloc, field, bytes), row_of(alloc, field, bytes)) {
+        (Ok(syntax), Ok(row)) => Fault::Configuration {
+            field,
+            line: line_of(field, bytes),
+            syntax,
+            row,
+        },
+        _ => Fault::Memory,
+    }
+}
+
+// The first row of a faulty list that is wrong.
+fn row_of(alloc: Global, field: ConfigField, bytes: &[u8]) -> Result<Option<Row>, AllocError> {
+    match field {
+        ConfigField::Size | ConfigField::Json => Ok(None),
+        _ => faulty_row(alloc, field, bytes),
+    }
+}
+
+// What is wrong with a text that is no JSON, with its place.
+fn syntax_of(
+    alloc: Global,
+    field: ConfigField,
+    bytes: &[u8],
+) -> Result<Option<String>, AllocError> {
+    if field != ConfigField::Json {
+        return Ok(None);
+    }
+    match Json::from_slice(alloc, bytes) {
+        Ok(_) => Ok(None),
+        Err(error) => {
+            let text = error.to_string(alloc)?;
+            Ok(Some(text))
+        }
+    }
+}
+
+// The line at which the list of a field begins; None where it is of the text as a whole.
+fn line_of(field: ConfigField, bytes: &[u8]) -> Option<u64> {
+    if field == ConfigField::Size || field == ConfigField::Json {
+        return None;
+    }
+    let text = str::from_utf8(bytes).ok()?;
+    let mut number = 0u64;
+    for line in text.lines() {
+        number = number.saturating_add(1);
+        if names(line, field.name()) {
+            return Some(number);
+        }
+    }
+    None
+}
+
+// Whether a line has the name of a field in quotes.
+fn names(line: &str, name: &str) -> bool {
+    for part in line.split('"') {
+        if part == name {
+            return true;
+        }
+    }
+    false
+}
+
+/// What a text comes to that is no recording.
+pub(crate) fn of_recording(alloc: Global, fault: LineFault, bytes: &[u8]) -> Fault {
+    match fault {
+        LineFault::TooLong => Fault::TooLong(long_line(bytes)),
+        LineFault::Memory => Fault::Memory,
+        LineFault::Line { line, kind } => match shown_line(alloc, line, bytes) {
+            Ok(text) => Fault::Line { line, kind, text },
+            Err(_) => Fault::Memory,
+        },
+    }
+}
+
+// The first line of a recording that is too long, counted from 1; None where it has too many bytes or lines.
+fn long_line(bytes: &[u8]) -> Option<u64> {
+    if bytes.len() > RECORDING_BYTES {
+        return None;
+    }
+    let mut number = 1u64;
+    let mut length = 0usize;
+    for byte in bytes {
+        if *byte == b'\n' {
+            number = number.saturating_add(1);
+            length = 0;
+        } else if length == LINE_BYTES {
+            return Some(number);
+        } else {
+            length = length.saturating_add(1);
+        }
+    }
+    None
+}
+
+// The front of the line of this number, counted from 1.
+fn shown_line(alloc: Global, line: u64, bytes: &[u8]) -> Result<Vec<u8>, AllocError> {
+    let mut text = Vec::new(alloc);
+    let mut number = 1u64;
+    let mut shown = 0usize;
+    for byte in bytes {
+        if *byte == b'\n' {
+            number = number.saturating_add(1);
+        } else if number == line && shown < SHOWN {
+            text.push(*byte)?;
+            shown += 1;
+        } else if number == line && shown == SHOWN {
+            text.extend_from_slice(b"..")?;
+            shown += 1;
+        }
+    }
+    Ok(text)
+}

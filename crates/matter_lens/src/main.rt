@@ -1,0 +1,101 @@
+//! A lens for people: it plays a recording as `replay` of matter_node does, and shows the run as a
+//! conversation, in words or as objects of JSON. It stands on the product's public calls, and changes
+//! nothing of what they do.
+//!
+//! - `options`: the words of the command line;
+//! - `faults`: why a run ended before its end, in words;
+//! - `rows`: which row of a faulty configuration is the first that is wrong;
+//! - `story`: the recording, line by line, with what came of each;
+//! - `datagrams`: what stands in sealed datagrams.
+#![tactic(auto)]
+
+mod datagrams;
+mod faults;
+mod options;
+mod rows;
+mod story;
+
+use faults::{Fault, Which};
+use mt_files::{ConfigFault, ConfigField, config as configuration, events};
+use mt_model::limits::CONFIGURATION_BYTES;
+use mt_model::{Config, Events};
+use options::{Options, options_of};
+use std::process::ExitCode;
+use std::{env, fs, io};
+
+// The status where the command line could not be taken for want of memory, or not told.
+const NO_MEMORY: u8 = 7;
+
+fn main(rt: HostRuntime) -> ExitCode {
+    match command_line(&rt) {
+        Ok(words) => ExitCode::from(run(&rt, words.as_slice())),
+        Err(_) => ExitCode::from(NO_MEMORY),
+    }
+}
+
+// Does what the words say, and answers the exit status.
+fn run(rt: &HostRuntime, words: &[String]) -> u8 {
+    let options = match options_of(rt.alloc(), words) {
+        Ok(options) => options,
+        Err(error) => return unasked(rt, &error),
+    };
+    match shown(rt, &options) {
+        Ok(()) => 0,
+        Err(fault) => {
+            // Where even this can't be written, the status alone tells.
+            let _ = fault.tell(rt, &options);
+            fault.status()
+        }
+    }
+}
+
+// Where nothing is to be shown: the words have no form, or ask for help or the version.
+fn unasked(rt: &HostRuntime, error: &clap::Error) -> u8 {
+    match (error.print(rt), error.use_stderr()) {
+        (Err(_), _) => 6,
+        (Ok(()), true) => 2,
+        (Ok(()), false) => 0,
+    }
+}
+
+// The words of the command line, the program's name among them.
+fn command_line(rt: &HostRuntime) -> io::Result<Vec<String>> {
+    let mut words = Vec::new(rt.alloc());
+    for word in env::args(rt)? {
+        words.push(word)?;
+    }
+    Ok(words)
+}
+
+// Reads both files, and shows the run.
+fn shown(rt: &HostRuntime, options: &Options<'_>) -> Result<(), Fault> {
+    let config = read_configuration(rt, options.config)?;
+    let recording = read_recording(rt, options.recording)?;
+    story::tell(rt, options, &config, &recording)
+}
+
+fn read_configuration(rt: &HostRuntime, name: &str) -> Result<Config, Fault> {
+    let Ok(bytes) = fs::read(rt, name) else {
+        return Err(Fault::Unread(Which::Configuration));
+    };
+    if bytes.len() > CONFIGURATION_BYTES {
+        return Err(faults::of_configuration(rt.alloc(), ConfigField::Size, &bytes));
+    }
+    match configuration(rt.alloc(), &bytes) {
+        Ok(config) => Ok(config),
+        Err(ConfigFault::Field(field)) => {
+            Err(faults::of_configuration(rt.alloc(), field, &bytes))
+        }
+        Err(ConfigFault::Memory) => Err(Fault::Memory),
+    }
+}
+
+fn read_recording(rt: &HostRuntime, name: &str) -> Result<Events, Fault> {
+    let Ok(bytes) = fs::read(rt, name) else {
+        return Err(Fault::Unread(Which::Recording));
+    };
+    match events(rt.alloc(), &bytes) {
+        Ok(events) => Ok(events),
+        Err(fault) => Err(faults::of_recording(rt.alloc(), fault, &bytes)),
+    }
+}

@@ -1,0 +1,62 @@
+//! The words of the command line.
+
+use clap::{Arg, ArgAction, Command, Error, value_parser};
+use std::alloc::Global;
+
+/// What the words ask for.
+#[derive(Clone, Copy)]
+pub(crate) struct Options<'a> {
+    /// The names of the two files.
+    pub config: &'a str,
+    pub recording: &'a str,
+    /// Whether it is shown in words, and as objects of JSON.
+    pub words: bool,
+    pub json: bool,
+    /// The one fabric that is shown, None where all are.
+    pub fabric: Option<u8>,
+}
+
+/// What the words ask for, the program's name first among them, or what is wrong with them, which also
+/// has the texts of `--help` and `--version`.
+pub(crate) fn options_of<'a>(alloc: Global, words: &'a [String]) -> Result<Options<'a>, Error> {
+    let matches = command(alloc)?.try_get_matches_from(words)?;
+    let json = matches.get_flag("json");
+    Ok(Options {
+        config: matches.get_str("CONFIG").unwrap_or(""),
+        recording: matches.get_str("RECORDING").unwrap_or(""),
+        words: matches.get_flag("words") || !json,
+        json,
+        fabric: matches.get_one::<u8>("fabric"),
+    })
+}
+
+fn command<'a>(alloc: Global) -> Result<Command<'a>, Error> {
+    let config = Arg::new(alloc, "CONFIG")
+        .required(true)
+        .help("The configuration of the node, as replay takes it");
+    let recording = Arg::new(alloc, "RECORDING")
+        .required(true)
+        .help("The recording");
+    let json = Arg::new(alloc, "json")
+        .long("json")
+        .action(ArgAction::SetTrue)
+        .help("Show an object of JSON for each line, in place of words");
+    let words = Arg::new(alloc, "words")
+        .long("words")
+        .action(ArgAction::SetTrue)
+        .help("Show words also where --json is given, each line's object behind them");
+    let fabric = Arg::new(alloc, "fabric")
+        .long("fabric")
+        .value_name("F")
+        .value_parser(value_parser!(u8))
+        .help("Show what fabric F asked and was sent, alone; 0 is PASE without a fabric");
+    let command = Command::new(alloc, "matter_lens")
+        .version("1")
+        .about("Plays a recording as replay does, and shows it as a conversation")
+        .arg(config)?
+        .arg(recording)?
+        .arg(json)?
+        .arg(words)?
+        .arg(fabric)?;
+    Ok(command)
+}

@@ -1,0 +1,30 @@
+//! What happened on a node, told to people: a line of a recording and what came of it, in words or as an object of
+//! JSON. What is told is given; nothing here plays a recording or opens a datagram.
+//!
+//! - `told`: what is told;
+//! - `page`: text that grows;
+//! - `telling`, `words`, `answers`, `values`: lines, requests, answers and values in words;
+//! - `json`, `json_messages`, `json_values`, `json_objects`: the same as objects of JSON;
+//! - `payloads`: answers, read from their payloads;
+//! - `places`: where a payload's first fault stands;
+//! - `shapes`: what the fields of a value are called.
+#![tactic(auto)]
+
+mod answers;
+mod json;
+mod json_messages;
+mod json_objects;
+mod json_values;
+mod page;
+mod payloads;
+mod places;
+mod shapes;
+mod telling;
+mod told;
+mod values;
+mod words;
+
+pub use json::show_object;
+pub use page::Page;
+pub use telling::show_words;
+pub use told::{Content, Expiry, Heading, Letter, Message, Owner, Told};

@@ -1,0 +1,150 @@
+//! What the fields of a value are called, and what their numbers stand for.
+
+use mt_meta::clusters::{ACCESS_CONTROL, access_control};
+use mt_meta::{Kind, find};
+use mt_model::{Auth, Path, Place, Privilege};
+use mt_names::{
+    Named, auth_name, command_field_names, event_field_names, item_field_names, name_among,
+    privilege_name, response_field_names, target_field_names, value_field_names,
+};
+
+/// What the structures in a value are.
+#[derive(Clone, Copy)]
+pub(crate) enum Shape {
+    /// Their fields have these names.
+    Fields(&'static [Named]),
+    /// Entries of the access control list.
+    Entry,
+    /// The event that tells of one of these.
+    Changed,
+}
+
+/// No names are known.
+pub(crate) fn unknown() -> Shape {
+    Shape::Fields(&[])
+}
+
+/// What the value of an attribute is.
+pub(crate) fn shape_of_attribute(path: &Path) -> Shape {
+    let Some(place) = path.place() else {
+        return unknown();
+    };
+    let kind = match find(&place) {
+        Ok(meta) => meta.kind,
+        Err(_) => Kind::Null,
+    };
+    if kind == Kind::Acl {
+        return Shape::Entry;
+    }
+    let fields = item_field_names(kind);
+    if fields.is_empty() {
+        Shape::Fields(value_field_names(place.cluster, place.leaf))
+    } else {
+        Shape::Fields(fields)
+    }
+}
+
+/// What the fields of a command are.
+pub(crate) fn shape_of_command(command: &Place) -> Shape {
+    Shape::Fields(command_field_names(command.cluster, command.leaf))
+}
+
+/// What the fields of a response are.
+pub(crate) fn shape_of_response(response: &Place) -> Shape {
+    Shape::Fields(response_field_names(response.cluster, response.leaf))
+}
+
+/// What the value of an event is.
+pub(crate) fn shape_of_event(event: &Place) -> Shape {
+    if event.cluster == ACCESS_CONTROL
+        && event.leaf == access_control::ACCESS_CONTROL_ENTRY_CHANGED
+    {
+        return Shape::Changed;
+    }
+    Shape::Fields(event_field_names(event.cluster, event.leaf))
+}
+
+impl Shape {
+    /// The name of a field; None where none is known.
+    pub(crate) fn name(self, field: u8) -> Option<&'static str> {
+        let names = match self {
+            Shape::Fields(names) => names,
+            Shape::Entry => item_field_names(Kind::Acl),
+            Shape::Changed => {
+                event_field_names(ACCESS_CONTROL, access_control::ACCESS_CONTROL_ENTRY_CHANGED)
+            }
+        };
+        name_among(names, field as u32)
+    }
+
+    /// What stands in a field.
+    pub(crate) fn inner(self, field: u8) -> Shape {
+        match (self, field) {
+            (Shape::Entry, access_control::TARGETS) => Shape::Fields(target_field_names()),
+            (Shape::Changed, 4) => Shape::Entry,
+            _ => unknown(),
+        }
+    }
+
+    /// What a number in a field stands for; None where it is a number alone.
+    pub(crate) fn meaning(self, field: u8, number: u64) -> Option<&'static str> {
+        match (self, field) {
+            (Shape::Entry, access_control::PRIVILEGE) => privilege(number),
+            (Shape::Entry, access_control::AUTH_MODE) => auth(number),
+            (Shape::Changed, 3) => change(number),
+            _ => None,
+        }
+    }
+
+    /// Whether a field names whom an entry is for.
+    pub(crate) fn has_subjects(self, field: u8) -> bool {
+        match self {
+            Shape::Entry => field == access_control::SUBJECTS,
+            _ => false,
+        }
+    }
+
+    /// Whether null in a field means that there are none.
+    pub(crate) fn has_none(self, field: u8) -> bool {
+        match (self, field) {
+            (Shape::Entry, access_control::SUBJECTS | access_control::TARGETS) => true,
+            _ => false,
+        }
+    }
+}
+
+// The name of the privilege of a number.
+fn privilege(number: u64) -> Option<&'static str> {
+    for privilege in [
+        Privilege::View,
+        Privilege::ProxyView,
+        Privilege::Operate,
+        Privilege::Manage,
+        Privilege::Administer,
+    ] {
+        if privilege as u64 == number {
+            return Some(privilege_name(privilege));
+        }
+    }
+    None
+}
+
+// The name of the mode of a number.
+fn auth(number: u64) -> Option<&'static str> {
+    for auth in [Auth::Pase, Auth::Case, Auth::Group] {
+        if auth as u64 == number {
+            return Some(auth_name(auth));
+        }
+    }
+    None
+}
+
+// What happened to an entry.
+fn change(number: u64) -> Option<&'static str> {
+    match number {
+        0 => Some("changed"),
+        1 => Some("added"),
+        2 => Some("removed"),
+        _ => None,
+    }
+}

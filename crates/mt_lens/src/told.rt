@@ -1,0 +1,80 @@
+//! What is told: a line of a recording and what came of it.
+
+use mt_frame::ProtocolHeader;
+use mt_im::ImFault;
+use mt_model::{Event, Request, Sent};
+
+/// A line of the recording and what came of it.
+#[derive(Drop)]
+pub struct Told<'a> {
+    /// Its number, from 1.
+    pub line: u64,
+    pub event: &'a Event,
+    /// What was asked, where it is a line of a plain actor.
+    pub asked: Option<Result<Request, ImFault>>,
+    /// What stands in the datagram, where it is one.
+    pub letter: Option<Letter>,
+    /// What an expiry of the fail-safe takes back, where it expires in this time step.
+    pub expiry: Option<Expiry>,
+    /// What was sent. None where the node does not support the line yet.
+    pub sent: Option<Vec<Message<'a>>>,
+}
+
+/// What an expiry of the fail-safe takes back, beside the networks.
+#[derive(Clone, Copy)]
+pub struct Expiry {
+    /// The fabric that was added since it was armed, which leaves.
+    pub added: Option<u8>,
+    /// The fabric that got new credentials since, which has its earlier ones again.
+    pub updated: Option<u8>,
+}
+
+/// A message that was sent.
+#[derive(Drop)]
+pub struct Message<'a> {
+    pub sent: &'a Sent,
+    /// What stands in the datagram, where it is one.
+    pub letter: Option<Letter>,
+}
+
+/// Whose session it is.
+#[derive(Clone, Copy)]
+pub struct Owner {
+    /// The node's id of the session.
+    pub session: u16,
+    /// The peer's fabric; 0 on PASE.
+    pub fabric: u8,
+    pub node: u64,
+}
+
+/// What the header of a datagram names.
+#[derive(Clone, Copy)]
+pub struct Heading {
+    /// The id of the session, as the receiver has it.
+    pub session: u16,
+    pub counter: u32,
+}
+
+/// What stands in a datagram.
+#[derive(Drop)]
+pub struct Letter {
+    /// What its header names, where that can be read.
+    pub heading: Option<Heading>,
+    /// Whose session that is, None where it is none of the configuration's.
+    pub owner: Option<Owner>,
+    /// How many bytes the datagram has.
+    pub length: usize,
+    pub content: Content,
+}
+
+/// A message, or why it can't be shown.
+#[derive(Drop)]
+pub enum Content {
+    Open {
+        header: ProtocolHeader,
+        payload: Vec<u8>,
+    },
+    /// The message was let in before.
+    Again(ProtocolHeader),
+    Closed(&'static str),
+}

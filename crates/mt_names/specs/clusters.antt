@@ -1,0 +1,10 @@
+pub mod AccessControl
+pub mod BasicInformation
+pub mod Bench
+pub mod Binding
+pub mod Descriptor
+pub mod GeneralCommissioning
+pub mod NetworkCommissioning
+pub mod OnOff
+pub mod OperationalCredentials
+pub mod UserLabel
