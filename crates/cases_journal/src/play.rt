@@ -138,22 +138,10 @@ fn appended(rt: &HostRuntime, journal: &mut TestJournal, change: &[u8]) -> io::R
 
 // Sets where the disk stops.
 fn stop(journal: &mut TestJournal, word: &str) {
-    let kept = word.strip_suffix("kept");
-    let lost = word.strip_suffix("lost");
-    let torn = word.strip_suffix("torn");
-    if let Some(calls) = kept {
-        journal
-            .disk
-            .stop_at(calls.parse::<u64>().unwrap_or(0), Fate::Kept);
-    }
-    if let Some(calls) = lost {
-        journal
-            .disk
-            .stop_at(calls.parse::<u64>().unwrap_or(0), Fate::Lost);
-    }
-    if let Some(calls) = torn {
-        journal
-            .disk
-            .stop_at(calls.parse::<u64>().unwrap_or(0), Fate::Torn);
+    for fate in [Fate::Kept, Fate::Lost, Fate::Torn] {
+        if let Some(calls) = word.strip_suffix(fate.text()) {
+            let calls = calls.parse::<u64>().unwrap_or(0);
+            journal.disk.stop_at(calls, fate);
+        }
     }
 }

@@ -94,13 +94,8 @@ fn print_done(rt: &HostRuntime, done: Result<(), Failed>, faults: u64) -> io::Re
 
 // Sets where the disk stops.
 fn stop(store: &mut TestStore, word: &str) {
-    let fates = [
-        ("kept", Fate::Kept),
-        ("lost", Fate::Lost),
-        ("torn", Fate::Torn),
-    ];
-    for (name, fate) in fates {
-        if let Some(calls) = word.strip_suffix(name) {
+    for fate in [Fate::Kept, Fate::Lost, Fate::Torn] {
+        if let Some(calls) = word.strip_suffix(fate.text()) {
             let calls = calls.parse::<u64>().unwrap_or(0);
             store.journal.disk.stop_at(calls, fate);
         }

@@ -1,6 +1,6 @@
 -- One turn of a scan, and its end.
 use Rattle.std.proofs.Common.{◌≡◌, ℕ, suc, ◌+◌, ◌-◌, ◌<◌, ◌≤◌, min, Bool, true, false, ◌==◌, ◌&&◌, List, [], ◌∷◌, ◌++◌, length, Option, Some, None, Result, Ok, Err, refl, ap, sym, ◌∙◌, subst, arith}
-use Rattle.std.specs.Prelude.{slice_get, slice_index, if◌then◌else◌}
+use Rattle.std.specs.Prelude.{option_to_list, slice_get, slice_index, if◌then◌else◌}
 use Rattle.std.proofs.lemmas.List.Sums.{sum_by-append}
 use Rattle.mt_tlv.specs.declared.fault.TlvFault.{TlvFault}
 use Rattle.mt_tlv.specs.Parts.{Piece, scalar, text, octets, enter, leave, Place, next_at}
@@ -8,7 +8,7 @@ use Rattle.mt_tlv.specs.Runs.{Comes}
 use Rattle.mt_codes.specs.declared.paths.Step.{Step}
 use Rattle.mt_codes.specs.declared.place.At.{At}
 use Rattle.mt_codes.specs.Codes.{occurrences, most, AreCounted}
-use Rattle.mt_codes.specs.Scan.{told, after, option_list, all_told, is_on_path, goes_next_into}
+use Rattle.mt_codes.specs.Scan.{told, after, all_told, is_on_path, goes_next_into}
 
 abbrev part_in : Result (Option Piece × Place) TlvFault → Option Piece
 part_in (Ok x) = x.0
@@ -52,7 +52,7 @@ counted_on : (code n n' all : ℕ) (one rest : List ℕ) → n' ≡ min (n + occ
 counted_on code n n' all one rest e f = omega (arith, occurrences-append code one rest)
 
 pub onward : (path : List Step) (a a' : At) (x : Piece) (number : Option ℕ) (p m end : Place) (counter total : ℕ) (counts counts' : List ℕ) (all : ℕ → ℕ) (ys : List Piece)
-    → next_at p ≡ Ok (Some x, m) → number ≡ told path a x → a' ≡ after path a x → AreCounted (option_list number) counts counts' → next_at end ≡ Ok (None, end)
+    → next_at p ≡ Ok (Some x, m) → number ≡ told path a x → a' ≡ after path a x → AreCounted (option_to_list number) counts counts' → next_at end ≡ Ok (None, end)
     → Comes p ys end → counter + length ys ≤ total
     → ((code : ℕ) → code < 256 → min (slice_index counts code + occurrences code (all_told path a ys)) most ≡ all code)
     → (rest : List Piece) × Comes m rest end × (counter + 1 + length rest ≤ total)
@@ -64,9 +64,9 @@ onward path a a' x number p m end counter total counts counts' all ys n t f coun
       q.2,
       omega arith,
       λ code below.
-          counted_on code (slice_index counts code) (slice_index counts' code) (all code) (option_list number) (all_told path a' q.0) (counted code below)
+          counted_on code (slice_index counts code) (slice_index counts' code) (all code) (option_to_list number) (all_told path a' q.0) (counted code below)
           (ap (λ ns. min (slice_index counts code + occurrences code ns) most)
-          (ap (λ o. option_list o ++ all_told path a' q.0) t ∙ ap (λ b. option_list (told path a x) ++ all_told path b q.0) f ∙ ap (all_told path a) (sym q.1))
+          (ap (λ o. option_to_list o ++ all_told path a' q.0) t ∙ ap (λ b. option_to_list (told path a x) ++ all_told path b q.0) f ∙ ap (all_told path a) (sym q.1))
           ∙ so_far code below),
     )
 

@@ -1,6 +1,6 @@
 -- A scan over the parts of an element tells of the numbers to which the path leads.
 use Rattle.std.proofs.Common.{◌≡◌, ℕ, zero, suc, ◌+◌, ◌-◌, Bool, true, false, ◌==◌, ◌&&◌, List, [], ◌∷◌, ◌++◌, Option, Some, None, drop, refl, ap, sym, ◌∙◌, append_assoc, append-nil, arith}
-use Rattle.std.specs.Prelude.{is_none, slice_get, if◌then◌else◌}
+use Rattle.std.specs.Prelude.{is_none, option_to_list, slice_get, if◌then◌else◌}
 use Rattle.mt_tlv.specs.declared.value.Tag.{Tag}
 use Rattle.mt_tlv.specs.Tree.{Tree, int, uint, bool, text, octets, null, bits32, bits64, structure, array, list, Elements, none, more}
 use Rattle.mt_tlv.specs.Parts.{Piece, scalar, enter, leave}
@@ -8,7 +8,7 @@ use Rattle.mt_tlv.specs.Runs.{parts_of, parts_inside}
 use Rattle.mt_codes.specs.declared.paths.Step.{Step}
 use Rattle.mt_codes.specs.declared.place.At.{At}
 use Rattle.mt_codes.specs.Codes.{picks, is_of_structure, number_behind, codes_at, codes_among}
-use Rattle.mt_codes.specs.Scan.{all_told, is_on_path, option_list}
+use Rattle.mt_codes.specs.Scan.{all_told, is_on_path}
 
 abbrev at : ℕ → ℕ → At
 at k p = record { on_path = k; passed_over = p }
@@ -84,7 +84,7 @@ quiet true ns = refl
 quiet false ns = refl
 
 number_told : (steps : List Step) (o : Option Step) (b : Bool) (n : ℕ) (ns : List ℕ) → (steps ≡ [] → o ≡ None) → ((step : Step) (rest : List Step) → steps ≡ step ∷ rest → o ≡ Some step)
-    → option_list (if is_none o && b then Some n else None) ++ ns ≡ (if b then number_behind n steps else []) ++ ns
+    → option_to_list (if is_none o && b then Some n else None) ++ ns ≡ (if b then number_behind n steps else []) ++ ns
 number_told [] o true n ns e f = rw (e refl) refl
 number_told [] o false n ns e f = rw (e refl) refl
 number_told (step ∷ steps) o true n ns e f = rw (f step steps refl) refl

@@ -1,5 +1,5 @@
 -- How a scan goes over the parts of an element.
-use Rattle.std.specs.Prelude.{ℕ, ◌+◌, ◌-◌, Bool, true, false, ◌==◌, ◌&&◌, List, [], ◌∷◌, ◌++◌, Option, Some, None, is_none, slice_get, if◌then◌else◌}
+use Rattle.std.specs.Prelude.{ℕ, ◌+◌, ◌-◌, Bool, true, false, ◌==◌, ◌&&◌, List, [], ◌∷◌, ◌++◌, Option, Some, None, is_none, option_to_list, slice_get, if◌then◌else◌}
 use Rattle.mt_tlv.specs.declared.value.Tag.{Tag}
 use Rattle.mt_tlv.specs.Tree.{int, uint, bool, text, octets, null, bits32, bits64, structure, array, list}
 use Rattle.mt_tlv.specs.Parts.{Piece, scalar, enter, leave}
@@ -62,14 +62,10 @@ after path at (parts.octets tag s) = at
 after path at (enter tag type) = inside path at tag type
 after path at leave = outside at
 
-abbrev pub option_list : Option ℕ → List ℕ
-option_list None = []
-option_list (Some n) = n ∷ []
-
 -- the numbers that a scan tells of over these parts
 abbrev pub all_told : List Step → At → List Piece → List ℕ
 all_told path at [] = []
-all_told path at (x ∷ xs) = option_list (told path at x) ++ all_told path (after path at x) xs
+all_told path at (x ∷ xs) = option_to_list (told path at x) ++ all_told path (after path at x) xs
 
 -- in front of an element
 abbrev pub outermost : At

@@ -1,6 +1,6 @@
 //! How often each status code stands in a message.
 
-ghost use Rattle.std.specs.Prelude.{◌≡◌, ◌≤◌, ◌<◌, ◌++◌, ℕ, List, Ok, None, length, slice_index};
+ghost use Rattle.std.specs.Prelude.{◌≡◌, ◌≤◌, ◌<◌, ◌++◌, ℕ, List, Ok, None, length, option_to_list, slice_index};
 ghost use Rattle.mt_tlv.specs.declared.value.Tag.{Tag};
 ghost use Rattle.mt_tlv.specs.Tree.{Tree};
 ghost use Rattle.mt_tlv.specs.Limits.{IsElement};
@@ -8,7 +8,7 @@ ghost use Rattle.mt_tlv.specs.Parts.{Piece, Place, start, next_at};
 ghost use Rattle.mt_tlv.specs.Runs.{Comes};
 ghost use Rattle.mt_codes.specs.Paths.{path_of};
 ghost use Rattle.mt_codes.specs.Codes.{codes_of, AreCounted};
-ghost use Rattle.mt_codes.specs.Scan.{all_told, option_list, outermost};
+ghost use Rattle.mt_codes.specs.Scan.{all_told, outermost};
 
 use crate::paths::{Step, path_to_codes};
 use crate::place::{At, behind, number_in};
@@ -56,7 +56,7 @@ fn count_on_path(path: &[Step], payload: &[u8], counts: &mut [u64; 256])
 }
 
 fn count(number: Option<u64>, counts: &mut [u64; 256])
-    ensures { AreCounted (option_list number) counts.old counts.new }
+    ensures { AreCounted (option_to_list number) counts.old counts.new }
 {
     if let Some(code) = number
         && code < 256

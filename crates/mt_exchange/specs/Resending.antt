@@ -1,6 +1,6 @@
 -- Sending again what was not acknowledged (Matter Core Specification, section 4.11, Message Reliability
 -- Protocol; the waits are this project's own, without jitter).
-use Rattle.std.specs.Prelude.{ℕ, ◌+◌, ◌==◌, ◌&&◌, nat_lt, nat_le, min, Bool, not, List, [], ◌∷◌, map, filter, Option, Some, None, if◌then◌else◌}
+use Rattle.std.specs.Prelude.{ℕ, ◌+◌, ◌==◌, ◌&&◌, nat_lt, nat_le, min, Bool, not, List, [], ◌∷◌, map, filter, Option, Some, None, option_to_list, if◌then◌else◌}
 use Rattle.std.specs.List.{flat_map, list_any}
 use Rattle.mt_exchange.specs.declared.exchange.Owed.{Owed}
 use Rattle.mt_exchange.specs.declared.exchange.Exchange.{Exchange}
@@ -49,13 +49,9 @@ due_of now x = map (λ o. o.datagram) (filter (is_due now) x.owed)
 abbrev pub due_again : ℕ → List Exchange → List (List ℕ)
 due_again now open_ones = flat_map (due_of now) (remaining now open_ones)
 
-abbrev pub listed : Option ℕ → List ℕ
-listed None = []
-listed (Some x) = x ∷ []
-
 -- the subscription of an exchange that a resend step closes
 abbrev pub ended_of : ℕ → Exchange → List ℕ
-ended_of now x = if closes now x then listed x.subscription else []
+ended_of now x = if closes now x then option_to_list x.subscription else []
 
 -- the subscriptions of the exchanges that a resend step closes
 abbrev pub ended_by : ℕ → List Exchange → List ℕ

@@ -20,7 +20,7 @@ use Rattle.mt_model.specs.declared.texts.recording.To.TheVariants.{Plain, Sessio
 use Rattle.mt_files.specs.declared.line_fault.LineKind.{LineKind}
 use Rattle.mt_files.specs.declared.line_fault.LineKind.TheVariants.{Hex}
 use Rattle.mt_files.specs.Event.{ask_of, datagram_of, event_fields, event_line, line_event, report_of, resend_of, stop_of, tick_of, told_in}
-use Rattle.mt_files.specs.Field.{fate_text}
+use Rattle.mt_outside.specs.Fates.{fate_text}
 use Rattle.mt_files.specs.Form.{HasForm, IsEvent, IsSent, IsTo}
 use Rattle.mt_files.specs.Lines.{lines_of, parts_of}
 use Rattle.mt_files.specs.Output.{fields_to, sent_line, IsOutput}

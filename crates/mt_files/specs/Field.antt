@@ -4,6 +4,7 @@ use Rattle.std.specs.Int.{w16, from_be_bytes, to_be_bytes}
 use Rattle.std.specs.Option.{option_and_then, option_map}
 use Rattle.hex.specs.Hex.{decode_of, decode_sized, encode_lower}
 use Rattle.hex.specs.declared.error.FromHexError.{FromHexError}
+use Rattle.mt_outside.specs.Fates.{fate_text}
 use Rattle.mt_outside.specs.declared.fate.Fate.{Fate}
 use Rattle.mt_outside.specs.declared.fate.Fate.TheVariants.{Kept, Lost, Torn}
 use Rattle.mt_outside.specs.declared.network.Peer.{Peer}
@@ -80,12 +81,7 @@ peer_text peer = encode_lower peer.ip ++ encode_lower (to_be_bytes w16 peer.port
 
 abbrev pub fate_in : List ℕ → Option Fate
 fate_in text =
-    if text_is text (codes "kept") then Some Kept
-    else if text_is text (codes "lost") then Some Lost
-    else if text_is text (codes "torn") then Some Torn
+    if text_is text (fate_text Kept) then Some Kept
+    else if text_is text (fate_text Lost) then Some Lost
+    else if text_is text (fate_text Torn) then Some Torn
     else None
-
-abbrev pub fate_text : Fate → List ℕ
-fate_text Kept = codes "kept"
-fate_text Lost = codes "lost"
-fate_text Torn = codes "torn"

@@ -5,7 +5,6 @@ ghost use Rattle.std.specs.Io.{StartsWith};
 ghost use Rattle.mt_files.specs.Event.{event_line};
 ghost use Rattle.mt_files.specs.Lines.{ended};
 
-use crate::field::fate_text;
 use crate::subject::push_subject;
 use crate::writing::{
     push_head, push_last_number, push_letter, push_message, push_number, push_payload, push_peer,
@@ -56,7 +55,7 @@ pub fn push_event(event: &Event, out: &mut Vec<u8>) -> Result<(), AllocError>
         }
         Event::Stop { calls, fate } => {
             push_head(b'X', *calls, out)?;
-            out.extend_from_slice(fate_text(*fate).as_bytes())?;
+            out.extend_from_slice(fate.text().as_bytes())?;
             out.push(b'\n')?;
             Ok(())
         }

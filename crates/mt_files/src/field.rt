@@ -3,7 +3,7 @@
 ghost use Rattle.std.specs.Prelude.{◌≡◌, ◌↔◌, ◌≤◌, ◌*◌, if◌then◌else◌, length, Some, None, IfOk, IfSome};
 ghost use Rattle.mt_model.specs.declared.limits.TheConstants.{LAST_TIME};
 ghost use Rattle.hex.specs.Hex.{decode_of, hex_digit_value};
-ghost use Rattle.mt_files.specs.Field.{bytes_in, digits_from, fate_in, fate_text, number_between, ok_of, opcode_in, payload_in, peer_in, port_in, up_to};
+ghost use Rattle.mt_files.specs.Field.{bytes_in, digits_from, fate_in, number_between, ok_of, opcode_in, payload_in, peer_in, port_in, up_to};
 
 use mt_model::limits::LAST_TIME;
 use mt_outside::{Fate, Peer};
@@ -153,24 +153,13 @@ fn port(text: &[u8]) -> Option<u16>
 pub fn fate(text: &[u8]) -> Option<Fate>
     ensures { result ≡ fate_in text.now }
 {
-    if text == b"kept".as_slice() {
+    if text == Fate::Kept.text().as_bytes() {
         Some(Fate::Kept)
-    } else if text == b"lost".as_slice() {
+    } else if text == Fate::Lost.text().as_bytes() {
         Some(Fate::Lost)
-    } else if text == b"torn".as_slice() {
+    } else if text == Fate::Torn.text().as_bytes() {
         Some(Fate::Torn)
     } else {
         None
-    }
-}
-
-/// The word for what becomes of a disk that stops.
-pub fn fate_text(fate: Fate) -> &'static str
-    ensures { result.now ≡ fate_text fate }
-{
-    match fate {
-        Fate::Kept => "kept",
-        Fate::Lost => "lost",
-        Fate::Torn => "torn",
     }
 }

@@ -11,4 +11,3 @@ pub mod Plans
 pub mod Rules
 pub mod RowsBehind
 pub mod Same
-pub mod Sessions

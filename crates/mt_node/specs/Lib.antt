@@ -2,4 +2,3 @@ pub mod Answered
 pub mod Differences
 pub mod Kept
 pub mod Plan
-pub mod Sessions

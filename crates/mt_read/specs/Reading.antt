@@ -2,9 +2,8 @@
 -- fabric sees.
 use Rattle.std.specs.Prelude.{◌==◌, ◌&&◌, Bool, false, List, [], ◌∷◌, Option, Some, None, Result, Ok, Err, filter, if◌then◌else◌}
 use Rattle.std.specs.List.{flat_map, list_any}
-use Rattle.mt_tlv.specs.Tree.{Elements, none, more}
+use Rattle.mt_tlv.specs.Tree.{Tree}
 use Rattle.mt_tlv.specs.View.{tree}
-use Rattle.mt_tlv.specs.declared.value.Tag.TheVariants.{Anonymous}
 use Rattle.mt_tlv.specs.declared.value.Value.{Value}
 use Rattle.mt_tlv.specs.declared.value.Value.TheVariants as values
 use Rattle.mt_acl.specs.Access.{is_granted_if_asked}
@@ -13,6 +12,7 @@ use Rattle.mt_meta.specs.Places.{is_not_global, places}
 use Rattle.mt_meta.specs.declared.clusters.TheConstants.{OPERATIONAL_CREDENTIALS}
 use Rattle.mt_meta.specs.declared.finding.Asked.TheVariants.{Read}
 use Rattle.mt_meta.specs.declared.meta.Meta.{Meta}
+use Rattle.mt_model.specs.Trees.{untagged}
 use Rattle.mt_model.specs.messages.Blocks.{path_of, place_named}
 use Rattle.mt_model.specs.rows.Seen.{Seen}
 use Rattle.mt_model.specs.messages.Status.{code_of}
@@ -35,9 +35,8 @@ may_read seen actor place = is_granted_if_asked seen.entries actor place (privil
 
 -- Values.
 
-abbrev pub items_of : List Row → Elements
-items_of [] = none
-items_of (row ∷ rows) = more Anonymous (tree row.value) (items_of rows)
+abbrev pub row_tree : Row → Tree
+row_tree row = tree row.value
 
 -- the reader's own items alone, where that is asked
 abbrev pub wanted_rows : Actor → Bool → List Row → List Row
@@ -51,7 +50,7 @@ is_current_fabric place = place.cluster == OPERATIONAL_CREDENTIALS && place.leaf
 abbrev pub value_of : Seen → Actor → Bool → Place → Meta → Value
 value_of seen actor filtered place meta =
     if is_current_fabric place then values.Uint actor.fabric
-    else if meta.scoped then values.Array (items_of (wanted_rows actor filtered (seen.rows_at place)))
+    else if meta.scoped then values.Array (untagged row_tree (wanted_rows actor filtered (seen.rows_at place)))
     else first_value (seen.rows_at place)
 
 -- Items.

@@ -35,12 +35,12 @@ fn row_set<'a>(step: &'a NodeStep, place: &Place, fabric: u8) -> Option<&'a Valu
             place: at,
             fabric: whose,
             values,
-        } if is_there(at, place) && *whose == fabric => Some(values),
+        } if same_place(at, place) && *whose == fabric => Some(values),
         _ => None,
     }
 }
 
-fn is_there(at: &Place, place: &Place) -> bool
+fn same_place(at: &Place, place: &Place) -> bool
     ensures { result ≡ same_place at.now place.now }
 {
     at.endpoint == place.endpoint && at.cluster == place.cluster && at.leaf == place.leaf
