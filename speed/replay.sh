@@ -29,7 +29,7 @@ counts() {
     ' "$folder/counts"
 }
 
-for name in attribute endpoint-0 endpoint-1 entries paths all-entries roots label items-by-turns own-entries toggle joins; do
+for name in attribute endpoint-0 endpoint-1 entries paths all-entries roots label items-by-turns own-entries toggle joins sealed-1 sealed-8 sealed-64; do
     crates/speed_replay/out/speed_replay configuration "$name" >"$folder/configuration"
     echo "$name $lines $(counts "$name" "$lines") $(counts "$name" 0)"
 done | awk '{

@@ -1,21 +1,21 @@
 -- A recording that is played event by event.
 use Rattle.std.proofs.Common.{◌≡◌, ℕ, ◌+◌, ◌<◌, ◌≤◌, true, false, cond, List, [], ◌∷◌, ◌++◌, length, drop, get_or, Option, Some, None, refl, sym, ap, subst, ◌∙◌, append_assoc}
 use Rattle.std.proofs.lemmas.List.{append-nil, drop_all, drop_more}
-use Rattle.std.proofs.lemmas.List.Sums.{take_while-cons}
 use Rattle.mt_outside.specs.Stream.{Took, TookLess}
 use Rattle.mt_outside.specs.Laws.{StreamLaws}
 use Rattle.mt_model.specs.declared.texts.recording.Event.{Event}
 use Rattle.mt_model.specs.declared.texts.recording.Sent.{Sent}
 use Rattle.mt_files.specs.Lines.{ended}
 use Rattle.mt_files.specs.Output.{output_text, sent_line}
-use Rattle.mt_machine.specs.Lines.{built_events, is_built, run}
-use Rattle.mt_top.specs.Begun.{Begun, behind, sent_by}
+use Rattle.mt_lines.specs.Lines.{run}
+use Rattle.mt_top.specs.Begun.{Begun, IsPlayerOf, behind, is_built, sent_by}
+use Rattle.mt_top.specs.declared.playing.Player.{Player}
 use Rattle.mt_top.specs.declared.fault.Fault.TheVariants.{Unbuilt}
 use Rattle.mt_top.specs.Endings.{unbuilt_from}
 
 -- what is sent for events, up to the first that is not built
 abbrev pub sent_of : Begun → List Event → List Sent
-sent_of s events = run s.given s.state (built_events events)
+sent_of s events = run s.given s.whole events
 
 pub output-append : (xs ys : List Sent) → output_text (xs ++ ys) ≡ output_text xs ++ output_text ys
 output-append [] ys = refl
@@ -26,44 +26,41 @@ pub output-one : (xs : List Sent) (x : Sent) → output_text (xs ++ x ∷ []) �
 output-one xs x = output-append xs (x ∷ []) ∙ ap (λ (w : List ℕ). output_text xs ++ w) (append-nil (ended (sent_line x)))
 
 -- an event that is built
-sent_built : (s : Begun) (event : Event) (events : List Event) → is_built event ≡ true → sent_of s (event ∷ events) ≡ sent_by s event ++ sent_of (behind s event) events
-sent_built s event events built = ap (run s.given s.state) (take_while-cons is_built event events) ∙ ap (λ t. run s.given s.state (cond t (event ∷ built_events events) [])) built
+sent_built : (s : Begun) (event : Event) (events : List Event) → is_built s event ≡ true → sent_of s (event ∷ events) ≡ sent_by s event ++ sent_of (behind s event) events
+sent_built s event events built = ap (λ t. cond t (sent_by s event ++ sent_of (behind s event) events) []) built
 
-sent_unbuilt : (s : Begun) (event : Event) (events : List Event) → is_built event ≡ false → sent_of s (event ∷ events) ≡ []
-sent_unbuilt s event events not = ap (run s.given s.state) (take_while-cons is_built event events) ∙ ap (λ t. run s.given s.state (cond t (event ∷ built_events events) [])) not
+sent_unbuilt : (s : Begun) (event : Event) (events : List Event) → is_built s event ≡ false → sent_of s (event ∷ events) ≡ []
+sent_unbuilt s event events not = ap (λ t. cond t (sent_by s event ++ sent_of (behind s event) events) []) not
 
-unbuilt_built : (line : ℕ) (event : Event) (events : List Event) → is_built event ≡ true → unbuilt_from line (event ∷ events) ≡ unbuilt_from (line + 1) events
-unbuilt_built line event events built = ap (λ t. cond t (unbuilt_from (line + 1) events) (Some (Unbuilt line))) built
+unbuilt_built : (line : ℕ) (s : Begun) (event : Event) (events : List Event) → is_built s event ≡ true → unbuilt_from line s (event ∷ events) ≡ unbuilt_from (line + 1) (behind s event) events
+unbuilt_built line s event events built = ap (λ t. cond t (unbuilt_from (line + 1) (behind s event) events) (Some (Unbuilt line))) built
 
-unbuilt_here : (line : ℕ) (event : Event) (events : List Event) → is_built event ≡ false → unbuilt_from line (event ∷ events) ≡ Some (Unbuilt line)
-unbuilt_here line event events not = ap (λ t. cond t (unbuilt_from (line + 1) events) (Some (Unbuilt line))) not
+unbuilt_here : (line : ℕ) (s : Begun) (event : Event) (events : List Event) → is_built s event ≡ false → unbuilt_from line s (event ∷ events) ≡ Some (Unbuilt line)
+unbuilt_here line s event events not = ap (λ t. cond t (unbuilt_from (line + 1) (behind s event) events) (Some (Unbuilt line))) not
 
 -- One more event, at this place of all.
 pub drop_event : (all : List Event) (i : ℕ) (event : Event) → i < length all → event ≡ get_or all i event → drop i all ≡ event ∷ drop (i + 1) all
 drop_event all i event lt is = drop_more all i event lt ∙ ap (λ e. e ∷ drop (i + 1) all) (sym is)
 
-pub sent-step : (s new : Begun) (all : List Event) (i : ℕ) (event : Event) → i < length all → event ≡ get_or all i event → is_built event ≡ true → new ≡ behind s event → sent_of s (drop i all) ≡ sent_by s event ++ sent_of new (drop (i + 1) all)
-sent-step s new all i event lt is built step =
-    ap (sent_of s) (drop_event all i event lt is)
-    ∙ sent_built s event (drop (i + 1) all) built
-    ∙ ap (λ x. sent_by s event ++ sent_of x (drop (i + 1) all)) (sym step)
+pub sent-step : (s : Begun) (all : List Event) (i : ℕ) (event : Event) → i < length all → event ≡ get_or all i event → is_built s event ≡ true → sent_of s (drop i all) ≡ sent_by s event ++ sent_of (behind s event) (drop (i + 1) all)
+sent-step s all i event lt is built = ap (sent_of s) (drop_event all i event lt is) ∙ sent_built s event (drop (i + 1) all) built
 
-pub unbuilt-step : (line : ℕ) (all : List Event) (i : ℕ) (event : Event) → i < length all → event ≡ get_or all i event → is_built event ≡ true → unbuilt_from line (drop i all) ≡ unbuilt_from (line + 1) (drop (i + 1) all)
-unbuilt-step line all i event lt is built = ap (unbuilt_from line) (drop_event all i event lt is) ∙ unbuilt_built line event (drop (i + 1) all) built
+pub unbuilt-step : (line : ℕ) (s : Begun) (all : List Event) (i : ℕ) (event : Event) → i < length all → event ≡ get_or all i event → is_built s event ≡ true → unbuilt_from line s (drop i all) ≡ unbuilt_from (line + 1) (behind s event) (drop (i + 1) all)
+unbuilt-step line s all i event lt is built = ap (unbuilt_from line s) (drop_event all i event lt is) ∙ unbuilt_built line s event (drop (i + 1) all) built
 
 -- the event at this place is not built
-pub sent-stop : (s : Begun) (all : List Event) (i : ℕ) (event : Event) → i < length all → event ≡ get_or all i event → is_built event ≡ false → sent_of s (drop i all) ≡ []
+pub sent-stop : (s : Begun) (all : List Event) (i : ℕ) (event : Event) → i < length all → event ≡ get_or all i event → is_built s event ≡ false → sent_of s (drop i all) ≡ []
 sent-stop s all i event lt is not = ap (sent_of s) (drop_event all i event lt is) ∙ sent_unbuilt s event (drop (i + 1) all) not
 
-pub unbuilt-stop : (line : ℕ) (all : List Event) (i : ℕ) (event : Event) → i < length all → event ≡ get_or all i event → is_built event ≡ false → unbuilt_from line (drop i all) ≡ Some (Unbuilt line)
-unbuilt-stop line all i event lt is not = ap (unbuilt_from line) (drop_event all i event lt is) ∙ unbuilt_here line event (drop (i + 1) all) not
+pub unbuilt-stop : (line : ℕ) (s : Begun) (all : List Event) (i : ℕ) (event : Event) → i < length all → event ≡ get_or all i event → is_built s event ≡ false → unbuilt_from line s (drop i all) ≡ Some (Unbuilt line)
+unbuilt-stop line s all i event lt is not = ap (unbuilt_from line s) (drop_event all i event lt is) ∙ unbuilt_here line s event (drop (i + 1) all) not
 
 -- no more events
 pub sent-end : (s : Begun) (all : List Event) (i : ℕ) → length all ≤ i → sent_of s (drop i all) ≡ []
 sent-end s all i le = ap (sent_of s) (drop_all i all le)
 
-pub unbuilt-end : (line : ℕ) (all : List Event) (i : ℕ) → length all ≤ i → unbuilt_from line (drop i all) ≡ None
-unbuilt-end line all i le = ap (unbuilt_from line) (drop_all i all le)
+pub unbuilt-end : (line : ℕ) (s : Begun) (all : List Event) (i : ℕ) → length all ≤ i → unbuilt_from line s (drop i all) ≡ None
+unbuilt-end line s all i le = ap (unbuilt_from line s) (drop_all i all le)
 
 -- One more message at this place of all.
 pub text-step : (all : List Sent) (i : ℕ) (x : Sent) (text whole : List ℕ) → i < length all → x ≡ get_or all i x → text ++ output_text (drop i all) ≡ whole → (text ++ ended (sent_line x)) ++ output_text (drop (i + 1) all) ≡ whole
@@ -94,3 +91,12 @@ took-less laws a b c told more rest all text took is less whole =
     ∙ sym (output-append told (more ++ rest))
     ∙ ap output_text (sym whole) in
     subst (TookLess a c) spelled (laws.less_of_more a c (output_text told ++ text) (output_text rest) (laws.then_less a b c (output_text told) text took less))
+
+-- What was told so far of all events, and for which node the code stands before the rest.
+pub record SoFar (begun : Begun) (player : Player) (all rest : List Event) (line : ℕ) (before now : Option (List ℕ)) : Type 0 where
+  pub told : List Sent
+  pub at : Begun
+  pub stands : IsPlayerOf player at
+  pub took : Took before now (output_text told)
+  pub sent : sent_of begun all ≡ told ++ sent_of at rest
+  pub unbuilt : unbuilt_from 2 begun all ≡ unbuilt_from line at rest

@@ -16,8 +16,7 @@ use Rattle.mt_config.specs.declared.configuration.ConfigField.{ConfigField}
 use Rattle.mt_config.specs.declared.configuration.ConfigField.TheVariants.{Size}
 use Rattle.mt_files.specs.declared.line_fault.LineFault.{LineFault}
 use Rattle.mt_files.specs.declared.line_fault.LineFault.TheVariants as lines
-use Rattle.mt_machine.specs.Lines.{is_built}
-use Rattle.mt_top.specs.Begun.{begun_with}
+use Rattle.mt_top.specs.Begun.{begun_with, behind, is_built}
 use Rattle.mt_model.specs.texts.Contents.{contents_of}
 use Rattle.mt_top.specs.Begun.{Begun}
 use Rattle.mt_top.specs.declared.fault.Fault.{Fault}
@@ -81,16 +80,16 @@ recorded_badly lines.Memory old new bytes read why = tt
 
 -- No recording makes a configuration bad.
 
-unbuilt_else : (line : ℕ) (events : List Event) (t : Bool) → is_bad_config (unbuilt_from (line + 1) events) ≡ false → is_bad_config (cond t (unbuilt_from (line + 1) events) (Some (Unbuilt line))) ≡ false
-unbuilt_else line events true h = h
-unbuilt_else line events false h = refl
+unbuilt_else : (line : ℕ) (s : Begun) (events : List Event) (t : Bool) → is_bad_config (unbuilt_from (line + 1) s events) ≡ false → is_bad_config (cond t (unbuilt_from (line + 1) s events) (Some (Unbuilt line))) ≡ false
+unbuilt_else line s events true h = h
+unbuilt_else line s events false h = refl
 
-unbuilt_is_no_bad_config : (line : ℕ) (events : List Event) → is_bad_config (unbuilt_from line events) ≡ false
-unbuilt_is_no_bad_config line [] = refl
-unbuilt_is_no_bad_config line (event ∷ events) = unbuilt_else line events (is_built event) (unbuilt_is_no_bad_config (line + 1) events)
+unbuilt_is_no_bad_config : (line : ℕ) (s : Begun) (events : List Event) → is_bad_config (unbuilt_from line s events) ≡ false
+unbuilt_is_no_bad_config line s [] = refl
+unbuilt_is_no_bad_config line s (event ∷ events) = unbuilt_else line (behind s event) events (is_built s event) (unbuilt_is_no_bad_config (line + 1) (behind s event) events)
 
 recorded_is_no_bad_config : (s : Begun) (read : Result (List Event) LineFault) → is_bad_config (recorded s read).fault ≡ false
-recorded_is_no_bad_config s (Ok events) = unbuilt_is_no_bad_config 2 events
+recorded_is_no_bad_config s (Ok events) = unbuilt_is_no_bad_config 2 s events
 recorded_is_no_bad_config s (Err (lines.Line line kind)) = refl
 recorded_is_no_bad_config s (Err lines.TooLong) = refl
 recorded_is_no_bad_config s (Err lines.Memory) = refl

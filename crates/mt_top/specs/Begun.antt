@@ -1,24 +1,35 @@
 -- A node that was started, and what is given to it.
-use Rattle.std.specs.Prelude.{List}
+use Rattle.std.specs.Prelude.{◌≡◌, Bool, List}
 use Rattle.mt_model.specs.texts.Contents.{Contents}
 use Rattle.mt_model.specs.declared.texts.recording.Event.{Event}
 use Rattle.mt_model.specs.declared.texts.recording.Sent.{Sent}
 use Rattle.mt_machine.specs.Given.{Given, given_by}
-use Rattle.mt_machine.specs.Lines.{next, sent}
-use Rattle.mt_machine.specs.Opened.{whole_with}
-use Rattle.mt_machine.specs.State.{State}
+use Rattle.mt_lines.specs.Lines as lines
+use Rattle.mt_lines.specs.Lines.{next, sent}
+use Rattle.mt_lines.specs.Whole.{Whole, whole_with}
+use Rattle.mt_whole.specs.Plan.{given_to}
+use Rattle.mt_whole.specs.Talks.{IsWholeOf}
+use Rattle.mt_top.specs.declared.playing.Player.{Player}
 
 pub record Begun : Type 0 where
   pub given : Given
-  pub state : State
+  pub whole : Whole
 
 -- as a configuration begins it
 abbrev pub begun_with : Contents → Begun
-begun_with contents = record { given = given_by contents; state = whole_with contents.fabrics contents.entries contents.sessions }
+begun_with contents = record { given = given_by contents; whole = whole_with contents.fabrics contents.entries contents.sessions }
 
--- what it sends for an event, and itself behind it
+-- what it sends for an event, itself behind it, and whether that is built
 abbrev pub sent_by : Begun → Event → List Sent
-sent_by begun event = sent begun.given begun.state event
+sent_by begun event = sent begun.given begun.whole event
 
 abbrev pub behind : Begun → Event → Begun
-behind begun event = record begun { state = next begun.given begun.state event }
+behind begun event = record begun { whole = next begun.given begun.whole event }
+
+abbrev pub is_built : Begun → Event → Bool
+is_built begun event = lines.is_built begun.whole event
+
+-- A node as the code has it stands for this one.
+pub record IsPlayerOf (player : Player) (begun : Begun) : Type 0 where
+  pub given : given_to player.whole player.verdicts.roots player.verdicts.csrs player.verdicts.joins ≡ begun.given
+  pub whole : IsWholeOf player.whole begun.whole

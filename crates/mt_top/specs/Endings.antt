@@ -9,8 +9,8 @@ use Rattle.mt_files.specs.Output.{output_text}
 use Rattle.mt_files.specs.Recording.{recording_of}
 use Rattle.mt_config.specs.declared.configuration.ConfigField.{ConfigField}
 use Rattle.mt_files.specs.declared.line_fault.LineFault.{LineFault}
-use Rattle.mt_machine.specs.Lines.{built_events, is_built, run}
-use Rattle.mt_top.specs.Begun.{Begun, begun_with}
+use Rattle.mt_lines.specs.Lines.{run}
+use Rattle.mt_top.specs.Begun.{Begun, begun_with, behind, is_built}
 use Rattle.mt_top.specs.declared.fault.Fault.{Fault}
 use Rattle.mt_top.specs.declared.fault.Fault.TheVariants.{BadConfig, Unbuilt}
 use Rattle.mt_top.specs.Faults.{fault_line, fault_of, status_of}
@@ -38,13 +38,13 @@ abbrev pub refused : Fault → Ending
 refused fault = record { sent = []; fault = Some fault }
 
 -- the first line that is not built, where the first event stands in this line
-abbrev pub unbuilt_from : ℕ → List Event → Option Fault
-unbuilt_from line [] = None
-unbuilt_from line (event ∷ events) = if is_built event then unbuilt_from (line + 1) events else Some (Unbuilt line)
+abbrev pub unbuilt_from : ℕ → Begun → List Event → Option Fault
+unbuilt_from line begun [] = None
+unbuilt_from line begun (event ∷ events) = if is_built begun event then unbuilt_from (line + 1) (behind begun event) events else Some (Unbuilt line)
 
 -- Events are played up to the first that is not built. The first stands in line 2.
 abbrev pub played : Begun → List Event → Ending
-played begun events = record { sent = run begun.given begun.state (built_events events); fault = unbuilt_from 2 events }
+played begun events = record { sent = run begun.given begun.whole events; fault = unbuilt_from 2 begun events }
 
 -- a recording is checked whole before it is played
 abbrev pub recorded : Begun → Result (List Event) LineFault → Ending

@@ -9,8 +9,8 @@ use Rattle.mt_model.specs.declared.texts.recording.Sent.{Sent}
 use Rattle.mt_config.specs.Configuration.{IsConfiguration, configuration}
 use Rattle.mt_files.specs.Output.{output_text}
 use Rattle.mt_files.specs.Recording.{recording_of}
-use Rattle.mt_machine.specs.Lines.{is_built}
-use Rattle.mt_top.specs.Begun.{Begun, behind, sent_by}
+use Rattle.mt_top.specs.Begun.{Begun, IsPlayerOf, behind, is_built, sent_by}
+use Rattle.mt_top.specs.declared.playing.Player.{Player}
 use Rattle.mt_files.specs.declared.line_fault.LineFault.{LineFault}
 use Rattle.mt_top.specs.declared.fault.Fault.{Fault}
 use Rattle.mt_top.specs.declared.fault.Fault.TheVariants.{BadWords, BadConfig, ReadFault, WriteFault, Memory, Unbuilt}
@@ -51,14 +51,14 @@ Done ending old new = (config recording : List ℕ) × Reads ending old new conf
 abbrev pub PlayedTo : Ending → Option (List ℕ) → Option (List ℕ) → Type 0
 PlayedTo ending before after = (ending.fault ≡ None) × Took before after (output_text ending.sent)
 
--- the text is that of what an event sends, and the new state the one behind it
-abbrev pub Steps : List ℕ → Begun → Begun → Event → Type 0
-Steps text old new event = (text ≡ output_text (sent_by old event)) × (new ≡ behind old event)
+-- the text is that of what an event sends, and the node stands for the one behind it
+abbrev pub Steps : List ℕ → Begun → Player → Event → Type 0
+Steps text old new event = (text ≡ output_text (sent_by old event)) × IsPlayerOf new (behind old event)
 
 -- a step gives such a text where the event is built, and none otherwise
-abbrev pub StepsIf : Begun → Begun → Event → Option (Vec ℕ) → Type 0
-StepsIf old new event None = is_built event ≡ false
-StepsIf old new event (Some text) = (is_built event ≡ true) × Steps text.items old new event
+abbrev pub StepsIf : Begun → Player → Event → Option (Vec ℕ) → Type 0
+StepsIf old new event None = is_built old event ≡ false
+StepsIf old new event (Some text) = (is_built old event ≡ true) × Steps text.items old new event
 
 -- whether the sink is the cause
 abbrev pub is_write_fault : Fault → Bool

@@ -3,40 +3,27 @@
 ghost use Rattle.std.specs.Prelude.{◌≡◌, IfOk};
 ghost use Rattle.mt_files.specs.Output.{output_text};
 ghost use Rattle.mt_model.specs.texts.Contents.{contents_of};
-ghost use Rattle.mt_top.specs.Begun.{begun_with};
+ghost use Rattle.mt_top.specs.Begun.{Begun, IsPlayerOf, begun_with};
 ghost use Rattle.mt_top.specs.Parts.{StepsIf};
 
 use mt_files::write_sent;
 use mt_model::{Config, Event, Sent, TableVerdicts};
 use mt_whole::Whole;
 use std::alloc::{AllocError, Global};
-use std::marker::Model;
 
-/// A node, and the verdicts on certificates by which it plays. Contracts see its state and what is given to it.
+/// A node, and the verdicts on certificates by which it plays. It stands for what is given to a node, and for its whole
+/// with all that was said, which nothing stores.
 #[derive(Drop)]
 pub struct Player {
     alloc: Global,
-    whole: Whole,
-    verdicts: TableVerdicts,
-}
-
-impl Model for Player {
-    ghost use Rattle.mt_tlv.specs.contracts.value.Value as values;
-    ghost use Rattle.mt_top.specs.Begun.{Begun};
-    ghost use Rattle.mt_whole.specs.Kept.{given_to};
-    ghost use Rattle.std.specs.Coded.{codes};
-
-    ghost Value = { Begun };
-
-    ghost coded = { Prim.hlevel (codes, values.the_row.coded) };
-
-    ghost view = { λ player. record { given = given_to player.whole player.verdicts.roots player.verdicts.csrs player.verdicts.joins; state = player.whole.state } };
+    pub(crate) whole: Whole,
+    pub(crate) verdicts: TableVerdicts,
 }
 
 impl Player {
     /// A new node with this configuration, in its first boot.
     pub fn start(alloc: Global, config: &Config) -> Result<Player, AllocError>
-        ensures { IfOk result (λ player. player ≡ begun_with (contents_of config.now)) }
+        ensures { IfOk result (λ player. IsPlayerOf player (begun_with (contents_of config.now))) }
     {
         let whole = Whole::start(alloc, config)?;
         let verdicts = TableVerdicts::new(config)?;
@@ -50,7 +37,7 @@ impl Player {
     /// Makes of the node what the event makes of it, and gives the text of what is sent; None where the event is
     /// not built.
     pub fn step(&mut self, event: &Event) -> Result<Option<Vec<u8>>, AllocError>
-        ensures { IfOk result (StepsIf self.old self.new event.now) }
+        ensures { (begun : Begun) → IsPlayerOf self.old begun → IfOk result (StepsIf begun self.new event.now) }
     {
         let Some(outcome) = self.whole.plan(event, &self.verdicts)? else {
             return Ok(None);

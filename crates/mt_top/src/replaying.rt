@@ -2,7 +2,7 @@
 
 ghost use Rattle.std.specs.Prelude.{◌≡◌, ◌≢◌, ◌≤◌, false, Some, Err, IfErr, IfOk, OnOk};
 ghost use Rattle.mt_model.specs.texts.Contents.{contents_of};
-ghost use Rattle.mt_top.specs.Begun.{begun_with};
+ghost use Rattle.mt_top.specs.Begun.{Begun, IsPlayerOf, begun_with};
 ghost use Rattle.mt_top.specs.declared.fault.Fault.TheVariants.{Memory};
 ghost use Rattle.mt_top.specs.Faults.{fault_line};
 ghost use Rattle.mt_top.specs.Endings.{asked_of, played, replayed_from};
@@ -134,8 +134,9 @@ fn recorded<A: Source>(alloc: Global, first: &mut A) -> Result<Events, Fault>
 
 // Writes what the node sends over the events, up to the first that is not built.
 fn play<W: Sink>(mut player: Player, events: &Events, out: &mut W) -> Result<(), Fault>
-    ensures ok { OnOk result (PlayedTo (played player events.now) (W.written out.old) (W.written out.new)) }
-    ensures err { IfErr result (λ fault. StopsPlaying fault (played player events.now) (W.written out.old) (W.written out.new) (W.faults out.old) (W.faults out.new)) }
+    ensures ok { (begun : Begun) → IsPlayerOf player begun → OnOk result (PlayedTo (played begun events.now) (W.written out.old) (W.written out.new)) }
+    ensures err { (begun : Begun) → IsPlayerOf player begun
+        → IfErr result (λ fault. StopsPlaying fault (played begun events.now) (W.written out.old) (W.written out.new) (W.faults out.old) (W.faults out.new)) }
     ensures calm { result ≢ Err Fault.WriteFault → W.faults out.new ≡ W.faults out.old }
 {
     writings_add_up();

@@ -1,189 +1,198 @@
--- The outcome of a line, from the plan of the node's action.
-use Rattle.std.proofs.Common.{◌≡◌, ℕ, not, ◌==◌, ◌&&◌, ◌||◌, inl, inr, Bool, true, false, List, [], ◌∷◌, Option, None, Some, Result, Ok, Err, IfOk, filter, refl, sym, ap, ◌∙◌, if◌then◌else◌, unwrap_or}
-use Rattle.std.specs.List.{list_any}
-use Rattle.mt_im.specs.Reading.{Gives, request_in}
-use Rattle.mt_im.specs.declared.fault.ImFault.{ImFault}
-use Rattle.mt_im.specs.declared.fault.ImFault.TheVariants as faults
-use Rattle.mt_model.specs.Optional.{is_that}
-use Rattle.mt_model.specs.messages.Status.{code_of}
-use Rattle.mt_model.specs.tables.Leaving.{stays}
-use Rattle.mt_model.specs.declared.tables.access.Actor.{Actor}
-use Rattle.mt_model.specs.declared.node.action.Action.TheVariants.{Ask, Expire, Nothing}
-use Rattle.mt_model.specs.declared.node.action.PlainDeadline.{PlainDeadline}
-use Rattle.mt_model.specs.declared.messages.message.Reply.{Reply}
-use Rattle.mt_model.specs.declared.messages.message.Request.{Request}
-use Rattle.mt_model.specs.declared.messages.status.Status.TheVariants.{Busy}
-use Rattle.mt_machine.specs.Lines.{action_of, deadline_for, deadline_of, deadlines_after, deadlines_of_those_left, fault_reply, is_deadline_of, is_refused, line_actor, next_for, sent_as, sent_for, sent_to, with_deadline, without}
-use Rattle.mt_machine.specs.State.{State, is_among}
-use Rattle.mt_machine.specs.Step.{after_action, after_steps, asked_steps, asker, at_time, refusal}
-use Rattle.mt_machine.specs.Rollback.{added_in, deadlines_left, is_due}
-use Rattle.mt_machine.specs.Laws.{TakesTheAddedAway}
-use Rattle.mt_model.specs.declared.tables.network.Armed.{Armed}
-use Rattle.mt_machine.specs.State.{IsValid}
-use Rattle.mt_machine.specs.Given.{Given}
-use Rattle.mt_machine.specs.Leaving.{has_left}
-use Rattle.mt_node.specs.Plan.{IsPlan, applied}
+-- From what comes over one session to what comes of a line.
+use Rattle.std.proofs.Common.{◌≡◌, ℕ, inl, inr, Bool, List, [], ◌∷◌, Option, Some, None, Result, Ok, Err, IfOk, refl, sym, ap, subst, ◌∙◌, map, if◌then◌else◌}
+use Rattle.std.proofs.lemmas.Bool.{cases_Bool, eqb-true}
+use Rattle.std.specs.List.{find}
+use Rattle.mt_model.specs.declared.node.action.Action.{Action}
+use Rattle.mt_model.specs.declared.messages.message.Payload.{Payload}
 use Rattle.mt_model.specs.declared.node.state.NodeState.{NodeState}
-use Rattle.mt_model.specs.declared.tables.fabric.Fabric.{Fabric}
-use Rattle.std.proofs.lemmas.Bool.{cases_Bool}
+use Rattle.mt_model.specs.declared.texts.recording.Event.{Event}
 use Rattle.mt_model.specs.declared.texts.recording.Event.TheVariants as events
-use Rattle.mt_whole.specs.Plan.{IsLine, IsLineIf, IsPlanIf, IsQuiet, IsTick, is_want_of_memory, left_without}
-use Rattle.mt_machine.specs.Step.{Aside}
+use Rattle.mt_outside.specs.declared.network.Peer.{Peer}
+use Rattle.mt_exchange.specs.declared.exchange.Key.{Key}
+use Rattle.mt_talk.specs.Hearing.{Said}
+use Rattle.mt_talk.specs.Talks.{Talk}
+use Rattle.mt_machine.specs.Given.{Given}
+use Rattle.mt_machine.specs.Lines as machine
+use Rattle.mt_machine.specs.Lines.{behind_action}
+use Rattle.mt_machine.specs.State.{State}
+use Rattle.mt_machine.specs.Step.{Aside, closed_between}
+use Rattle.mt_lines.specs.Datagrams.{Answer, action_said, all_sent, answer_to, datagram_of, heard, if_any, is_built_said, its_answer, resent_talk, sent_over, session_named, talked}
+use Rattle.mt_lines.specs.Lines as lines
+use Rattle.mt_lines.specs.Lines.{action_named, is_built_named, next, resent_named, sent_named, state_behind, talks_behind, with_next}
+use Rattle.mt_lines.specs.Whole.{SessionTalk, Whole, is_talk_of, talk_of, with_talk, without_ended}
 use Rattle.mt_whole.specs.declared.outcome.WholeOutcome.{WholeOutcome}
+use Rattle.mt_whole.specs.declared.talks.SessionTalk as code
+use Rattle.mt_plain.specs.Plan.{IsPlainPlanned, applied_plain}
+use Rattle.mt_plain.specs.declared.outcome.PlainOutcome.{PlainOutcome}
+use Rattle.mt_whole.specs.declared.datagrams.Answering.{Answering}
+use Rattle.mt_whole.specs.Plan.{IsAgain, IsAnsweredIf, IsHeardIf, IsNewTalk, IsPlainLineIf, IsPlanIf, IsPlannedIf, IsQuiet, IsTalkBehind, IsWholePlan, fresh_by_line, fresh_named, told_fresh}
+use Rattle.mt_whole.specs.Talks.{AreTalks, IsFoundAs, IsTalkAt, is_code_of, put}
+use Rattle.mt_whole.proofs.Listed.{found_as, put_as, some_is, with_same}
 
-or_false : (a b : Bool) → (a || b) ≡ false → (a ≡ false) × (b ≡ false)
-or_false true b h = absurd (cc)
-or_false false b h = (refl, h)
+-- The one that is found is of that id.
+pub found_is : (id : ℕ) (t : SessionTalk) (ts : List SessionTalk) → find (is_talk_of id) ts ≡ Some t → t.row.session ≡ id
+found_is id t [] is = absurd (cc)
+found_is id t (one ∷ ts) is = elim (cases_Bool (is_talk_of id one)) [
+  | inl here ↦
+      let same : one ≡ t = some_is one t (sym (ap (λ (b : Bool). if b then Some one else find (is_talk_of id) ts) here) ∙ is) in
+      subst (λ (x : SessionTalk). x.row.session ≡ id) same (eqb-true _ _ here)
+  | inr other ↦ found_is id t ts (sym (ap (λ (b : Bool). if b then Some one else find (is_talk_of id) ts) other) ∙ is)
+]
 
--- where nothing is taken away
-step : (d : PlainDeadline) (ds rest : List PlainDeadline) (its : Bool) → (its ≡ false → ds ≡ rest) → its ≡ false → d ∷ ds ≡ (if not its then d ∷ rest else rest)
-step d ds rest true same is = absurd (cc)
-step d ds rest false same is = ap (λ (l : List PlainDeadline). d ∷ l) (same is)
+-- Its talk is replaced.
+pub replaced : (id : ℕ) (o : Option code.SessionTalk) (t : SessionTalk) (talk : Talk) (talks : List code.SessionTalk) (ts : List SessionTalk) → find (is_talk_of id) ts ≡ Some t → IsNewTalk o t talk → AreTalks talks ts
+    → AreTalks (put o talks) (with_talk t.row.session talk ts)
+replaced id None t talk talks ts is new are = absurd new
+replaced id (Some made) t talk talks ts is new are =
+    let its : t.row.session ≡ id = found_is id t ts is in
+    put_as made t t.row.session talk talks ts are (subst (λ (n : ℕ). find (is_talk_of n) ts ≡ Some t) (sym its) is) new.0 refl new.1
 
-pub none_taken : (asking : Actor) (ds : List PlainDeadline) → list_any (is_deadline_of asking) ds ≡ false → ds ≡ without asking ds
-none_taken asking [] none = refl
-none_taken asking (d ∷ ds) none =
-    let both = or_false (is_deadline_of asking d) (list_any (is_deadline_of asking) ds) none in
-    step d ds (without asking ds) (is_deadline_of asking d) (λ _. none_taken asking ds both.1) both.0
+-- It is replaced, or stays.
+pub replaced_or_same : (id : ℕ) (o : Option code.SessionTalk) (t : SessionTalk) (talk : Talk) (talks : List code.SessionTalk) (ts : List SessionTalk) → find (is_talk_of id) ts ≡ Some t → IsTalkBehind o t talk → AreTalks talks ts
+    → AreTalks (put o talks) (with_talk t.row.session talk ts)
+replaced_or_same id None t talk talks ts is stays are =
+    let its : t.row.session ≡ id = found_is id t ts is in
+    let same : with_talk t.row.session talk ts ≡ ts =
+    ap (λ (x : Talk). with_talk t.row.session x ts) stays ∙ with_same t.row.session t ts (subst (λ (n : ℕ). find (is_talk_of n) ts ≡ Some t) (sym its) is) in
+    subst (λ (all : List SessionTalk). AreTalks talks all) (sym same) are
+replaced_or_same id (Some made) t talk talks ts is new are = replaced id (Some made) t talk talks ts is new are
 
--- The deadlines of a fabric that leaves the table, told by that fabric.
-
--- the fabric that goes is the one that has left
-left_is_gone : (before now : NodeState) (gone : Option ℕ) → ((fabric : ℕ) → has_left before now fabric ≡ is_that fabric gone) → (ds : List PlainDeadline) → left_without gone ds ≡ deadlines_of_those_left before now ds
-left_is_gone before now None leaves [] = refl
-left_is_gone before now (Some fabric) leaves [] = refl
-left_is_gone before now None leaves (d ∷ ds) =
-    let rest = left_is_gone before now None leaves ds in
-    rw (leaves d.fabric) (ap (λ (l : List PlainDeadline). d ∷ l) rest)
-left_is_gone before now (Some fabric) leaves (d ∷ ds) =
-    let rest = left_is_gone before now (Some fabric) leaves ds in
-    let same : not (has_left before now d.fabric) ≡ not (fabric == d.fabric) = ap not (leaves d.fabric) in
-    elim (cases_Bool (fabric == d.fabric)) [
-      | inl its ↦ rw (same, its) rest
-      | inr other ↦ rw (same, other) (ap (λ (l : List PlainDeadline). d ∷ l) rest)
-    ]
-
--- nobody leaves where the fabrics are the same
-and_not : (b : Bool) → (b && not b) ≡ false
-and_not true = refl
-and_not false = refl
-
-none_left : (s t : NodeState) → t.fabrics ≡ s.fabrics → (fabric : ℕ) → has_left s t fabric ≡ is_that fabric None
-none_left s t same fabric = ap (λ (fs : List Fabric). is_among s.fabrics fabric && not (is_among fs fabric)) same ∙ and_not (is_among s.fabrics fabric)
-
-all_left : (s t : NodeState) → t.fabrics ≡ s.fabrics → (ds : List PlainDeadline) → ds ≡ deadlines_of_those_left s t ds
-all_left s t same ds = left_is_gone s t None (none_left s t same) ds
-
--- a request of whoever is taken as asking
-pub request_line : (given : Given) (s : State) (ms : ℕ) (actor asking : Actor) (request : Request) (outcome : WholeOutcome) → asker s.node actor ≡ Some asking
-    → IsPlan given s.node (Ask actor request (deadline_of asking s.deadlines)) ms outcome.node
-    → outcome.sent ≡ sent_as ms asking.fabric (if is_refused asking s.deadlines ms request then refusal (code_of Busy) else outcome.node.reply)
-    → unwrap_or outcome.deadlines s.deadlines ≡ left_without outcome.node.gone (with_deadline asking s.deadlines ms (Ok request))
-    → IsLine given s ms actor (Ok request) outcome
-request_line given s ms actor asking request outcome asks p sends next =
-    let behind : NodeState = after_action given s.node (action_of actor (deadline_for s (asker s.node actor)) (Ok request)) ms in
-    let node : applied outcome.node s.node ≡ behind = p.state ∙ ap (λ (a : Option Actor). after_action given s.node (action_of actor (deadline_for s a) (Ok request)) ms) (sym asks) in
-    let deadlines : unwrap_or outcome.deadlines s.deadlines ≡ deadlines_of_those_left s.node behind (deadlines_after (asker s.node actor) s.deadlines ms (Ok request)) =
-    next ∙ left_is_gone s.node (applied outcome.node s.node) outcome.node.gone p.leaves (with_deadline asking s.deadlines ms (Ok request))
-    ∙ (λ i. deadlines_of_those_left s.node (node i) (deadlines_after (sym asks i) s.deadlines ms (Ok request))) in
-    record {
-      sent = sends
-          ∙ ap (λ (reply : Reply). sent_as ms asking.fabric (if is_refused asking s.deadlines ms request then refusal (code_of Busy) else reply)) p.reply
-          ∙ sym (ap (sent_to given s actor ms (Ok request)) asks);
-      state = λ i. record { node = node i; deadlines = deadlines i };
-      planned = (given, (Ask actor request (deadline_of asking s.deadlines), (ms, p)));
-    }
-
--- a payload that is no request, of whoever is taken as asking
-pub refused_line : (given : Given) (s : State) (ms : ℕ) (actor asking : Actor) (fault : ImFault) (outcome : WholeOutcome) → asker s.node actor ≡ Some asking
-    → IsPlan given s.node Nothing ms outcome.node
-    → outcome.sent ≡ sent_as ms asking.fabric (fault_reply fault)
-    → unwrap_or outcome.deadlines s.deadlines ≡ with_deadline asking s.deadlines ms (Err fault)
-    → IsLine given s ms actor (Err fault) outcome
-refused_line given s ms actor asking fault outcome asks p sends next =
-    let deadlines : unwrap_or outcome.deadlines s.deadlines ≡ deadlines_of_those_left s.node (after_action given s.node Nothing ms) (deadlines_after (asker s.node actor) s.deadlines ms (Err fault)) =
-    next ∙ ap (λ (a : Option Actor). deadlines_after a s.deadlines ms (Err fault)) (sym asks)
-    ∙ all_left s.node (after_action given s.node Nothing ms) refl (deadlines_after (asker s.node actor) s.deadlines ms (Err fault)) in
-    record {
-      sent = sends ∙ sym (ap (sent_to given s actor ms (Err fault)) asks);
-      state = λ i. record { node = p.state i; deadlines = deadlines i };
-      planned = (given, (Nothing, (ms, p)));
-    }
-
--- what an answer of memory gives, where it gives anything
-pub if_ok : {T E : Type 0} (r : Result T E) (P Q : T → Type 0) → ((x : T) → P x → Q x) → IfOk r P → IfOk r Q
-if_ok (Ok x) P Q follows holds = follows x holds
-if_ok (Err e) P Q follows holds = holds
-
--- nobody is taken as asking
-nobody_steps : (given : Given) (s : State) (actor : Actor) (ms : ℕ) (asked : Result Request ImFault) (deadline : Option ℕ) → asker s.node actor ≡ None → after_action given s.node Nothing ms ≡ after_action given s.node (action_of actor deadline asked) ms
-nobody_steps given s actor ms (Ok request) deadline none = sym (ap (λ (a : Option Actor). after_steps a (asked_steps given s.node request deadline ms a) (at_time ms s.node)) none)
-nobody_steps given s actor ms (Err fault) deadline none = refl
-
-pub quiet_line : (given : Given) (s : State) (ms : ℕ) (actor : Actor) (asked : Result Request ImFault) (outcome : WholeOutcome) → asker s.node actor ≡ None → IsQuiet given s ms outcome → IsLine given s ms actor asked outcome
-quiet_line given s ms actor asked outcome none quiet =
-    let same = nobody_steps given s actor ms asked (deadline_for s (asker s.node actor)) none in
-    let node : applied outcome.node s.node ≡ after_action given s.node (action_of actor (deadline_for s (asker s.node actor)) asked) ms = quiet.node.state ∙ same in
-    let deadlines : unwrap_or outcome.deadlines s.deadlines
-    ≡ deadlines_of_those_left s.node (after_action given s.node (action_of actor (deadline_for s (asker s.node actor)) asked) ms) (deadlines_after (asker s.node actor) s.deadlines ms asked) =
-    ap (λ (d : Option (List PlainDeadline)). unwrap_or d s.deadlines) quiet.deadlines
-    ∙ all_left s.node (after_action given s.node Nothing ms) refl s.deadlines
-    ∙ (λ i. deadlines_of_those_left s.node (same i) (deadlines_after (sym none i) s.deadlines ms asked)) in
-    record {
-      sent = quiet.sent ∙ sym (ap (sent_to given s actor ms asked) none);
-      state = λ i. record { node = node i; deadlines = deadlines i };
-      planned = (given, (Nothing, (ms, quiet.node)));
-    }
-
--- what was decoded, but for want of memory
-pub comes_to : (asked read : Result Request ImFault) → Gives (λ x. x) asked read → is_want_of_memory asked ≡ false → read ≡ asked
-comes_to (Ok request) read gives sure = gives
-comes_to (Err faults.Memory) read gives sure = absurd (cc)
-comes_to (Err (faults.Tlv fault)) read gives sure = gives (λ e. absurd (cc))
-comes_to (Err (faults.Missing n)) read gives sure = gives (λ e. absurd (cc))
-comes_to (Err (faults.Form n)) read gives sure = gives (λ e. absurd (cc))
-comes_to (Err faults.Opcode) read gives sure = gives (λ e. absurd (cc))
-comes_to (Err faults.TooManyPaths) read gives sure = gives (λ e. absurd (cc))
-
--- An event is a line of an actor, whose payload comes to this.
-pub event_of : (given : Given) (s : State) (ms fabric node : ℕ) (cats : List ℕ) (opcode : ℕ) (payload : List ℕ) (actor : Actor) → actor ≡ line_actor fabric node cats → (planned : Option WholeOutcome)
-    → IsLineIf given s ms actor (request_in opcode payload) planned → IsPlanIf given s (events.Ask ms fabric node cats opcode payload) planned
-event_of given s ms fabric node cats opcode payload actor by None line = line
-event_of given s ms fabric node cats opcode payload actor by (Some outcome) line = (
-  line.0,
+-- A datagram that names no session of the boot.
+pub unheard : (given : Given) (w : Whole) (ms : ℕ) (from : Peer) (bytes : List ℕ) (outcome : WholeOutcome) → talk_of (session_named bytes) w.talks ≡ None → IsQuiet given w.state ms outcome
+    → IsPlanIf given w (events.Datagram ms from bytes) (Some outcome)
+unheard given w ms from bytes outcome none quiet = (
+  ap (is_built_named w.state.node bytes) none,
   record {
-    sent = line.1.sent ∙ ap (λ (a : Actor). sent_for given s a ms (request_in opcode payload)) by;
-    state = line.1.state ∙ ap (λ (a : Actor). next_for given s a ms (request_in opcode payload)) by;
-    planned = line.1.planned;
+    sent = quiet.sent ∙ ap (sent_named given w.state.node ms from bytes) (sym none);
+    fresh = ap told_fresh quiet.fresh ∙ ap (fresh_named bytes) (sym none);
+    state = quiet.state ∙ ap (λ (o : Option SessionTalk). behind_action given w.state (action_named w.state.node bytes o) ms) (sym none);
+    talks = λ talks are. subst (λ (o : Option code.SessionTalk). AreTalks (put o talks) (with_next (talked given w.state.node ms from bytes) (talk_of (session_named bytes) w.talks) w.talks)) (sym quiet.talk)
+        (subst (λ (o : Option SessionTalk). AreTalks talks (with_next (talked given w.state.node ms from bytes) o w.talks)) (sym none) are);
   },
 )
 
--- The deadlines of the fabric that an expiry takes away, told by that fabric.
+-- A datagram that names a session, by what that hears.
+pub heard_as_planned : (given : Given) (w : Whole) (ms : ℕ) (from : Peer) (bytes : List ℕ) (id : ℕ) (t : SessionTalk) (outcome : Option WholeOutcome) → session_named bytes ≡ Some id → find (is_talk_of id) w.talks ≡ Some t
+    → IsHeardIf given w.state ms from bytes t outcome → IsPlanIf given w (events.Datagram ms from bytes) outcome
+heard_as_planned given w ms from bytes id t None named is not =
+    let at : talk_of (session_named bytes) w.talks ≡ Some t = ap (λ (n : Option ℕ). talk_of n w.talks) named ∙ is in
+    ap (is_built_named w.state.node bytes) at ∙ not
+heard_as_planned given w ms from bytes id t (Some outcome) named is hears =
+    let at : talk_of (session_named bytes) w.talks ≡ Some t = ap (λ (n : Option ℕ). talk_of n w.talks) named ∙ is in (
+      ap (is_built_named w.state.node bytes) at ∙ hears.0,
+      record {
+        sent = hears.1.sent ∙ ap (sent_named given w.state.node ms from bytes) (sym at);
+        fresh = hears.1.fresh ∙ ap (fresh_named bytes) (sym at);
+        state = hears.1.state ∙ ap (λ (o : Option SessionTalk). behind_action given w.state (action_named w.state.node bytes o) ms) (sym at);
+        talks = λ talks are. subst (λ (o : Option SessionTalk). AreTalks (put outcome.talk talks) (with_next (talked given w.state.node ms from bytes) o w.talks)) (sym at)
+            (replaced id outcome.talk t (talked given w.state.node ms from bytes t) talks w.talks is hears.1.talk are);
+      },
+    )
 
-all_stay : (ds : List PlainDeadline) → ds ≡ filter (λ (d : PlainDeadline). stays None d.fabric) ds
-all_stay [] = refl
-all_stay (d ∷ ds) = ap (λ (rest : List PlainDeadline). d ∷ rest) (all_stay ds)
+-- A resend that names no session of the boot.
+pub unsent : (given : Given) (w : Whole) (ms id : ℕ) (outcome : WholeOutcome) → find (is_talk_of id) w.talks ≡ None → IsQuiet given w.state ms outcome → IsWholePlan given w (events.Resend ms id) outcome
+unsent given w ms id outcome none quiet = record {
+  sent = quiet.sent ∙ ap (resent_named w.state.node ms) (sym none);
+  fresh = ap told_fresh quiet.fresh;
+  state = quiet.state;
+  talks = λ talks are. subst (λ (o : Option code.SessionTalk). AreTalks (put o talks) (with_next (resent_talk w.state.node ms) (talk_of (Some id) w.talks) w.talks)) (sym quiet.talk)
+      (subst (λ (o : Option SessionTalk). AreTalks talks (with_next (resent_talk w.state.node ms) o w.talks)) (sym none) are);
+}
 
-left_added : (added : Option ℕ) (ds : List PlainDeadline) → left_without added ds ≡ filter (λ (d : PlainDeadline). stays added d.fabric) ds
-left_added None ds = all_stay ds
-left_added (Some fabric) ds = refl
+pub again_as_planned : (given : Given) (w : Whole) (ms id : ℕ) (t : SessionTalk) (outcome : WholeOutcome) → find (is_talk_of id) w.talks ≡ Some t → IsAgain given w.state ms t outcome → IsWholePlan given w (events.Resend ms id) outcome
+again_as_planned given w ms id t outcome is again = record {
+  sent = again.sent ∙ ap (resent_named w.state.node ms) (sym is);
+  fresh = ap told_fresh again.fresh;
+  state = again.state;
+  talks = λ talks are. subst (λ (o : Option SessionTalk). AreTalks (put outcome.talk talks) (with_next (resent_talk w.state.node ms) o w.talks)) (sym is)
+      (replaced_or_same id outcome.talk t (resent_talk w.state.node ms t) talks w.talks is again.talk are);
+}
 
-left_armed : (armed : Option Armed) (ds : List PlainDeadline) → left_without (added_in armed) ds ≡ deadlines_left armed ds
-left_armed None ds = refl
-left_armed (Some armed) ds = left_added armed.added ds
+-- What is found of the written ones, by what is found of those of the code.
 
-left_due : (due : Bool) (armed : Option Armed) (ds : List PlainDeadline) → left_without (if due then added_in armed else None) ds ≡ (if due then deadlines_left armed ds else ds)
-left_due true armed ds = left_armed armed ds
-left_due false armed ds = refl
+abbrev pub IsOf : Option code.SessionTalk → Option SessionTalk → Type 0
+IsOf None o = o ≡ None
+IsOf (Some talk) o = (t : SessionTalk) × (o ≡ Some t) × IsTalkAt talk t
 
-pub tick_of : TakesTheAddedAway → (given : Given) (s : State) (ms : ℕ) (outcome : WholeOutcome) → IsValid s.node → outcome.sent ≡ [] → IsPlan given s.node Expire ms outcome.node
-    → unwrap_or outcome.deadlines s.deadlines ≡ left_without outcome.node.gone s.deadlines → IsTick given s ms outcome
-tick_of takes given s ms outcome valid sends plan left =
-    let gone : outcome.node.gone ≡ (if is_due s.node.armed ms then added_in s.node.armed else None) = ap (λ (aside : Aside). aside.gone) plan.aside ∙ takes given s.node ms valid in
-    let deadlines : unwrap_or outcome.deadlines s.deadlines ≡ (if is_due s.node.armed ms then deadlines_left s.node.armed s.deadlines else s.deadlines) =
-    left ∙ ap (λ (g : Option ℕ). left_without g s.deadlines) gone ∙ left_due (is_due s.node.armed ms) s.node.armed s.deadlines in
-    record {
-      sent = sends;
-      state = λ i. record { node = plan.state i; deadlines = deadlines i };
-      planned = (given, (Expire, (ms, plan)));
-    }
+pub found_of : (one : Option code.SessionTalk) (o : Option SessionTalk) → IsFoundAs one o → IsOf one o
+found_of None None found = refl
+found_of None (Some t) found = absurd found
+found_of (Some talk) None found = absurd found
+found_of (Some talk) (Some t) found = (t, refl, found)
+
+-- What is there is of these.
+pub one_found : (id : ℕ) (one : Option code.SessionTalk) (talks : List code.SessionTalk) (ts : List SessionTalk) → one ≡ find (is_code_of id) talks → AreTalks talks ts → IsOf one (find (is_talk_of id) ts)
+one_found id one talks ts looked are = found_of one (find (is_talk_of id) ts) (subst (λ (o : Option code.SessionTalk). IsFoundAs o (find (is_talk_of id) ts)) (sym looked) (found_as id talks ts are))
+
+pub if_ok : {X E : Type 0} (result : Result X E) (P Q : X → Type 0) → ((x : X) → P x → Q x) → IfOk result P → IfOk result Q
+if_ok (Ok x) P Q by holds = by x holds
+if_ok (Err e) P Q by holds = tt
+
+-- Where a session's datagram is sent, and which.
+pub sent_as_heard : (given : Given) (s : State) (ms : ℕ) (from : Peer) (bytes : List ℕ) (t : SessionTalk) (id : ℕ) (peer : Option Peer) (datagram : Option (List ℕ)) → id ≡ t.row.session → peer ≡ (heard s.node from bytes t).latest
+    → datagram ≡ datagram_of t.row (heard s.node from bytes t) (its_answer given s.node ms bytes t) → all_sent ms id peer (if_any datagram) ≡ sent_over given s.node ms from bytes t
+sent_as_heard given s ms from bytes t id peer datagram its there is =
+    ap (λ (n : ℕ). all_sent ms n peer (if_any datagram)) its
+    ∙ ap (λ (o : Option Peer). all_sent ms t.row.session o (if_any datagram)) there
+    ∙ ap (λ (o : Option (List ℕ)). all_sent ms t.row.session (heard s.node from bytes t).latest (if_any o)) is
+
+-- An answer, by its payloads.
+abbrev pub answering : Key → Option ℕ → List Payload → Option Answer
+answering key acknowledge payloads = Some (record { key = key; acknowledge = acknowledge; payloads = payloads })
+
+-- Two things that are said come to the same.
+pub answered_alike : (given : Given) (s : State) (id ms : ℕ) (a b : Said) → is_built_said a ≡ is_built_said b → answer_to given s.node id ms a ≡ answer_to given s.node id ms b → action_said id a ≡ action_said id b
+    → (both : Option (Option Answering × PlainOutcome)) → IsAnsweredIf given s id ms a both → IsAnsweredIf given s id ms b both
+answered_alike given s id ms a b built answer action None not = sym built ∙ not
+answered_alike given s id ms a b built answer action (Some both) h = (
+  sym built ∙ h.0,
+  record {
+    answer = h.1.answer ∙ answer;
+    state = h.1.state ∙ ap (λ (x : Action). behind_action given s x ms) action;
+    planned = h.1.planned;
+  },
+)
+
+-- An event that is of no session.
+
+pub plain_is_planned : (given : Given) (s : State) (event : Event) (outcome : Option WholeOutcome) → IsPlainLineIf given s event outcome → IsPlannedIf s outcome
+plain_is_planned given s event None h = tt
+plain_is_planned given s event (Some outcome) h = h.1.planned
+
+plain_plan : (given : Given) (w : Whole) (event : Event) → lines.sent given w event ≡ machine.sent given w.state event → fresh_by_line w event ≡ None → state_behind given w event ≡ machine.next given w.state event → talks_behind given w event ≡ w.talks
+    → lines.is_built w event ≡ machine.is_built event → (outcome : Option WholeOutcome) → IsPlainLineIf given w.state event outcome → IsPlanIf given w event outcome
+plain_plan given w event sent_same no_fresh state_same talks_same built_same None not = built_same ∙ not
+plain_plan given w event sent_same no_fresh state_same talks_same built_same (Some outcome) h = (
+  built_same ∙ h.0,
+  record {
+    sent = h.1.sent ∙ sym sent_same;
+    fresh = ap told_fresh h.1.fresh ∙ sym no_fresh;
+    state = h.1.state ∙ sym state_same;
+    talks = λ talks are. subst (λ (o : Option code.SessionTalk). AreTalks (put o talks) (talks_behind given w event)) (sym h.1.talk) (subst (λ (ts : List SessionTalk). AreTalks talks ts) (sym talks_same) are);
+  },
+)
+
+pub plain_as_planned : (given : Given) (w : Whole) (event : Event) → ((ms : ℕ) (from : Peer) (bytes : List ℕ) → event ≡ events.Datagram ms from bytes → ⊥) → ((ms id : ℕ) → event ≡ events.Resend ms id → ⊥)
+    → (outcome : Option WholeOutcome) → IsPlainLineIf given w.state event outcome → IsPlanIf given w event outcome
+plain_as_planned given w (events.Ask ms fabric node cats opcode payload) no_datagram no_resend outcome h = plain_plan given w (events.Ask ms fabric node cats opcode payload) refl refl refl refl refl outcome h
+plain_as_planned given w (events.Datagram ms from bytes) no_datagram no_resend outcome h = absurd (no_datagram ms from bytes refl)
+plain_as_planned given w (events.Tick ms) no_datagram no_resend outcome h = plain_plan given w (events.Tick ms) refl refl refl refl refl outcome h
+plain_as_planned given w (events.Report ms fabric id) no_datagram no_resend outcome h = plain_plan given w (events.Report ms fabric id) refl refl refl refl refl outcome h
+plain_as_planned given w (events.Resend ms id) no_datagram no_resend outcome h = absurd (no_resend ms id refl)
+plain_as_planned given w (events.Stop calls fate) no_datagram no_resend outcome h = plain_plan given w (events.Stop calls fate) refl refl refl refl refl outcome h
+
+-- The sessions that end with an outcome.
+
+closed_is : (s : State) (outcome : PlainOutcome) → IsPlainPlanned s outcome → outcome.node.closed ≡ closed_between s.node.sessions (applied_plain outcome s).node.sessions
+closed_is s outcome planned = ap (λ (a : Aside). a.closed) planned.1.1.1.aside ∙ ap (λ (n : NodeState). closed_between s.node.sessions n.sessions) (sym planned.1.1.1.state)
+
+-- The talks behind an event, of which those that end have let go.
+pub talks_applied : (given : Given) (w : Whole) (event : Event) (s : State) (outcome : WholeOutcome) (talks behind : List code.SessionTalk) (closed : List ℕ) → s ≡ w.state → IsPlainPlanned s outcome.plain → IsWholePlan given w event outcome
+    → AreTalks talks w.talks → closed ≡ outcome.plain.node.closed → ((ts : List SessionTalk) → AreTalks (put outcome.talk talks) ts → AreTalks behind (map (without_ended closed) ts)) → AreTalks behind (next given w event).talks
+talks_applied given w event s outcome talks behind closed same planned plan are ended lets_go =
+    let ended_is : closed ≡ closed_between w.state.node.sessions (state_behind given w event).node.sessions =
+    ended
+    ∙ closed_is s outcome.plain planned
+    ∙ ap (λ (x : State). closed_between x.node.sessions (applied_plain outcome.plain x).node.sessions) same
+    ∙ ap (λ (x : State). closed_between w.state.node.sessions x.node.sessions) plan.state in
+    subst (λ (gone : List ℕ). AreTalks behind (map (without_ended gone) (talks_behind given w event))) ended_is (lets_go (talks_behind given w event) (plan.talks talks are))

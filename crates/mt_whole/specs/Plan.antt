@@ -1,73 +1,137 @@
--- What an outcome of the whole stands for.
-use Rattle.std.specs.Prelude.{◌≡◌, ℕ, Bool, true, false, List, [], Option, Some, None, Result, Ok, Err, filter, length, unwrap_or}
-use Rattle.mt_im.specs.declared.fault.ImFault.{ImFault}
-use Rattle.mt_im.specs.declared.fault.ImFault.TheVariants as faults
-use Rattle.mt_model.specs.tables.Leaving.{stays}
-use Rattle.mt_model.specs.declared.tables.access.Actor.{Actor}
-use Rattle.mt_model.specs.declared.node.action.PlainDeadline.{PlainDeadline}
-use Rattle.mt_model.specs.declared.messages.message.Request.{Request}
+-- What an outcome stands for.
+use Rattle.std.specs.Prelude.{◌≡◌, ℕ, true, false, List, [], Option, Some, None, ⊤}
+use Rattle.mt_model.specs.declared.texts.config.RootRow.{RootRow}
+use Rattle.mt_model.specs.declared.texts.config.CsrRow.{CsrRow}
+use Rattle.mt_model.specs.declared.texts.config.JoinRow.{JoinRow}
 use Rattle.mt_model.specs.declared.texts.recording.Event.{Event}
-use Rattle.mt_node.specs.Plan.{IsPlan, IsPlanned, applied}
-use Rattle.mt_model.specs.declared.node.action.Action.TheVariants.{Nothing}
+use Rattle.mt_model.specs.declared.texts.recording.Event.TheVariants as events
+use Rattle.mt_model.specs.declared.texts.config.Config.{Config}
+use Rattle.mt_model.specs.declared.node.action.Action.TheVariants as actions
+use Rattle.mt_outside.specs.declared.network.Peer.{Peer}
+use Rattle.mt_frame.specs.declared.header.ProtocolHeader.{ProtocolHeader}
+use Rattle.mt_session.specs.Opening.{Arrival}
+use Rattle.mt_talk.specs.Hearing.{Said, fresh_by, received_in}
+use Rattle.mt_talk.specs.Talks.{IsTalkOf, Talk}
 use Rattle.mt_machine.specs.Given.{Given}
-use Rattle.mt_machine.specs.Isolation.{is_deadline_in}
-use Rattle.mt_machine.specs.Lines.{is_built, is_built_payload, next, next_for, next_tick, sent, sent_for, without}
+use Rattle.mt_machine.specs.Lines as machine
+use Rattle.mt_machine.specs.Lines.{behind_action}
 use Rattle.mt_machine.specs.State.{State}
+use Rattle.mt_lines.specs.Datagrams.{Answer, action_said, answer_to, is_built_said, resent_over, resent_talk, said_to, sent_over, session_named, talked}
+use Rattle.mt_lines.specs.Lines.{is_built, sent, state_behind, talks_behind}
+use Rattle.mt_lines.specs.Whole.{SessionTalk, Whole, opened, talk_of}
+use Rattle.mt_plain.specs.Kept as plain
+use Rattle.mt_plain.specs.Plan.{IsPlainPlanned, applied_plain}
+use Rattle.mt_plain.specs.declared.outcome.PlainOutcome.{PlainOutcome}
+use Rattle.mt_whole.specs.declared.datagrams.Answering.{Answering}
 use Rattle.mt_whole.specs.declared.outcome.WholeOutcome.{WholeOutcome}
+use Rattle.mt_whole.specs.declared.whole.Whole as whole
+use Rattle.mt_whole.specs.declared.talks.SessionTalk as code
+use Rattle.mt_whole.specs.Talks.{AreTalks, IsWholeOf, put}
 
--- how many other actors of an actor's fabric have a deadline
-abbrev pub others_in : Actor → List PlainDeadline → ℕ
-others_in actor deadlines = length (filter (is_deadline_in actor.fabric) (without actor deadlines))
+-- what is given to a whole, where these are the rows of the verdicts
+abbrev pub given_to : whole.Whole → List RootRow → List CsrRow → List JoinRow → Given
+given_to one roots csrs joins = plain.given_to one.plain roots csrs joins
 
--- the state behind an outcome
-abbrev pub applied_whole : WholeOutcome → State → State
-applied_whole outcome s = record { node = applied outcome.node s.node; deadlines = unwrap_or outcome.deadlines s.deadlines }
+-- a whole that was started with this configuration
+pub record IsStarted (config : Config) (one : whole.Whole) : Type 0 where
+  pub begun : one.plain ≡ plain.started config
+  pub stands : IsWholeOf one (opened config)
 
--- whether a payload was not decoded for want of memory
-abbrev pub is_want_of_memory : Result Request ImFault → Bool
-is_want_of_memory (Ok request) = false
-is_want_of_memory (Err faults.Memory) = true
-is_want_of_memory (Err fault) = false
+-- a message that was let in, as the code tells it
+abbrev pub told_fresh : Option (ℕ × ProtocolHeader × List ℕ) → Option Arrival
+told_fresh None = None
+told_fresh (Some fresh) = Some (record { counter = fresh.0; header = fresh.1; payload = fresh.2 })
 
--- the deadlines of the fabric that goes, if any, go with it
-abbrev pub left_without : Option ℕ → List PlainDeadline → List PlainDeadline
-left_without None deadlines = deadlines
-left_without (Some fabric) deadlines = filter (λ (deadline : PlainDeadline). stays (Some fabric) deadline.fabric) deadlines
+-- the message that a line brings to its session, live or not
+abbrev pub fresh_over : List ℕ → SessionTalk → Option Arrival
+fresh_over bytes t = fresh_by (received_in t.row t.talk bytes)
 
--- The outcome is that of a line of this actor, whose payload was decoded to this.
-pub record IsLine (given : Given) (s : State) (ms : ℕ) (actor : Actor) (asked : Result Request ImFault) (outcome : WholeOutcome) : Type 0 where
-  pub sent : outcome.sent ≡ sent_for given s actor ms asked
-  pub state : applied_whole outcome s ≡ next_for given s actor ms asked
-  pub planned : IsPlanned s.node outcome.node
+abbrev pub fresh_named : List ℕ → Option SessionTalk → Option Arrival
+fresh_named bytes None = None
+fresh_named bytes (Some t) = fresh_over bytes t
 
--- there is an outcome exactly where what was decoded is built
-abbrev pub IsLineIf : Given → State → ℕ → Actor → Result Request ImFault → Option WholeOutcome → Type 0
-IsLineIf given s ms actor asked None = is_built_payload asked ≡ false
-IsLineIf given s ms actor asked (Some outcome) = (is_built_payload asked ≡ true) × IsLine given s ms actor asked outcome
+abbrev pub fresh_by_line : Whole → Event → Option Arrival
+fresh_by_line w (events.Datagram ms from bytes) = fresh_named bytes (talk_of (session_named bytes) w.talks)
+fresh_by_line w event = None
 
--- nothing is sent, and time passes
-pub record IsQuiet (given : Given) (s : State) (ms : ℕ) (outcome : WholeOutcome) : Type 0 where
-  pub sent : outcome.sent ≡ []
-  pub deadlines : outcome.deadlines ≡ None
-  pub node : IsPlan given s.node Nothing ms outcome.node
-
--- The outcome is that of a time step.
-pub record IsTick (given : Given) (s : State) (ms : ℕ) (outcome : WholeOutcome) : Type 0 where
-  pub sent : outcome.sent ≡ []
-  pub state : applied_whole outcome s ≡ next_tick given s ms
-  pub planned : IsPlanned s.node outcome.node
-
--- The outcome is that of this event.
-pub record IsWholePlan (given : Given) (s : State) (event : Event) (outcome : WholeOutcome) : Type 0 where
-  pub sent : outcome.sent ≡ sent given s event
-  pub state : applied_whole outcome s ≡ next given s event
-  pub planned : IsPlanned s.node outcome.node
+-- The outcome is that of this event: what is sent, what it brings, the node and the deadlines, what is said.
+pub record IsWholePlan (given : Given) (w : Whole) (event : Event) (outcome : WholeOutcome) : Type 0 where
+  pub sent : outcome.sent ≡ sent given w event
+  pub fresh : told_fresh outcome.fresh ≡ fresh_by_line w event
+  pub state : applied_plain outcome.plain w.state ≡ state_behind given w event
+  pub talks : (talks : List code.SessionTalk) → AreTalks talks w.talks → AreTalks (put outcome.talk talks) (talks_behind given w event)
 
 -- there is an outcome exactly where the event is built
-abbrev pub IsPlanIf : Given → State → Event → Option WholeOutcome → Type 0
-IsPlanIf given s event None = is_built event ≡ false
-IsPlanIf given s event (Some outcome) = (is_built event ≡ true) × IsWholePlan given s event outcome
+abbrev pub IsPlanIf : Given → Whole → Event → Option WholeOutcome → Type 0
+IsPlanIf given w event None = is_built w event ≡ false
+IsPlanIf given w event (Some outcome) = (is_built w event ≡ true) × IsWholePlan given w event outcome
 
--- the outcome was made on this state
-abbrev pub IsWholePlanned : State → WholeOutcome → Type 0
-IsWholePlanned s outcome = (given : Given) × ((event : Event) × IsWholePlan given s event outcome)
+-- an outcome was made on this state
+abbrev pub IsPlannedIf : State → Option WholeOutcome → Type 0
+IsPlannedIf s None = ⊤
+IsPlannedIf s (Some outcome) = IsPlainPlanned s outcome.plain
+
+-- What comes over one session.
+
+-- the talk that an outcome brings is that of this session, and stands for this
+abbrev pub IsNewTalk : Option code.SessionTalk → SessionTalk → Talk → Type 0
+IsNewTalk None t talk = ⊥
+IsNewTalk (Some new) t talk = (new.id ≡ t.row.session) × IsTalkOf new.talk t.row talk
+
+pub record IsHeard (given : Given) (s : State) (ms : ℕ) (from : Peer) (bytes : List ℕ) (t : SessionTalk) (outcome : WholeOutcome) : Type 0 where
+  pub sent : outcome.sent ≡ sent_over given s.node ms from bytes t
+  pub fresh : told_fresh outcome.fresh ≡ fresh_over bytes t
+  pub state : applied_plain outcome.plain s ≡ behind_action given s (action_said t.row.session (said_to s.node bytes t)) ms
+  pub talk : IsNewTalk outcome.talk t (talked given s.node ms from bytes t)
+
+abbrev pub IsHeardIf : Given → State → ℕ → Peer → List ℕ → SessionTalk → Option WholeOutcome → Type 0
+IsHeardIf given s ms from bytes t None = is_built_said (said_to s.node bytes t) ≡ false
+IsHeardIf given s ms from bytes t (Some outcome) = (is_built_said (said_to s.node bytes t) ≡ true) × IsHeard given s ms from bytes t outcome
+
+-- What is answered to what is said: on which exchange, with which acknowledgement, and what comes of it.
+
+abbrev pub answer_as : Option Answering → Option Answer
+answer_as None = None
+answer_as (Some answer) = Some (record { key = answer.key; acknowledge = answer.acknowledge; payloads = answer.payloads })
+
+pub record IsAnswered (given : Given) (s : State) (id ms : ℕ) (said : Said) (both : Option Answering × PlainOutcome) : Type 0 where
+  pub answer : answer_as both.0 ≡ answer_to given s.node id ms said
+  pub state : applied_plain both.1 s ≡ behind_action given s (action_said id said) ms
+  pub planned : IsPlainPlanned s both.1
+
+abbrev pub IsAnsweredIf : Given → State → ℕ → ℕ → Said → Option (Option Answering × PlainOutcome) → Type 0
+IsAnsweredIf given s id ms said None = is_built_said said ≡ false
+IsAnsweredIf given s id ms said (Some both) = (is_built_said said ≡ true) × IsAnswered given s id ms said both
+
+-- What passes, and what is sent again.
+
+-- nothing is sent or said, and time passes
+pub record IsQuiet (given : Given) (s : State) (ms : ℕ) (outcome : WholeOutcome) : Type 0 where
+  pub sent : outcome.sent ≡ []
+  pub fresh : outcome.fresh ≡ None
+  pub state : applied_plain outcome.plain s ≡ behind_action given s actions.Nothing ms
+  pub talk : outcome.talk ≡ None
+  pub planned : IsPlainPlanned s outcome.plain
+
+-- the talk that an outcome brings, if any, stands for this; where it brings none it stays
+abbrev pub IsTalkBehind : Option code.SessionTalk → SessionTalk → Talk → Type 0
+IsTalkBehind None t talk = talk ≡ t.talk
+IsTalkBehind (Some new) t talk = (new.id ≡ t.row.session) × IsTalkOf new.talk t.row talk
+
+pub record IsAgain (given : Given) (s : State) (ms : ℕ) (t : SessionTalk) (outcome : WholeOutcome) : Type 0 where
+  pub sent : outcome.sent ≡ resent_over s.node ms t
+  pub fresh : outcome.fresh ≡ None
+  pub state : applied_plain outcome.plain s ≡ behind_action given s actions.Nothing ms
+  pub talk : IsTalkBehind outcome.talk t (resent_talk s.node ms t)
+
+-- An event that is of no session.
+pub record IsPlainLine (given : Given) (s : State) (event : Event) (outcome : WholeOutcome) : Type 0 where
+  pub sent : outcome.sent ≡ machine.sent given s event
+  pub fresh : outcome.fresh ≡ None
+  pub state : applied_plain outcome.plain s ≡ machine.next given s event
+  pub talk : outcome.talk ≡ None
+  pub planned : IsPlainPlanned s outcome.plain
+
+abbrev pub IsPlainLineIf : Given → State → Event → Option WholeOutcome → Type 0
+IsPlainLineIf given s event None = machine.is_built event ≡ false
+IsPlainLineIf given s event (Some outcome) = (machine.is_built event ≡ true) × IsPlainLine given s event outcome

@@ -1,19 +1,19 @@
-//! The whole: the node, and around it what belongs to the actors of a recording's lines. A line is
+//! The whole: the node, the deadlines of plain actors, and what is said over each session. A line of a recording is
 //! planned, which changes nothing and takes all the memory, and then applied, which takes none.
 //!
 //! - `whole`: the whole, how it starts, plans and applies;
 //! - `outcome`: what comes of a line;
-//! - `lines`: a line of a plain actor, from its payload to what is sent;
-//! - `ticks`: a time step;
-//! - `deadlines`: until when the next requests of plain actors must come;
-//! - `sending`: the messages of a reply.
+//! - `datagrams`: a datagram, from its bytes to what is sent;
+//! - `resends`: what is sent again;
+//! - `talks`: what is said over the sessions;
+//! - `sending`: what is sent to the peer of a session.
 #![tactic(auto)]
 
-mod deadlines;
-mod lines;
+mod datagrams;
 mod outcome;
+mod resends;
 mod sending;
-mod ticks;
+mod talks;
 mod whole;
 
 pub use outcome::WholeOutcome;

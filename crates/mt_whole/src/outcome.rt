@@ -1,14 +1,20 @@
 //! What comes of a line.
 
-use mt_model::{PlainDeadlines, SentList};
-use mt_node::Outcome;
+use crate::talks::SessionTalk;
+use mt_frame::ProtocolHeader;
+use mt_model::SentList;
+use mt_plain::PlainOutcome;
+use mt_tlv::Bytes;
 
 /// What a planned event sends, and what it makes of the whole.
 #[derive(Drop)]
 pub struct WholeOutcome {
     /// The messages, in the order of sending.
     pub sent: SentList,
-    pub(crate) node: Outcome,
-    // the deadlines of plain actors, None where they stay
-    pub(crate) deadlines: Option<PlainDeadlines>,
+    /// The counter, the header and the payload of the message that the event brings to its session, live or not, where
+    /// it brings one.
+    pub fresh: Option<(u32, ProtocolHeader, Bytes)>,
+    pub(crate) plain: PlainOutcome,
+    // the talk that is another behind the event, where one is
+    pub(crate) talk: Option<SessionTalk>,
 }

@@ -1,39 +1,58 @@
-//! The messages of a reply to a plain actor.
+//! What is sent to the peer of a session.
 
 ghost use Rattle.std.specs.Prelude.{◌≡◌, IfOk};
-ghost use Rattle.mt_machine.specs.Lines.{sent_as, sent_plain};
+ghost use Rattle.mt_lines.specs.Datagrams.{all_sent, if_any, sent_at};
 
-use mt_im_out::chunks;
-use mt_model::{Payload, Reply, Sent, SentList, To};
+use mt_model::{Sent, SentList, To};
+use mt_outside::Peer;
+use mt_tlv::Bytes;
 use std::alloc::{AllocError, Global};
 
-/// The messages of a reply to a plain actor of a fabric, who confirms each at once. The bytes of the
-/// payloads are moved.
-pub(crate) fn sent_as(
+/// A datagram, where there is one, to where the peer was last heard from.
+pub(crate) fn one_sent(
     alloc: Global,
     ms: u64,
-    fabric: u8,
-    reply: &Reply,
+    session: u16,
+    peer: Option<Peer>,
+    datagram: Option<Bytes>,
 ) -> Result<SentList, AllocError>
-    ensures { IfOk result (λ sent. sent ≡ sent_as ms fabric reply.now) }
+    ensures { IfOk result (λ sent. sent ≡ all_sent ms session peer (if_any datagram)) }
 {
-    let payloads = chunks(alloc, reply)?.into_vec();
-    let mut sent = Vec::with_capacity(alloc, payloads.len())?;
-    for payload in payloads {
-        sent.push(sent_plain(ms, fabric, payload))?;
+    let mut sent = SentList::new(alloc);
+    if let Some(peer) = peer {
+        if let Some(bytes) = datagram {
+            sent.push(sent_at(ms, session, peer, bytes))?;
+        }
+    }
+    Ok(sent)
+}
+
+/// Datagrams in their order, to where the peer was last heard from.
+pub(crate) fn all_sent(
+    alloc: Global,
+    ms: u64,
+    session: u16,
+    peer: Option<Peer>,
+    datagrams: Vec<Bytes>,
+) -> Result<SentList, AllocError>
+    ensures { IfOk result (λ sent. sent ≡ all_sent ms session peer datagrams.items) }
+{
+    let Some(peer) = peer else {
+        return Ok(SentList::new(alloc));
+    };
+    let mut sent = Vec::with_capacity(alloc, datagrams.len())?;
+    for bytes in datagrams {
+        sent.push(sent_at(ms, session, peer, bytes))?;
     }
     Ok(SentList::from_vec(sent))
 }
 
-fn sent_plain(ms: u64, fabric: u8, payload: Payload) -> Sent
-    ensures { result ≡ sent_plain ms fabric payload }
+fn sent_at(ms: u64, session: u16, peer: Peer, bytes: Bytes) -> Sent
+    ensures { result ≡ sent_at ms session peer bytes }
 {
     Sent {
         ms,
-        to: To::Plain {
-            fabric,
-            opcode: payload.opcode,
-        },
-        bytes: payload.bytes,
+        to: To::Session { session, peer },
+        bytes,
     }
 }

@@ -1,52 +1,41 @@
 //! The whole.
 
 ghost use Rattle.std.specs.Prelude.{◌≡◌, IfOk, option_copied};
-ghost use Rattle.mt_machine.specs.Lines.{is_built_payload};
-ghost use Rattle.mt_im.specs.Reading.{request_in};
-ghost use Rattle.mt_whole.specs.Kept.{given_to, in_state, started};
-ghost use Rattle.mt_whole.specs.Plan.{IsLineIf, IsPlanIf, IsWholePlanned, applied_whole, is_want_of_memory};
+ghost use Rattle.mt_machine.specs.Given.{Given};
+ghost use Rattle.mt_model.specs.declared.texts.recording.Event.{Event as Line};
+ghost use Rattle.mt_plain.specs.Plan.{IsPlainPlanned};
+ghost use Rattle.mt_lines.specs.Lines.{next};
+ghost use Rattle.mt_lines.specs.Whole.{Whole as Told, fabric_live};
+ghost use Rattle.mt_whole.specs.Plan.{IsPlainLineIf, IsPlanIf, IsPlannedIf, IsStarted, IsWholePlan, given_to};
+ghost use Rattle.mt_whole.specs.Talks.{IsWholeOf};
 
-use crate::lines::{line_actor, planned_line};
+use crate::datagrams::planned_datagram;
 use crate::outcome::WholeOutcome;
-use crate::ticks::planned_tick;
-use mt_im::{ImFault, decode};
-use mt_model::{Actor, Armed, Config, Event, PlainDeadlines, Request, Verdicts};
-use mt_node::{Node, is_built_request};
-use mt_tlv::Bytes;
+use crate::resends::planned_resend;
+use crate::talks::{SessionTalk, begun, let_go, put_if_any};
+use mt_model::{Armed, Config, Event, SentList, Verdicts};
+use mt_plain::Plain;
 use std::alloc::{AllocError, Global};
-use std::marker::Model;
+use std::mem::replace;
 
-/// The node, and the deadlines of plain actors around it. Contracts see the state of both, and the configuration
-/// with which it was started.
+/// The node, the deadlines of plain actors, and what is said over each session. Contracts speak of all that was said,
+/// which nothing stores: a whole stands for lists of it.
 #[derive(Drop)]
 pub struct Whole {
     pub(crate) alloc: Global,
-    pub(crate) node: Node,
-    pub(crate) deadlines: PlainDeadlines,
-}
-
-impl Model for Whole {
-    ghost use Rattle.mt_whole.specs.Kept.{Kept};
-    ghost use Rattle.mt_tlv.specs.contracts.value.Value as values;
-    ghost use Rattle.std.specs.Coded.{codes};
-
-    ghost Value = { Kept };
-
-    ghost coded = { Prim.hlevel (codes, values.the_row.coded) };
-
-    ghost view = { λ whole. record { state = record { node = whole.node.state; deadlines = whole.deadlines }; config = whole.node.config } };
+    pub(crate) plain: Plain,
+    pub(crate) talks: Vec<SessionTalk>,
 }
 
 impl Whole {
-    /// A new node with this configuration, in its first boot; nobody has a deadline.
+    /// A new node with this configuration, in its first boot; nobody has a deadline, and nothing has been said.
     pub fn start(alloc: Global, config: &Config) -> Result<Whole, AllocError>
-        ensures { IfOk result (λ whole. whole ≡ started config.now) }
+        ensures { IfOk result (IsStarted config.now) }
     {
-        let node = Node::start(alloc, config)?;
         Ok(Whole {
             alloc,
-            node,
-            deadlines: PlainDeadlines::new(alloc),
+            plain: Plain::start(alloc, config)?,
+            talks: begun(alloc, config.sessions.as_slice())?,
         })
     }
 
@@ -57,92 +46,71 @@ impl Whole {
         event: &Event,
         verdicts: &V,
     ) -> Result<Option<WholeOutcome>, AllocError>
-        ensures { let given = given_to self.now (V.roots verdicts.now) (V.csrs verdicts.now) (V.joins verdicts.now) in
-            IfOk result (IsPlanIf given self.now.state event.now) }
+        ensures planned { IfOk result (IsPlannedIf self.now.plain.state) }
+        ensures plan { let given = given_to self.now (V.roots verdicts.now) (V.csrs verdicts.now) (V.joins verdicts.now) in
+            (w : Told) → IsWholeOf self.now w → IfOk result (IsPlanIf given w event.now) }
     {
         match event {
-            Event::Ask {
-                ms,
-                fabric,
-                node,
-                cats,
-                opcode,
-                payload,
-            } => {
-                let actor = line_actor(*fabric, *node, *cats);
-                self.plan_line(*ms, &actor, *opcode, payload, verdicts)
-            },
-            Event::Tick { ms } => {
-                let outcome = planned_tick(self, *ms, verdicts)?;
-                Ok(Some(outcome))
-            },
-            Event::Datagram { .. } => Ok(None),
-            Event::Report { .. } => Ok(None),
-            Event::Resend { .. } => Ok(None),
-            Event::Stop { .. } => Ok(None),
+            Event::Datagram { ms, peer, bytes } => planned_datagram(
+                self, *ms, *peer, bytes, verdicts,
+            ),
+            Event::Resend { ms, session } => Ok(Some(planned_resend(
+                self, *ms, *session, verdicts,
+            )?)),
+            _ => self.plan_plain(event, verdicts),
         }
+    }
+
+    // Plans an event that is of no session.
+    fn plan_plain<V: Verdicts>(
+        &self,
+        event: &Event,
+        verdicts: &V,
+    ) -> Result<Option<WholeOutcome>, AllocError>
+        ensures { let given = given_to self.now (V.roots verdicts.now) (V.csrs verdicts.now) (V.joins verdicts.now) in
+            IfOk result (IsPlainLineIf given self.now.plain.state event.now) }
+    {
+        let Some(mut plain) = self.plain.plan(event, verdicts)? else {
+            return Ok(None);
+        };
+        Ok(Some(WholeOutcome {
+            sent: replace(&mut plain.sent, SentList::new(self.alloc)),
+            fresh: None,
+            plain,
+            talk: None,
+        }))
     }
 
     /// The fail-safe, None exactly where nobody has armed it.
     pub fn armed(&self) -> Option<&Armed>
-        ensures { option_copied result ≡ self.now.state.node.armed }
+        ensures { option_copied result ≡ self.now.plain.state.node.armed }
     {
-        self.node.armed()
+        self.plain.armed()
     }
 
-    // Plans a line of a plain actor, None where its payload asks what is not built.
-    fn plan_line<V: Verdicts>(
-        &self,
-        ms: u64,
-        actor: &Actor,
-        opcode: u8,
-        payload: &Bytes,
-        verdicts: &V,
-    ) -> Result<Option<WholeOutcome>, AllocError>
-        ensures { let given = given_to self.now (V.roots verdicts.now) (V.csrs verdicts.now) (V.joins verdicts.now) in
-            IfOk result (IsLineIf given self.now.state ms actor.now (request_in opcode payload.now)) }
+    /// The fabric for which the session is live, 0 on PASE without one; None exactly where it is not live.
+    pub fn live(&self, session: u16) -> Option<u8>
+        ensures { result ≡ fabric_live self.now.plain.state.node session }
     {
-        let asked = decode(self.alloc, opcode, payload.as_slice());
-        if is_want_of_memory(&asked) {
-            return Err(AllocError);
-        }
-        if !is_built_payload(&asked) {
-            return Ok(None);
-        }
-        let outcome = planned_line(self, ms, actor, &asked, verdicts)?;
-        Ok(Some(outcome))
+        let actor = self.plain.actor(session)?;
+        Some(actor.fabric)
     }
 
-    /// Makes of the whole what a planned event makes of it. It takes no memory, and cannot fail.
+    /// Makes of the whole what a planned event makes of it. Sessions that end let go of their exchanges. It takes no
+    /// memory, and cannot fail.
     pub fn apply(&mut self, outcome: WholeOutcome)
-        requires { IsWholePlanned self.old.state outcome }
-        ensures { self.new ≡ in_state (applied_whole outcome self.old.state) self.old }
+        requires { IsPlainPlanned self.old.plain.state outcome.plain }
+        ensures config { self.new.plain.config ≡ self.old.plain.config }
+        ensures stands { (given : Given) (w : Told) (event : Line) → IsWholeOf self.old w → IsWholePlan given w event outcome → IsWholeOf self.new (next given w event) }
     {
         let WholeOutcome {
             sent: _,
-            node,
-            deadlines,
+            fresh: _,
+            plain,
+            talk,
         } = outcome;
-        self.node.apply(node);
-        if let Some(deadlines) = deadlines {
-            self.deadlines = deadlines;
-        }
-    }
-}
-
-// Whether a payload was not decoded for want of memory.
-fn is_want_of_memory(asked: &Result<Request, ImFault>) -> bool
-    ensures { result ≡ is_want_of_memory asked.now }
-{
-    matches!(asked, Err(ImFault::Memory))
-}
-
-// Whether what a payload was decoded to is built.
-fn is_built_payload(asked: &Result<Request, ImFault>) -> bool
-    ensures { result ≡ is_built_payload asked.now }
-{
-    match asked {
-        Ok(request) => is_built_request(request),
-        Err(_) => true,
+        put_if_any(&mut self.talks, talk);
+        let_go(&mut self.talks, plain.closed());
+        self.plain.apply(plain);
     }
 }

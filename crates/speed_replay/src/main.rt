@@ -7,6 +7,7 @@
 ghost use Rattle.std.specs.Prelude.{None};
 
 mod join;
+mod sealed;
 mod table;
 mod written;
 

@@ -2,6 +2,7 @@
 //! fabric that comes and goes. Writes and commands change what stands each time.
 
 use crate::join::{self, push_times};
+use crate::sealed;
 use crate::written::{Written, items};
 use mt_files::write_event;
 use mt_im_out::encode_request;
@@ -9,6 +10,7 @@ use mt_model::opcode::{INVOKE_REQUEST, READ_REQUEST, WRITE_REQUEST};
 use mt_model::{Event, Index, Path, Paths, Place, Request, Version, Versions};
 use mt_tlv::{Bytes, Members, Value};
 use std::alloc::{AllocError, Global};
+use std::io;
 
 /// A recording of the table, which is made and not stored.
 #[derive(Clone, Copy)]
@@ -24,6 +26,8 @@ pub(crate) struct Recording {
     filtered: bool,
     /// How many fabrics ask, one after the other.
     turns: u8,
+    /// How many sessions there are, over which it is asked by turns; 0 where plain actors ask.
+    sessions: u8,
 }
 
 /// What is asked.
@@ -49,6 +53,15 @@ fn of_two_fabrics(name: &'static str, asked: Path, filtered: bool) -> Recording 
         asked: Asked::One(asked),
         filtered,
         turns: 1,
+        sessions: 0,
+    }
+}
+
+fn sealed(name: &'static str, sessions: u8) -> Recording {
+    Recording {
+        fabrics: sealed::fabrics(sessions),
+        sessions,
+        ..of_two_fabrics(name, attributes(1, Some(6), Some(0)), true)
     }
 }
 
@@ -75,7 +88,7 @@ pub(crate) fn acl() -> Path {
 }
 
 /// The recordings of the table.
-pub(crate) fn recordings() -> [Recording; 12] {
+pub(crate) fn recordings() -> [Recording; 15] {
     [
         of_two_fabrics("attribute", attributes(1, Some(6), Some(0)), true),
         of_two_fabrics("endpoint-0", attributes(0, None, None), true),
@@ -114,6 +127,9 @@ pub(crate) fn recordings() -> [Recording; 12] {
             asked: Asked::Join,
             ..of_two_fabrics("joins", acl(), false)
         },
+        sealed("sealed-1", 1),
+        sealed("sealed-8", 8),
+        sealed("sealed-64", 64),
     ]
 }
 
@@ -130,6 +146,9 @@ impl Recording {
         text.push_str("]")?;
         if let Asked::Join = self.asked {
             join::push_verdicts(&mut text)?;
+        }
+        if self.sessions > 0 {
+            sealed::push_sessions(alloc, self.sessions, &mut text)?;
         }
         text.push_str("}\n")?;
         Ok(text)
@@ -161,7 +180,11 @@ impl Recording {
     }
 
     /// The text of a recording of so many requests.
-    pub(crate) fn text(&self, alloc: Global, lines: u64) -> Result<Vec<u8>, AllocError> {
+    pub(crate) fn text(&self, alloc: Global, lines: u64) -> io::Result<Vec<u8>> {
+        if self.sessions > 0 {
+            let payload = encode_request(alloc, &self.request(alloc, 0)?)?;
+            return sealed::text(alloc, self.sessions, lines, payload.as_slice());
+        }
         let round = self.round(alloc)?;
         let mut text = Vec::from_slice(alloc, b"matter-record 1\n")?;
         for (ms, (fabric, payload)) in (0..lines).zip(round.iter().cycle()) {

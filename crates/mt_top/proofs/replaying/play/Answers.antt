@@ -2,65 +2,86 @@ use Rattle.std.proofs.Common.{◌++◌, ◌+◌, ◌≤◌, length, drop, [], ap
 use Rattle.mt_outside.specs.Stream.{one_more}
 use Rattle.mt_top.specs.Endings.{unbuilt_from}
 use Rattle.mt_top.specs.Parts.{StepsIf}
-use Rattle.mt_top.specs.Begun.{sent_by}
-use Rattle.mt_top.proofs.Plays.{sent_of, sent-step, unbuilt-step, sent-end, unbuilt-end, took-all, took-less, took-more}
+use Rattle.mt_top.specs.Begun.{behind, sent_by}
+use Rattle.mt_top.proofs.Plays.{sent_of, sent-step, sent-stop, unbuilt-step, unbuilt-stop, sent-end, unbuilt-end, took-all, took-less, took-more}
 use Rattle.mt_top.proofs.replaying.play.Goals as goal
 
 pub loop-event-init : goal.loop-event-init
 loop-event-init g c = record {
-  told = [];
-  took = c.writings_add_up.ensures.nothing (g.W.Sink.written c.args.out.now);
-  sent = ap (sent_of c.args.player) (sym c.as_slice-event-items.ensures);
-  unbuilt = ap (unbuilt_from 2) (sym c.as_slice-event-items.ensures);
+  so_far = λ begun stands. record {
+    told = [];
+    at = begun;
+    stands = stands;
+    took = c.writings_add_up.ensures.nothing (g.W.Sink.written c.args.out.now);
+    sent = ap (sent_of begun) (sym c.as_slice-event-items.ensures);
+    unbuilt = ap (unbuilt_from 2 begun) (sym c.as_slice-event-items.ensures);
+  };
   line = omega arith;
   calm = refl;
 }
 
 pub returns-in_default-clause-err : goal.returns-in_default-clause-err
-returns-in_default-clause-err g c =
+returns-in_default-clause-err g c = λ begun stands.
     let l = c.loop-event in
-    (l.invariant.told, sent_of l.player (drop l.event-index c.as_slice-event-items.result.now), l.invariant.sent, l.invariant.took)
+    let i = l.invariant.so_far begun stands in
+    (i.told, sent_of i.at (drop l.event-index c.as_slice-event-items.result.now), i.sent, i.took)
+
+pub returns-in_default-answer-clause-err : goal.returns-in_default-answer-clause-err
+returns-in_default-answer-clause-err g c = λ begun stands.
+    let l = c.loop-event in
+    let i = l.invariant.so_far begun stands in
+    let all = c.as_slice-event-items.result.now in
+    let event = c.event-item.result in
+    let unbuilt = subst (StepsIf i.at c.step.new.self event) c.in_default-answer.is (c.in-Ok.ensures i.at i.stands) in
+    let none = sent-stop i.at all l.event-index event c.loop-event-test.true c.event-item.is unbuilt in (
+      i.unbuilt ∙ unbuilt-stop l.line i.at all l.event-index event c.loop-event-test.true c.event-item.is unbuilt,
+      took-all (g.W.Sink.written c.args.out.now) (g.W.Sink.written l.out) i.told (sent_of i.at (drop l.event-index all)) (sent_of begun c.args.events.now) i.took i.sent none,
+    )
 
 pub returns-in_default-write_all-clause-err : goal.returns-in_default-write_all-clause-err
-returns-in_default-write_all-clause-err g c =
+returns-in_default-write_all-clause-err g c = λ begun stands.
     let written = g.W.Sink.written in
-    let faults = g.W.Sink.faults in
     let l = c.loop-event in
-    let i = l.invariant in
+    let i = l.invariant.so_far begun stands in
     let all = c.as_slice-event-items.result.now in
     let event = c.event-item.result in
     let text = c.in-Some.text.items in
     let new = c.step.new.self in
-    let steps = subst (StepsIf l.player new event) c.in-Some.is c.in-Ok.ensures in
+    let steps = subst (StepsIf i.at new event) c.in-Some.is (c.in-Ok.ensures i.at i.stands) in
     let k = c.write_all.ensures in (
-      k.cause.rose (search rules) ∙ ap one_more i.calm,
-      took-less c.writings_add_up.ensures (written c.args.out.now) (written l.out) (written c.write_all.new.sink) i.told (sent_by l.player event) (sent_of new (drop (l.event-index + 1) all)) (sent_of c.args.player c.args.events.now) text i.took steps.1.0 (search rules)
-          (i.sent ∙ ap (λ w. i.told ++ w) (sent-step l.player new all l.event-index event c.loop-event-test.true c.event-item.is steps.0 steps.1.1)),
+      k.cause.rose (search rules) ∙ ap one_more l.invariant.calm,
+      took-less c.writings_add_up.ensures (written c.args.out.now) (written l.out) (written c.write_all.new.sink) i.told (sent_by i.at event) (sent_of (behind i.at event) (drop (l.event-index + 1) all)) (sent_of begun c.args.events.now) text i.took steps.1.0 (search rules)
+          (i.sent ∙ ap (λ w. i.told ++ w) (sent-step i.at all l.event-index event c.loop-event-test.true c.event-item.is steps.0)),
     )
 
 pub loop-event-preserved : goal.loop-event-preserved
 loop-event-preserved g c =
     let written = g.W.Sink.written in
     let l = c.loop-event in
-    let i = l.invariant in
     let all = c.as_slice-event-items.result.now in
     let event = c.event-item.result in
     let text = c.in-Some.text.items in
     let new = c.step.new.self in
-    let steps = subst (StepsIf l.player new event) c.in-Some.is c.in-Ok.ensures in
     let k = c.write_all.ensures in
     record {
-      told = i.told ++ sent_by l.player event;
-      took = took-more c.writings_add_up.ensures (written c.args.out.now) (written l.out) (written c.write_all.new.sink) i.told (sent_by l.player event) text i.took steps.1.0 (search rules);
-      sent = i.sent ∙ ap (λ w. i.told ++ w) (sent-step l.player new all l.event-index event c.loop-event-test.true c.event-item.is steps.0 steps.1.1) ∙ sym (append_assoc i.told (sent_by l.player event) (sent_of new (drop (l.event-index + 1) all)));
-      unbuilt = i.unbuilt ∙ unbuilt-step l.line all l.event-index event c.loop-event-test.true c.event-item.is steps.0;
-      line = omega (arith, i.line);
-      calm = k.cause.stays (search rules) ∙ i.calm;
+      so_far = λ begun stands.
+          let i = l.invariant.so_far begun stands in
+          let steps = subst (StepsIf i.at new event) c.in-Some.is (c.in-Ok.ensures i.at i.stands) in
+          record {
+            told = i.told ++ sent_by i.at event;
+            at = behind i.at event;
+            stands = steps.1.1;
+            took = took-more c.writings_add_up.ensures (written c.args.out.now) (written l.out) (written c.write_all.new.sink) i.told (sent_by i.at event) text i.took steps.1.0 (search rules);
+            sent = i.sent ∙ ap (λ w. i.told ++ w) (sent-step i.at all l.event-index event c.loop-event-test.true c.event-item.is steps.0) ∙ sym (append_assoc i.told (sent_by i.at event) (sent_of (behind i.at event) (drop (l.event-index + 1) all)));
+            unbuilt = i.unbuilt ∙ unbuilt-step l.line i.at all l.event-index event c.loop-event-test.true c.event-item.is steps.0;
+          };
+      line = omega (arith, l.invariant.line);
+      calm = k.cause.stays (search rules) ∙ l.invariant.calm;
     }
 
 pub returns-clause-ok : goal.returns-clause-ok
-returns-clause-ok g c =
+returns-clause-ok g c = λ begun stands.
     let l = c.loop-event in
-    let i = l.invariant in
+    let i = l.invariant.so_far begun stands in
     let le : length c.as_slice-event-items.result.now ≤ l.event-index = omega arith in
-    (i.unbuilt ∙ unbuilt-end l.line c.as_slice-event-items.result.now l.event-index le, took-all (g.W.Sink.written c.args.out.now) (g.W.Sink.written l.out) i.told (sent_of l.player (drop l.event-index c.as_slice-event-items.result.now)) (sent_of c.args.player c.args.events.now) i.took i.sent (sent-end l.player c.as_slice-event-items.result.now l.event-index le))
+    (i.unbuilt ∙ unbuilt-end l.line i.at c.as_slice-event-items.result.now l.event-index le, took-all (g.W.Sink.written c.args.out.now) (g.W.Sink.written l.out) i.told (sent_of i.at (drop l.event-index c.as_slice-event-items.result.now)) (sent_of begun c.args.events.now) i.took i.sent (sent-end i.at c.as_slice-event-items.result.now l.event-index le))

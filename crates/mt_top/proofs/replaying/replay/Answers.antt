@@ -27,16 +27,14 @@ returns-in-Ok-recorded-clause-ok g c =
     let reads = g.A.Source.faults in
     let written = g.W.Sink.written in
     let faults = g.W.Sink.faults in
-    let s = c.in-Ok.player in
+    let s = begun_with (contents_of c.args.config.now) in
     let old = input (left c.args.first.now) (reads c.args.first.now) in
     let new = input (left c.recorded.new.first) (reads c.recorded.new.first) in
     let events = c.in-Ok-recorded.events in
     let held = c.in-Ok-recorded.ensures.ok in
-    let from : s ≡ begun_with (contents_of c.args.config.now) = c.in-Ok.ensures in
-    let Told = λ (x : Begun). OnOk c.play.result (Done (replayed_from x) (moment in_hand old (written c.args.out.now) (faults c.args.out.now)) (moment in_hand new (written c.play.new.out) (faults c.play.new.out))) in
-    subst Told from (on_ok c.play.result (PlayedTo (played s events) (written c.args.out.now) (written c.play.new.out)) (Done (replayed_from s) (moment in_hand old (written c.args.out.now) (faults c.args.out.now)) (moment in_hand new (written c.play.new.out) (faults c.play.new.out)))
+    on_ok c.play.result (PlayedTo (played s events) (written c.args.out.now) (written c.play.new.out)) (Done (replayed_from s) (moment in_hand old (written c.args.out.now) (faults c.args.out.now)) (moment in_hand new (written c.play.new.out) (faults c.play.new.out)))
     (λ well. plays_done c.writings_add_up.ensures s old new (written c.args.out.now) (written c.play.new.out) (faults c.args.out.now) (faults c.play.new.out) held.0 events held.1 held.2 (record { sources = record { config = refl; first = c.recorded.ensures.calm (search rules) }; sink = c.play.ensures.calm (well WriteFault) }))
-    c.play.ensures.ok)
+    (c.play.ensures.ok s c.in-Ok.ensures)
 
 pub returns-in-Ok-recorded-clause-err : goal.returns-in-Ok-recorded-clause-err
 returns-in-Ok-recorded-clause-err g c =
@@ -44,16 +42,14 @@ returns-in-Ok-recorded-clause-err g c =
     let reads = g.A.Source.faults in
     let written = g.W.Sink.written in
     let faults = g.W.Sink.faults in
-    let s = c.in-Ok.player in
+    let s = begun_with (contents_of c.args.config.now) in
     let old = input (left c.args.first.now) (reads c.args.first.now) in
     let new = input (left c.recorded.new.first) (reads c.recorded.new.first) in
     let events = c.in-Ok-recorded.events in
     let held = c.in-Ok-recorded.ensures.ok in
-    let from : s ≡ begun_with (contents_of c.args.config.now) = c.in-Ok.ensures in
-    let Told = λ (x : Begun). IfErr c.play.result (λ fault. Stops fault (replayed_from x) (moment in_hand old (written c.args.out.now) (faults c.args.out.now)) (moment in_hand new (written c.play.new.out) (faults c.play.new.out))) in
-    subst Told from (if_err c.play.result (λ fault. StopsPlaying fault (played s events) (written c.args.out.now) (written c.play.new.out) (faults c.args.out.now) (faults c.play.new.out)) (λ fault. Stops fault (replayed_from s) (moment in_hand old (written c.args.out.now) (faults c.args.out.now)) (moment in_hand new (written c.play.new.out) (faults c.play.new.out)))
+    if_err c.play.result (λ fault. StopsPlaying fault (played s events) (written c.args.out.now) (written c.play.new.out) (faults c.args.out.now) (faults c.play.new.out)) (λ fault. Stops fault (replayed_from s) (moment in_hand old (written c.args.out.now) (faults c.args.out.now)) (moment in_hand new (written c.play.new.out) (faults c.play.new.out)))
     (λ fault h. plays_stop c.writings_add_up.ensures s old new (written c.args.out.now) (written c.play.new.out) (faults c.args.out.now) (faults c.play.new.out) held.0 events fault held.1 held.2 h)
-    c.play.ensures.err)
+    (c.play.ensures.err s c.in-Ok.ensures)
 
 pub returns-in-Ok-recorded-clause-calm : goal.returns-in-Ok-recorded-clause-calm
 returns-in-Ok-recorded-clause-calm g c =

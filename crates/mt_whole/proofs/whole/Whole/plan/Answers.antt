@@ -1,16 +1,17 @@
-use Rattle.mt_im.specs.Reading.{request_in}
-use Rattle.mt_model.specs.declared.texts.recording.Event.TheVariants.{Ask}
-use Rattle.mt_whole.specs.Kept.{Kept, given_to}
-use Rattle.mt_whole.specs.Plan.{IsLineIf, IsPlanIf}
-use Rattle.mt_whole.proofs.Planned.{event_of, if_ok}
+use Rattle.std.proofs.Common.{subst}
+use Rattle.mt_machine.specs.State.{State}
+use Rattle.mt_whole.specs.Plan.{IsPlainLineIf, IsPlanIf, IsPlannedIf, given_to}
+use Rattle.mt_whole.proofs.Planned.{if_ok, plain_as_planned, plain_is_planned}
 use Rattle.mt_whole.proofs.whole.Whole.plan.Goals as goal
 
-pub returns-in-Ask : goal.returns-in-Ask
-returns-in-Ask g c =
-    let kept : Kept = c.args.self.now in
+pub returns-in_default : goal.returns-in_default
+returns-in_default g c =
     let verdicts = c.args.verdicts.now in
-    let given = given_to kept (g.V.Verdicts.roots verdicts) (g.V.Verdicts.csrs verdicts) (g.V.Verdicts.joins verdicts) in
-    let a = c.in-Ask in
-    let actor = c.line_actor-actor.result in
-    rw c.in-Ask.is (if_ok c.plan_line.result (IsLineIf given kept.state a.ms actor (request_in a.opcode a.payload)) (IsPlanIf given kept.state (Ask a.ms a.fabric a.node a.cats a.opcode a.payload))
-    (λ planned line. event_of given kept.state a.ms a.fabric a.node a.cats a.opcode a.payload actor c.line_actor-actor.ensures planned line) c.plan_line.ensures)
+    let whole = c.args.self.now in
+    let event = c.args.event.now in
+    let given = given_to whole (g.V.Verdicts.roots verdicts) (g.V.Verdicts.csrs verdicts) (g.V.Verdicts.joins verdicts) in
+    record {
+      planned = if_ok c.plan_plain.result (IsPlainLineIf given whole.plain.state event) (IsPlannedIf whole.plain.state) (plain_is_planned given whole.plain.state event) c.plan_plain.ensures;
+      plan = λ w is. if_ok c.plan_plain.result (IsPlainLineIf given whole.plain.state event) (IsPlanIf given w event)
+          (λ outcome h. plain_as_planned given w event c.in_default.not-Datagram c.in_default.not-Resend outcome (subst (λ (s : State). IsPlainLineIf given s event outcome) is.state h)) c.plan_plain.ensures;
+    }

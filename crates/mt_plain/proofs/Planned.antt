@@ -1,0 +1,227 @@
+-- The outcome of a line, from the plan of the node's action.
+use Rattle.std.proofs.Common.{◌≡◌, ℕ, not, ◌==◌, ◌&&◌, ◌||◌, inl, inr, Bool, true, false, List, [], ◌∷◌, Option, None, Some, Result, Ok, Err, IfOk, filter, refl, sym, ap, ◌∙◌, if◌then◌else◌, unwrap_or}
+use Rattle.std.specs.List.{list_any}
+use Rattle.mt_im.specs.Reading.{Gives, request_in}
+use Rattle.mt_im.specs.declared.fault.ImFault.{ImFault}
+use Rattle.mt_im.specs.declared.fault.ImFault.TheVariants as faults
+use Rattle.mt_model.specs.Optional.{is_that}
+use Rattle.mt_model.specs.messages.Status.{code_of}
+use Rattle.mt_model.specs.tables.Leaving.{stays}
+use Rattle.mt_model.specs.declared.tables.access.Actor.{Actor}
+use Rattle.mt_model.specs.declared.node.action.Action.TheVariants.{Ask, Expire, Nothing}
+use Rattle.mt_model.specs.declared.node.action.PlainDeadline.{PlainDeadline}
+use Rattle.mt_model.specs.declared.messages.message.Reply.{Reply}
+use Rattle.mt_model.specs.declared.messages.message.Reply.TheVariants as replies
+use Rattle.mt_model.specs.declared.messages.message.Request.{Request}
+use Rattle.mt_model.specs.declared.messages.status.Status.TheVariants.{Busy}
+use Rattle.mt_machine.specs.Lines.{action_of, deadline_for, deadline_of, deadlines_after, deadlines_of_those_left, fault_reply, is_deadline_of, is_refused, line_actor, next_for, sent_as, sent_for, sent_to, with_deadline, without}
+use Rattle.mt_machine.specs.State.{State, is_among}
+use Rattle.mt_machine.specs.Step.{after_action, after_steps, asked_reply, asked_steps, asker, at_time, refusal, reply_of}
+use Rattle.mt_machine.specs.Rollback.{added_in, deadlines_left, is_due}
+use Rattle.mt_machine.specs.Laws.{TakesTheAddedAway}
+use Rattle.mt_model.specs.declared.tables.network.Armed.{Armed}
+use Rattle.mt_machine.specs.State.{IsValid}
+use Rattle.mt_machine.specs.Given.{Given}
+use Rattle.mt_machine.specs.Leaving.{has_left}
+use Rattle.mt_node.specs.Plan.{IsPlan, applied}
+use Rattle.mt_model.specs.declared.node.state.NodeState.{NodeState}
+use Rattle.mt_model.specs.declared.tables.fabric.Fabric.{Fabric}
+use Rattle.std.proofs.lemmas.Bool.{cases_Bool}
+use Rattle.mt_model.specs.declared.texts.recording.Event.TheVariants as events
+use Rattle.mt_plain.specs.Plan.{IsActionPlan, IsLine, IsLineIf, IsPlanIf, IsQuiet, IsTick, is_want_of_memory, left_without}
+use Rattle.mt_machine.specs.Step.{Aside}
+use Rattle.mt_plain.specs.declared.outcome.PlainOutcome.{PlainOutcome}
+
+or_false : (a b : Bool) → (a || b) ≡ false → (a ≡ false) × (b ≡ false)
+or_false true b h = absurd (cc)
+or_false false b h = (refl, h)
+
+-- where nothing is taken away
+step : (d : PlainDeadline) (ds rest : List PlainDeadline) (its : Bool) → (its ≡ false → ds ≡ rest) → its ≡ false → d ∷ ds ≡ (if not its then d ∷ rest else rest)
+step d ds rest true same is = absurd (cc)
+step d ds rest false same is = ap (λ (l : List PlainDeadline). d ∷ l) (same is)
+
+pub none_taken : (asking : Actor) (ds : List PlainDeadline) → list_any (is_deadline_of asking) ds ≡ false → ds ≡ without asking ds
+none_taken asking [] none = refl
+none_taken asking (d ∷ ds) none =
+    let both = or_false (is_deadline_of asking d) (list_any (is_deadline_of asking) ds) none in
+    step d ds (without asking ds) (is_deadline_of asking d) (λ _. none_taken asking ds both.1) both.0
+
+-- The deadlines of a fabric that leaves the table, told by that fabric.
+
+-- the fabric that goes is the one that has left
+left_is_gone : (before now : NodeState) (gone : Option ℕ) → ((fabric : ℕ) → has_left before now fabric ≡ is_that fabric gone) → (ds : List PlainDeadline) → left_without gone ds ≡ deadlines_of_those_left before now ds
+left_is_gone before now None leaves [] = refl
+left_is_gone before now (Some fabric) leaves [] = refl
+left_is_gone before now None leaves (d ∷ ds) =
+    let rest = left_is_gone before now None leaves ds in
+    rw (leaves d.fabric) (ap (λ (l : List PlainDeadline). d ∷ l) rest)
+left_is_gone before now (Some fabric) leaves (d ∷ ds) =
+    let rest = left_is_gone before now (Some fabric) leaves ds in
+    let same : not (has_left before now d.fabric) ≡ not (fabric == d.fabric) = ap not (leaves d.fabric) in
+    elim (cases_Bool (fabric == d.fabric)) [
+      | inl its ↦ rw (same, its) rest
+      | inr other ↦ rw (same, other) (ap (λ (l : List PlainDeadline). d ∷ l) rest)
+    ]
+
+-- nobody leaves where the fabrics are the same
+and_not : (b : Bool) → (b && not b) ≡ false
+and_not true = refl
+and_not false = refl
+
+none_left : (s t : NodeState) → t.fabrics ≡ s.fabrics → (fabric : ℕ) → has_left s t fabric ≡ is_that fabric None
+none_left s t same fabric = ap (λ (fs : List Fabric). is_among s.fabrics fabric && not (is_among fs fabric)) same ∙ and_not (is_among s.fabrics fabric)
+
+all_left : (s t : NodeState) → t.fabrics ≡ s.fabrics → (ds : List PlainDeadline) → ds ≡ deadlines_of_those_left s t ds
+all_left s t same ds = left_is_gone s t None (none_left s t same) ds
+
+-- a request of whoever is taken as asking
+pub request_line : (given : Given) (s : State) (ms : ℕ) (actor asking : Actor) (request : Request) (outcome : PlainOutcome) → asker s.node actor ≡ Some asking
+    → IsPlan given s.node (Ask actor request (deadline_of asking s.deadlines)) ms outcome.node
+    → outcome.sent ≡ sent_as ms asking.fabric (if is_refused asking s.deadlines ms request then refusal (code_of Busy) else outcome.node.reply)
+    → unwrap_or outcome.deadlines s.deadlines ≡ left_without outcome.node.gone (with_deadline asking s.deadlines ms (Ok request))
+    → IsLine given s ms actor (Ok request) outcome
+request_line given s ms actor asking request outcome asks p sends next =
+    let behind : NodeState = after_action given s.node (action_of actor (deadline_for s (asker s.node actor)) (Ok request)) ms in
+    let node : applied outcome.node s.node ≡ behind = p.state ∙ ap (λ (a : Option Actor). after_action given s.node (action_of actor (deadline_for s a) (Ok request)) ms) (sym asks) in
+    let deadlines : unwrap_or outcome.deadlines s.deadlines ≡ deadlines_of_those_left s.node behind (deadlines_after (asker s.node actor) s.deadlines ms (Ok request)) =
+    next ∙ left_is_gone s.node (applied outcome.node s.node) outcome.node.gone p.leaves (with_deadline asking s.deadlines ms (Ok request))
+    ∙ (λ i. deadlines_of_those_left s.node (node i) (deadlines_after (sym asks i) s.deadlines ms (Ok request))) in
+    record {
+      sent = sends
+          ∙ ap (λ (reply : Reply). sent_as ms asking.fabric (if is_refused asking s.deadlines ms request then refusal (code_of Busy) else reply)) p.reply
+          ∙ sym (ap (sent_to given s actor ms (Ok request)) asks);
+      state = λ i. record { node = node i; deadlines = deadlines i };
+      planned = (given, (Ask actor request (deadline_of asking s.deadlines), (ms, p)));
+    }
+
+-- a payload that is no request, of whoever is taken as asking
+pub refused_line : (given : Given) (s : State) (ms : ℕ) (actor asking : Actor) (fault : ImFault) (outcome : PlainOutcome) → asker s.node actor ≡ Some asking
+    → IsPlan given s.node Nothing ms outcome.node
+    → outcome.sent ≡ sent_as ms asking.fabric (fault_reply fault)
+    → unwrap_or outcome.deadlines s.deadlines ≡ with_deadline asking s.deadlines ms (Err fault)
+    → IsLine given s ms actor (Err fault) outcome
+refused_line given s ms actor asking fault outcome asks p sends next =
+    let deadlines : unwrap_or outcome.deadlines s.deadlines ≡ deadlines_of_those_left s.node (after_action given s.node Nothing ms) (deadlines_after (asker s.node actor) s.deadlines ms (Err fault)) =
+    next ∙ ap (λ (a : Option Actor). deadlines_after a s.deadlines ms (Err fault)) (sym asks)
+    ∙ all_left s.node (after_action given s.node Nothing ms) refl (deadlines_after (asker s.node actor) s.deadlines ms (Err fault)) in
+    record {
+      sent = sends ∙ sym (ap (sent_to given s actor ms (Err fault)) asks);
+      state = λ i. record { node = p.state i; deadlines = deadlines i };
+      planned = (given, (Nothing, (ms, p)));
+    }
+
+-- what an answer of memory gives, where it gives anything
+pub if_ok : {T E : Type 0} (r : Result T E) (P Q : T → Type 0) → ((x : T) → P x → Q x) → IfOk r P → IfOk r Q
+if_ok (Ok x) P Q follows holds = follows x holds
+if_ok (Err e) P Q follows holds = holds
+
+-- nobody is taken as asking
+nobody_steps : (given : Given) (s : State) (actor : Actor) (ms : ℕ) (asked : Result Request ImFault) (deadline : Option ℕ) → asker s.node actor ≡ None → after_action given s.node Nothing ms ≡ after_action given s.node (action_of actor deadline asked) ms
+nobody_steps given s actor ms (Ok request) deadline none = sym (ap (λ (a : Option Actor). after_steps a (asked_steps given s.node request deadline ms a) (at_time ms s.node)) none)
+nobody_steps given s actor ms (Err fault) deadline none = refl
+
+pub quiet_line : (given : Given) (s : State) (ms : ℕ) (actor : Actor) (asked : Result Request ImFault) (outcome : PlainOutcome) → asker s.node actor ≡ None → IsQuiet given s ms outcome → IsLine given s ms actor asked outcome
+quiet_line given s ms actor asked outcome none quiet =
+    let same = nobody_steps given s actor ms asked (deadline_for s (asker s.node actor)) none in
+    let node : applied outcome.node s.node ≡ after_action given s.node (action_of actor (deadline_for s (asker s.node actor)) asked) ms = quiet.node.state ∙ same in
+    let deadlines : unwrap_or outcome.deadlines s.deadlines
+    ≡ deadlines_of_those_left s.node (after_action given s.node (action_of actor (deadline_for s (asker s.node actor)) asked) ms) (deadlines_after (asker s.node actor) s.deadlines ms asked) =
+    ap (λ (d : Option (List PlainDeadline)). unwrap_or d s.deadlines) quiet.deadlines
+    ∙ all_left s.node (after_action given s.node Nothing ms) refl s.deadlines
+    ∙ (λ i. deadlines_of_those_left s.node (same i) (deadlines_after (sym none i) s.deadlines ms asked)) in
+    record {
+      sent = quiet.sent ∙ sym (ap (sent_to given s actor ms asked) none);
+      state = λ i. record { node = node i; deadlines = deadlines i };
+      planned = (given, (Nothing, (ms, quiet.node)));
+    }
+
+-- what was decoded, but for want of memory
+pub comes_to : (asked read : Result Request ImFault) → Gives (λ x. x) asked read → is_want_of_memory asked ≡ false → read ≡ asked
+comes_to (Ok request) read gives sure = gives
+comes_to (Err faults.Memory) read gives sure = absurd (cc)
+comes_to (Err (faults.Tlv fault)) read gives sure = gives (λ e. absurd (cc))
+comes_to (Err (faults.Missing n)) read gives sure = gives (λ e. absurd (cc))
+comes_to (Err (faults.Form n)) read gives sure = gives (λ e. absurd (cc))
+comes_to (Err faults.Opcode) read gives sure = gives (λ e. absurd (cc))
+comes_to (Err faults.TooManyPaths) read gives sure = gives (λ e. absurd (cc))
+
+-- An event is a line of an actor, whose payload comes to this.
+pub event_of : (given : Given) (s : State) (ms fabric node : ℕ) (cats : List ℕ) (opcode : ℕ) (payload : List ℕ) (actor : Actor) → actor ≡ line_actor fabric node cats → (planned : Option PlainOutcome)
+    → IsLineIf given s ms actor (request_in opcode payload) planned → IsPlanIf given s (events.Ask ms fabric node cats opcode payload) planned
+event_of given s ms fabric node cats opcode payload actor by None line = line
+event_of given s ms fabric node cats opcode payload actor by (Some outcome) line = (
+  line.0,
+  record {
+    sent = line.1.sent ∙ ap (λ (a : Actor). sent_for given s a ms (request_in opcode payload)) by;
+    state = line.1.state ∙ ap (λ (a : Actor). next_for given s a ms (request_in opcode payload)) by;
+    planned = line.1.planned;
+  },
+)
+
+-- The deadlines of the fabric that an expiry takes away, told by that fabric.
+
+all_stay : (ds : List PlainDeadline) → ds ≡ filter (λ (d : PlainDeadline). stays None d.fabric) ds
+all_stay [] = refl
+all_stay (d ∷ ds) = ap (λ (rest : List PlainDeadline). d ∷ rest) (all_stay ds)
+
+left_added : (added : Option ℕ) (ds : List PlainDeadline) → left_without added ds ≡ filter (λ (d : PlainDeadline). stays added d.fabric) ds
+left_added None ds = all_stay ds
+left_added (Some fabric) ds = refl
+
+left_armed : (armed : Option Armed) (ds : List PlainDeadline) → left_without (added_in armed) ds ≡ deadlines_left armed ds
+left_armed None ds = refl
+left_armed (Some armed) ds = left_added armed.added ds
+
+left_due : (due : Bool) (armed : Option Armed) (ds : List PlainDeadline) → left_without (if due then added_in armed else None) ds ≡ (if due then deadlines_left armed ds else ds)
+left_due true armed ds = left_armed armed ds
+left_due false armed ds = refl
+
+pub tick_of : TakesTheAddedAway → (given : Given) (s : State) (ms : ℕ) (outcome : PlainOutcome) → IsValid s.node → outcome.sent ≡ [] → IsPlan given s.node Expire ms outcome.node
+    → unwrap_or outcome.deadlines s.deadlines ≡ left_without outcome.node.gone s.deadlines → IsTick given s ms outcome
+tick_of takes given s ms outcome valid sends plan left =
+    let gone : outcome.node.gone ≡ (if is_due s.node.armed ms then added_in s.node.armed else None) = ap (λ (aside : Aside). aside.gone) plan.aside ∙ takes given s.node ms valid in
+    let deadlines : unwrap_or outcome.deadlines s.deadlines ≡ (if is_due s.node.armed ms then deadlines_left s.node.armed s.deadlines else s.deadlines) =
+    left ∙ ap (λ (g : Option ℕ). left_without g s.deadlines) gone ∙ left_due (is_due s.node.armed ms) s.node.armed s.deadlines in
+    record {
+      sent = sends;
+      state = λ i. record { node = plan.state i; deadlines = deadlines i };
+      planned = (given, (Expire, (ms, plan)));
+    }
+
+-- What no line of a plain actor makes.
+
+-- time passes
+pub passes : (given : Given) (s : State) (ms : ℕ) (outcome : PlainOutcome) → outcome.deadlines ≡ None → IsPlan given s.node Nothing ms outcome.node → IsActionPlan given s Nothing ms outcome
+passes given s ms outcome none plan =
+    let deadlines : unwrap_or outcome.deadlines s.deadlines ≡ deadlines_of_those_left s.node (after_action given s.node Nothing ms) s.deadlines =
+    ap (λ (d : Option (List PlainDeadline)). unwrap_or d s.deadlines) none ∙ all_left s.node (after_action given s.node Nothing ms) refl s.deadlines in
+    record {
+      state = λ i. record { node = plan.state i; deadlines = deadlines i };
+      planned = (given, (Nothing, (ms, plan)));
+    }
+
+-- what is asked over a session
+pub asked_over : (given : Given) (s : State) (ms : ℕ) (actor : Actor) (request : Request) (timed : Option ℕ) (outcome : PlainOutcome) → IsPlan given s.node (Ask actor request timed) ms outcome.node
+    → unwrap_or outcome.deadlines s.deadlines ≡ left_without outcome.node.gone s.deadlines → IsActionPlan given s (Ask actor request timed) ms outcome
+asked_over given s ms actor request timed outcome plan left =
+    let behind : NodeState = after_action given s.node (Ask actor request timed) ms in
+    let deadlines : unwrap_or outcome.deadlines s.deadlines ≡ deadlines_of_those_left s.node behind s.deadlines =
+    left ∙ left_is_gone s.node (applied outcome.node s.node) outcome.node.gone plan.leaves s.deadlines ∙ ap (λ (now : NodeState). deadlines_of_those_left s.node now s.deadlines) plan.state in
+    record {
+      state = λ i. record { node = plan.state i; deadlines = deadlines i };
+      planned = (given, (Ask actor request timed, (ms, plan)));
+    }
+
+-- and where nobody is taken as asking
+pub nobody_over : (given : Given) (s : State) (ms : ℕ) (actor : Actor) (request : Request) (timed : Option ℕ) (outcome : PlainOutcome) → asker s.node actor ≡ None
+    → IsActionPlan given s Nothing ms outcome → IsActionPlan given s (Ask actor request timed) ms outcome
+nobody_over given s ms actor request timed outcome none quiet =
+    let same = nobody_steps given s actor ms (Ok request) timed none in
+    record {
+      state = quiet.state ∙ (λ i. record { node = same i; deadlines = deadlines_of_those_left s.node (same i) s.deadlines });
+      planned = quiet.planned;
+    }
+
+pub nobody_answers : (given : Given) (s : State) (ms : ℕ) (actor : Actor) (request : Request) (timed : Option ℕ) → asker s.node actor ≡ None → reply_of given s.node (Ask actor request timed) ms ≡ replies.Nothing
+nobody_answers given s ms actor request timed none = ap (asked_reply given s.node request timed ms) none

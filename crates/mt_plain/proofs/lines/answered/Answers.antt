@@ -1,0 +1,33 @@
+use Rattle.std.proofs.Common.{◌≡◌, ℕ, List, Option, ap, subst, unwrap_or, ◌∙◌}
+use Rattle.mt_model.specs.declared.node.action.Action.TheVariants.{Ask}
+use Rattle.mt_model.specs.declared.node.action.PlainDeadline.{PlainDeadline}
+use Rattle.mt_machine.specs.Lines.{deadline_of}
+use Rattle.mt_node.specs.Plan.{IsPlan}
+use Rattle.mt_plain.specs.Kept.{Kept, given_to}
+use Rattle.mt_plain.specs.Plan.{left_without}
+use Rattle.mt_plain.proofs.Planned.{request_line}
+use Rattle.mt_plain.proofs.lines.answered.Goals as goal
+
+pub returns : goal.returns
+returns g c =
+    let verdicts = c.args.verdicts.now in
+    let roots = g.V.Verdicts.roots verdicts in
+    let csrs = g.V.Verdicts.csrs verdicts in
+    let rows = g.V.Verdicts.joins verdicts in
+    let kept : Kept = c.args.plain.now in
+    let ms = c.args.ms in
+    let actor = c.args.actor.now in
+    let asking = c.args.asking.now in
+    let request = c.args.request.now in
+    let node = c.in_ok-node.node in
+    let inside = c.plain.inside in
+    let timed : c.deadline_of-timed.result ≡ deadline_of asking inside.deadlines = c.deadline_of-timed.ensures ∙ ap (deadline_of asking) c.as_slice.ensures in
+    let here : Kept = record { state = record { node = inside.node.state; deadlines = inside.deadlines }; config = inside.node.config } in
+    let plan : IsPlan (given_to here roots csrs rows) here.state.node (Ask actor request (deadline_of asking here.state.deadlines)) ms node =
+    subst (λ (d : Option ℕ). IsPlan (given_to here roots csrs rows) here.state.node (Ask actor request d) ms node) timed c.in_ok-node.ensures in
+    let ds : c.as_slice-2.result.now ≡ kept.state.deadlines = c.as_slice-2.ensures ∙ ap (λ (k : Kept). k.state.deadlines) c.plain.view_is in
+    let left : unwrap_or c.in_ok-deadlines.deadlines kept.state.deadlines ≡ left_without node.gone (unwrap_or c.args.deadlines kept.state.deadlines) =
+    subst (λ (l : List PlainDeadline). unwrap_or c.in_ok-deadlines.deadlines l ≡ left_without node.gone (unwrap_or c.args.deadlines l)) ds c.in_ok-deadlines.ensures in
+    request_line (given_to kept roots csrs rows) kept.state ms actor asking request (record { sent = c.in_ok-sent.sent; node = node; deadlines = c.in_ok-deadlines.deadlines }) c.requires.asks
+    (subst (λ (k : Kept). IsPlan (given_to k roots csrs rows) k.state.node (Ask actor request (deadline_of asking k.state.deadlines)) ms node) c.plain.view_is plan)
+    c.in_ok-sent.ensures (left ∙ ap (left_without node.gone) c.requires.next)

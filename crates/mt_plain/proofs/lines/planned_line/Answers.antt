@@ -1,0 +1,19 @@
+use Rattle.std.proofs.Common.{ap, sym, ◌∙◌}
+use Rattle.mt_machine.specs.Step.{asker}
+use Rattle.mt_plain.specs.Kept.{Kept, given_to}
+use Rattle.mt_plain.specs.Plan.{IsLine, IsQuiet}
+use Rattle.mt_plain.proofs.Planned.{if_ok, quiet_line}
+use Rattle.mt_plain.proofs.lines.planned_line.Goals as goal
+
+pub returns-in-None : goal.returns-in-None
+returns-in-None g c =
+    let verdicts = c.args.verdicts.now in
+    let roots = g.V.Verdicts.roots verdicts in
+    let csrs = g.V.Verdicts.csrs verdicts in
+    let rows = g.V.Verdicts.joins verdicts in
+    let kept : Kept = c.args.plain.now in
+    let given = given_to kept roots csrs rows in
+    let actor = c.args.actor.now in
+    if_ok c.quiet.result (IsQuiet given kept.state c.args.ms) (IsLine given kept.state c.args.ms actor c.args.asked.now)
+    (λ outcome quiet. quiet_line given kept.state c.args.ms actor c.args.asked.now outcome (ap (λ (k : Kept). asker k.state.node actor) (sym c.plain.view_is) ∙ sym c.asker.ensures ∙ c.in-None.is) quiet)
+    c.quiet.ensures

@@ -1,0 +1,32 @@
+-- What contracts see of the plain.
+use Rattle.std.specs.Prelude.{List}
+use Rattle.mt_model.specs.texts.Contents.{Contents, contents_of}
+use Rattle.mt_model.specs.declared.texts.config.Config.{Config}
+use Rattle.mt_model.specs.declared.texts.config.CsrRow.{CsrRow}
+use Rattle.mt_model.specs.declared.texts.config.JoinRow.{JoinRow}
+use Rattle.mt_model.specs.declared.texts.config.RootRow.{RootRow}
+use Rattle.mt_machine.specs.Given.{Given}
+use Rattle.mt_machine.specs.Opened.{opened_whole}
+use Rattle.mt_machine.specs.State.{State}
+use Rattle.mt_node.specs.Kept as nodes
+
+-- its state, and the configuration with which it was started
+pub record Kept : Type 0 where
+  pub state : State
+  pub config : Contents
+
+-- the node in it
+abbrev pub node_of : Kept → nodes.Kept
+node_of kept = record { state = kept.state.node; config = kept.config }
+
+-- a new plain
+abbrev pub started : Config → Kept
+started config = record { state = opened_whole config; config = contents_of config }
+
+-- what is given to it, where these are the rows of the verdicts
+abbrev pub given_to : Kept → List RootRow → List CsrRow → List JoinRow → Given
+given_to kept roots csrs joins = nodes.given_to (node_of kept) roots csrs joins
+
+-- the same plain in another state
+abbrev pub in_state : State → Kept → Kept
+in_state state kept = record kept { state = state }

@@ -1,0 +1,88 @@
+-- What an outcome stands for.
+use Rattle.std.specs.Prelude.{◌≡◌, ℕ, Bool, true, false, List, [], Option, Some, None, Result, Ok, Err, filter, length, unwrap_or}
+use Rattle.mt_im.specs.declared.fault.ImFault.{ImFault}
+use Rattle.mt_im.specs.declared.fault.ImFault.TheVariants as faults
+use Rattle.mt_model.specs.tables.Leaving.{stays}
+use Rattle.mt_model.specs.declared.tables.access.Actor.{Actor}
+use Rattle.mt_model.specs.declared.node.action.PlainDeadline.{PlainDeadline}
+use Rattle.mt_model.specs.declared.messages.message.Request.{Request}
+use Rattle.mt_model.specs.declared.texts.recording.Event.{Event}
+use Rattle.mt_node.specs.Plan.{IsPlan, IsPlanned, applied}
+use Rattle.mt_model.specs.declared.node.action.Action.{Action}
+use Rattle.mt_model.specs.declared.node.action.Action.TheVariants.{Nothing}
+use Rattle.mt_machine.specs.Given.{Given}
+use Rattle.mt_machine.specs.Isolation.{is_deadline_in}
+use Rattle.mt_machine.specs.Lines.{behind_action, is_built, is_built_payload, next, next_for, next_tick, sent, sent_for, without}
+use Rattle.mt_machine.specs.State.{State}
+use Rattle.mt_plain.specs.declared.outcome.PlainOutcome.{PlainOutcome}
+
+-- how many other actors of an actor's fabric have a deadline
+abbrev pub others_in : Actor → List PlainDeadline → ℕ
+others_in actor deadlines = length (filter (is_deadline_in actor.fabric) (without actor deadlines))
+
+-- the state behind an outcome
+abbrev pub applied_plain : PlainOutcome → State → State
+applied_plain outcome s = record { node = applied outcome.node s.node; deadlines = unwrap_or outcome.deadlines s.deadlines }
+
+-- whether a payload was not decoded for want of memory
+abbrev pub is_want_of_memory : Result Request ImFault → Bool
+is_want_of_memory (Ok request) = false
+is_want_of_memory (Err faults.Memory) = true
+is_want_of_memory (Err fault) = false
+
+-- what a payload asks is told where it is built
+abbrev pub AsksIf : Result Request ImFault → Option (Result Request ImFault) → Type 0
+AsksIf request None = is_built_payload request ≡ false
+AsksIf request (Some asked) = (asked ≡ request) × (is_built_payload request ≡ true)
+
+-- the deadlines of the fabric that goes, if any, go with it
+abbrev pub left_without : Option ℕ → List PlainDeadline → List PlainDeadline
+left_without None deadlines = deadlines
+left_without (Some fabric) deadlines = filter (λ (deadline : PlainDeadline). stays (Some fabric) deadline.fabric) deadlines
+
+-- The outcome is that of a line of this actor, whose payload was decoded to this.
+pub record IsLine (given : Given) (s : State) (ms : ℕ) (actor : Actor) (asked : Result Request ImFault) (outcome : PlainOutcome) : Type 0 where
+  pub sent : outcome.sent ≡ sent_for given s actor ms asked
+  pub state : applied_plain outcome s ≡ next_for given s actor ms asked
+  pub planned : IsPlanned s.node outcome.node
+
+-- there is an outcome exactly where what was decoded is built
+abbrev pub IsLineIf : Given → State → ℕ → Actor → Result Request ImFault → Option PlainOutcome → Type 0
+IsLineIf given s ms actor asked None = is_built_payload asked ≡ false
+IsLineIf given s ms actor asked (Some outcome) = (is_built_payload asked ≡ true) × IsLine given s ms actor asked outcome
+
+-- nothing is sent, and time passes
+pub record IsQuiet (given : Given) (s : State) (ms : ℕ) (outcome : PlainOutcome) : Type 0 where
+  pub sent : outcome.sent ≡ []
+  pub deadlines : outcome.deadlines ≡ None
+  pub node : IsPlan given s.node Nothing ms outcome.node
+
+-- The outcome is that of a time step.
+pub record IsTick (given : Given) (s : State) (ms : ℕ) (outcome : PlainOutcome) : Type 0 where
+  pub sent : outcome.sent ≡ []
+  pub state : applied_plain outcome s ≡ next_tick given s ms
+  pub planned : IsPlanned s.node outcome.node
+
+-- The outcome is that of this action, which no line of a plain actor makes.
+pub record IsActionPlan (given : Given) (s : State) (action : Action) (ms : ℕ) (outcome : PlainOutcome) : Type 0 where
+  pub state : applied_plain outcome s ≡ behind_action given s action ms
+  pub planned : IsPlanned s.node outcome.node
+
+-- The outcome is that of this event.
+pub record IsPlainPlan (given : Given) (s : State) (event : Event) (outcome : PlainOutcome) : Type 0 where
+  pub sent : outcome.sent ≡ sent given s event
+  pub state : applied_plain outcome s ≡ next given s event
+  pub planned : IsPlanned s.node outcome.node
+
+-- there is an outcome exactly where the event is built
+abbrev pub IsPlanIf : Given → State → Event → Option PlainOutcome → Type 0
+IsPlanIf given s event None = is_built event ≡ false
+IsPlanIf given s event (Some outcome) = (is_built event ≡ true) × IsPlainPlan given s event outcome
+
+-- the outcome was made on this state
+abbrev pub IsPlainPlanned : State → PlainOutcome → Type 0
+IsPlainPlanned s outcome = IsPlanned s.node outcome.node
+
+-- the sessions that end with an outcome are those that are live before it and not behind it
+abbrev pub closed_by : PlainOutcome → List ℕ
+closed_by outcome = outcome.node.closed

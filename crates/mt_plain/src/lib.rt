@@ -1,0 +1,22 @@
+//! The node, and around it what belongs to plain actors, who have no session. A line is planned, which changes nothing
+//! and takes all the memory, and then applied, which takes none. What is asked over a session is planned here too.
+//!
+//! - `plain`: the node with its plain actors, how it starts, plans and applies;
+//! - `outcome`: what comes of a line;
+//! - `lines`: a line of a plain actor, from its payload to what is sent;
+//! - `sessions`: what is asked over a session;
+//! - `ticks`: a time step;
+//! - `deadlines`: until when the next requests of plain actors must come;
+//! - `sending`: the messages of a reply.
+#![tactic(auto)]
+
+mod deadlines;
+mod lines;
+mod outcome;
+mod plain;
+mod sending;
+mod sessions;
+mod ticks;
+
+pub use outcome::PlainOutcome;
+pub use plain::{Plain, asked};

@@ -1,0 +1,221 @@
+//! A datagram, from its bytes to what is sent.
+
+ghost use Rattle.std.specs.Prelude.{◌≡◌, ◌≢◌, ◌<◌, ◌^◌, ℕ, [], None, length, IfOk, OnOk};
+ghost use Rattle.mt_model.specs.declared.texts.recording.Event.TheVariants.{Datagram};
+ghost use Rattle.mt_model.specs.declared.texts.config.SessionRow.{SessionRow};
+ghost use Rattle.mt_lines.specs.Datagrams.{behind_answer, datagram_of, session_named};
+ghost use Rattle.mt_lines.specs.Whole.{SessionTalk as ToldTalk, Whole as Told};
+ghost use Rattle.mt_talk.specs.Hearing.{answers, fresh_as, said_by};
+ghost use Rattle.mt_talk.specs.Talks.{IsTalkOf, Talk as Written};
+ghost use Rattle.mt_whole.specs.Plan.{IsAnsweredIf, answer_as, IsHeardIf, IsPlanIf, IsPlannedIf, given_to, told_fresh};
+ghost use Rattle.mt_whole.specs.Talks.{IsTalkAt, IsWholeOf};
+
+use crate::outcome::WholeOutcome;
+use crate::resends::quiet;
+use crate::sending::one_sent;
+use crate::talks::{SessionTalk, talk_of};
+use crate::whole::Whole;
+use mt_frame::{ProtocolHeader, read_message};
+use mt_model::{ExactCopy, Payloads, SentList, Verdicts};
+use mt_outside::Peer;
+use mt_plain::{PlainOutcome, asked};
+use mt_session::Opened;
+use mt_talk::{Heard, Key, Talk};
+use mt_tlv::Bytes;
+use std::alloc::{AllocError, Global};
+
+// What is answered on an exchange, and the counter that is acknowledged.
+#[derive(Drop)]
+pub struct Answering {
+    key: Key,
+    acknowledge: Option<u32>,
+    payloads: Payloads,
+}
+
+/// Plans a datagram from this address, None where it asks what is not built. Who names no session of this boot is not
+/// heard.
+pub(crate) fn planned_datagram<V: Verdicts>(
+    whole: &Whole,
+    ms: u64,
+    from: Peer,
+    bytes: &Bytes,
+    verdicts: &V,
+) -> Result<Option<WholeOutcome>, AllocError>
+    ensures planned { IfOk result (IsPlannedIf whole.now.plain.state) }
+    ensures plan { let given = given_to whole.now (V.roots verdicts.now) (V.csrs verdicts.now) (V.joins verdicts.now) in
+        (w : Told) → IsWholeOf whole.now w → IfOk result (IsPlanIf given w (Datagram ms from bytes.now)) }
+{
+    let Some(id) = session_named(bytes.as_slice()) else {
+        return Ok(Some(quiet(whole, ms, verdicts)?));
+    };
+    match talk_of(&whole.talks, id) {
+        Some(talk) => planned_heard(whole, ms, from, bytes, talk, verdicts),
+        None => Ok(Some(quiet(whole, ms, verdicts)?)),
+    }
+}
+
+// The session that a datagram names in its message header.
+fn session_named(bytes: &[u8]) -> Option<u16>
+    ensures exact { result ≡ session_named bytes.now }
+    ensures short { result ≢ None → length bytes.now < 2 ^ 16 }
+{
+    if bytes.len() > u16::MAX as usize {
+        return None;
+    }
+    match read_message(bytes) {
+        Ok((header, _)) => Some(header.session),
+        Err(_) => None,
+    }
+}
+
+// Plans what a session hears, on a copy of its talk.
+fn planned_heard<V: Verdicts>(
+    whole: &Whole,
+    ms: u64,
+    from: Peer,
+    bytes: &Bytes,
+    talk: &SessionTalk,
+    verdicts: &V,
+) -> Result<Option<WholeOutcome>, AllocError>
+    requires { length bytes.now < 2 ^ 16 }
+    ensures planned { IfOk result (IsPlannedIf whole.now.plain.state) }
+    ensures heard { let given = given_to whole.now (V.roots verdicts.now) (V.csrs verdicts.now) (V.joins verdicts.now) in
+        (t : ToldTalk) → IsTalkAt talk.now t → IfOk result (IsHeardIf given whole.now.plain.state ms from bytes.now t) }
+{
+    let id = talk.id;
+    let live = whole.plain.actor(id).is_some();
+    let mut talk = talk.talk.copy()?;
+    let mut datagram = bytes.copy()?.into_vec();
+    let hearing = talk.hear(live, from, &mut datagram)?;
+    let fresh = fresh_of(whole.alloc, &hearing.fresh)?;
+    let Some((answer, plain)) = answered(whole, id, hearing.heard, ms, verdicts)? else {
+        return Ok(None);
+    };
+    let peer = talk.latest();
+    let datagram = datagram_of(&mut talk, answer, ms)?;
+    let sent = one_sent(whole.alloc, ms, id, peer, datagram)?;
+    Ok(Some(WholeOutcome {
+        sent,
+        fresh,
+        plain,
+        talk: Some(SessionTalk { id, talk }),
+    }))
+}
+
+// The datagram that an answer sends, where it sends one.
+fn datagram_of(
+    talk: &mut Talk,
+    answer: Option<Answering>,
+    ms: u64,
+) -> Result<Option<Bytes>, AllocError>
+    ensures sent { (row : SessionRow) (t : Written) → IsTalkOf talk.old row t → IfOk result (λ sent. sent ≡ datagram_of row t (answer_as answer)) }
+    ensures stands { (row : SessionRow) (t : Written) → IsTalkOf talk.old row t → OnOk result (IsTalkOf talk.new row (behind_answer row ms t (answer_as answer))) }
+{
+    match answer {
+        Some(answer) => talk.answer(answer.key, answer.acknowledge, answer.payloads, ms),
+        None => Ok(None),
+    }
+}
+
+// What is answered to what is said, and what comes of it. None where what is asked is not built.
+fn answered<V: Verdicts>(
+    whole: &Whole,
+    id: u16,
+    heard: Heard,
+    ms: u64,
+    verdicts: &V,
+) -> Result<Option<(Option<Answering>, PlainOutcome)>, AllocError>
+    ensures { let given = given_to whole.now (V.roots verdicts.now) (V.csrs verdicts.now) (V.joins verdicts.now) in
+        IfOk result (IsAnsweredIf given whole.now.plain.state id ms (said_by heard.entry)) }
+{
+    match heard {
+        Heard::Nothing => Ok(Some((None, whole.plain.pass(ms, verdicts)?))),
+        Heard::Asks {
+            key,
+            acknowledge,
+            opcode,
+            payload,
+            timed,
+        } => {
+            let Some(asked) = asked(whole.alloc, opcode, payload)? else {
+                return Ok(None);
+            };
+            let (payloads, plain) = whole.plain.plan_over(id, &asked, timed, ms, verdicts)?;
+            Ok(Some((
+                Some(Answering {
+                    key,
+                    acknowledge,
+                    payloads,
+                }),
+                plain,
+            )))
+        },
+        Heard::Confirms {
+            key,
+            acknowledge,
+            ..
+        } => acknowledged(whole, key, acknowledge, ms, verdicts),
+        Heard::Ends {
+            key,
+            acknowledge,
+            ..
+        } => acknowledged(whole, key, acknowledge, ms, verdicts),
+        Heard::Answers {
+            key,
+            acknowledge,
+            payloads,
+        } => told_at_once(whole, key, acknowledge, payloads, ms, verdicts),
+    }
+}
+
+// An answer that acknowledges, and says nothing else unless its exchange keeps a payload.
+fn acknowledged<V: Verdicts>(
+    whole: &Whole,
+    key: Key,
+    acknowledge: Option<u32>,
+    ms: u64,
+    verdicts: &V,
+) -> Result<Option<(Option<Answering>, PlainOutcome)>, AllocError>
+    ensures { let given = given_to whole.now (V.roots verdicts.now) (V.csrs verdicts.now) (V.joins verdicts.now) in
+        (id : ℕ) → IfOk result (IsAnsweredIf given whole.now.plain.state id ms (answers key acknowledge [])) }
+{
+    let none = Payloads::new(whole.alloc);
+    told_at_once(whole, key, acknowledge, none, ms, verdicts)
+}
+
+// An answer for which nothing is asked of the node.
+fn told_at_once<V: Verdicts>(
+    whole: &Whole,
+    key: Key,
+    acknowledge: Option<u32>,
+    payloads: Payloads,
+    ms: u64,
+    verdicts: &V,
+) -> Result<Option<(Option<Answering>, PlainOutcome)>, AllocError>
+    ensures { let given = given_to whole.now (V.roots verdicts.now) (V.csrs verdicts.now) (V.joins verdicts.now) in
+        (id : ℕ) → IfOk result (IsAnsweredIf given whole.now.plain.state id ms (answers key acknowledge payloads)) }
+{
+    let plain = whole.plain.pass(ms, verdicts)?;
+    Ok(Some((
+        Some(Answering {
+            key,
+            acknowledge,
+            payloads,
+        }),
+        plain,
+    )))
+}
+
+// The message that is let in, in memory of its own.
+fn fresh_of(
+    alloc: Global,
+    opened: &Option<Opened>,
+) -> Result<Option<(u32, ProtocolHeader, Bytes)>, AllocError>
+    ensures { IfOk result (λ fresh. told_fresh fresh ≡ fresh_as opened.now) }
+{
+    let Some(opened) = opened else {
+        return Ok(None);
+    };
+    let payload = Bytes::from_slice(alloc, opened.payload)?;
+    Ok(Some((opened.counter, opened.header, payload)))
+}
