@@ -1,0 +1,4 @@
+pub mod EachIn
+pub mod Elements
+pub mod Reading
+pub mod Walks

@@ -1,0 +1,18 @@
+use Rattle.std.proofs.Common.{◌≡◌, ◌∙◌, sym, Some, None}
+use Rattle.mt_tlv.specs.View.{tree}
+use Rattle.mt_grammar.specs.Values.{network_in}
+use Rattle.mt_grammar.proofs.EachIn.{each_next, each_bad, each_end}
+use Rattle.mt_grammar.proofs.networks.each_network.Goals as goal
+
+pub returns-in_default : goal.returns-in_default
+returns-in_default c =
+    let bad : network_in (tree c.member-item.result.1) ≡ None = sym c.in_ok-network.ensures ∙ c.in_default.is in
+    sym (each_bad network_in c.loop-member.networks c.args.members.now c.loop-member.member-index c.member-item.result _ c.loop-member-test.true c.member-item.is bad c.loop-member.invariant)
+
+pub loop-member-preserved : goal.loop-member-preserved
+loop-member-preserved c =
+    let found : network_in (tree c.member-item.result.1) ≡ Some c.in-Some.network = sym c.in_ok-network.ensures ∙ c.in-Some.is in
+    rw c.in_ok-push.ensures.ok (each_next network_in c.loop-member.networks c.args.members.now c.loop-member.member-index c.member-item.result c.in-Some.network _ c.loop-member-test.true c.member-item.is found c.loop-member.invariant)
+
+pub returns : goal.returns
+returns c = sym (each_end network_in c.loop-member.networks c.args.members.now c.loop-member.member-index _ c.loop-member-test.false c.loop-member.invariant)

@@ -1,0 +1,236 @@
+//! Access control entries as they are kept.
+
+ghost use Rattle.std.specs.Prelude.{◌≡◌, ◌∷◌, [], IfOk, is_some, option_and_then};
+ghost use Rattle.mt_tlv.specs.Scalars.{unsigned_in};
+ghost use Rattle.mt_tlv.specs.View.{elements, tree};
+ghost use Rattle.mt_model.specs.tables.Entries.{each_in, mode_numbered, privilege_numbered};
+ghost use Rattle.mt_model.specs.Trees.{field_in};
+ghost use Rattle.mt_grammar.specs.Fields.{fields_in, some_in};
+ghost use Rattle.mt_grammar.specs.Values.{entries_in, entry_in, entry_of, subjects_in, targets_in, whole_target_in};
+
+use crate::fields::{array_in, fields_in, if_some, is_null, unsigned_at};
+use crate::rows::is_of;
+use mt_meta::clusters::access_control::{AUTH_MODE, PRIVILEGE, SUBJECTS, TARGETS};
+use mt_meta::target_of;
+use mt_model::{
+    AclEntries, AclEntry, Auth, Privilege, Subjects, Target, Targets, field, unsigned_of,
+};
+use mt_tlv::{Tag, Value};
+use std::alloc::{AllocError, Global};
+
+/// The entries of a fabric, None where the value is no such entries.
+pub(crate) fn entries_in(
+    alloc: Global,
+    fabric: u8,
+    value: &Value,
+) -> Result<Option<AclEntries>, AllocError>
+    ensures { IfOk result (λ entries. entries ≡ entries_in fabric (tree value.now)) }
+{
+    let Some(members) = array_in(value) else {
+        return Ok(None);
+    };
+    let Some(entries) = each_entry(alloc, fabric, members)? else {
+        return Ok(None);
+    };
+    Ok(if_some(entries))
+}
+
+fn each_entry(
+    alloc: Global,
+    fabric: u8,
+    members: &[(Tag, Value)],
+) -> Result<Option<AclEntries>, AllocError>
+    ensures { IfOk result (λ entries. entries ≡ each_in (entry_in fabric) (elements members.now)) }
+{
+    let mut entries = AclEntries::new(alloc);
+    for member in members {
+        let Some(entry) = entry_in(alloc, fabric, &member.1)? else {
+            return Ok(None);
+        };
+        entries.push(entry)?;
+    }
+    Ok(Some(entries))
+}
+
+fn entry_in(alloc: Global, fabric: u8, item: &Value) -> Result<Option<AclEntry>, AllocError>
+    ensures { IfOk result (λ entry. entry ≡ entry_in fabric (tree item.now)) }
+{
+    match fields_in(&[1, 2, 3, 4, 254], item) {
+        Some(members) => entry_of(alloc, fabric, members),
+        None => Ok(None),
+    }
+}
+
+fn entry_of(
+    alloc: Global,
+    fabric: u8,
+    members: &[(Tag, Value)],
+) -> Result<Option<AclEntry>, AllocError>
+    ensures { IfOk result (λ entry. entry ≡ entry_of fabric (elements members.now)) }
+{
+    if !is_of(fabric, members) {
+        return Ok(None);
+    }
+    let Some(privilege) = privilege_at(members) else {
+        return Ok(None);
+    };
+    let Some(auth) = mode_at(members) else {
+        return Ok(None);
+    };
+    let Some(subjects) = subjects_at(alloc, members)? else {
+        return Ok(None);
+    };
+    let Some(targets) = targets_at(alloc, members)? else {
+        return Ok(None);
+    };
+    Ok(Some(AclEntry {
+        privilege,
+        auth,
+        subjects,
+        targets,
+        fabric,
+    }))
+}
+
+fn privilege_at(members: &[(Tag, Value)]) -> Option<Privilege>
+    ensures { result ≡ option_and_then privilege_numbered (option_and_then unsigned_in (field_in 1 (elements members.now))) }
+{
+    privilege_numbered(unsigned_at(members, PRIVILEGE)?)
+}
+
+fn mode_at(members: &[(Tag, Value)]) -> Option<Auth>
+    ensures { result ≡ option_and_then mode_numbered (option_and_then unsigned_in (field_in 2 (elements members.now))) }
+{
+    mode_numbered(unsigned_at(members, AUTH_MODE)?)
+}
+
+fn privilege_numbered(number: u64) -> Option<Privilege>
+    ensures { result ≡ privilege_numbered number }
+{
+    match number {
+        1 => Some(Privilege::View),
+        2 => Some(Privilege::ProxyView),
+        3 => Some(Privilege::Operate),
+        4 => Some(Privilege::Manage),
+        5 => Some(Privilege::Administer),
+        _ => None,
+    }
+}
+
+fn mode_numbered(number: u64) -> Option<Auth>
+    ensures { result ≡ mode_numbered number }
+{
+    match number {
+        1 => Some(Auth::Pase),
+        2 => Some(Auth::Case),
+        3 => Some(Auth::Group),
+        _ => None,
+    }
+}
+
+fn subjects_at(alloc: Global, members: &[(Tag, Value)]) -> Result<Option<Subjects>, AllocError>
+    ensures { IfOk result (λ subjects. subjects ≡ option_and_then subjects_in (field_in 3 (elements members.now))) }
+{
+    match field(members, SUBJECTS) {
+        Some(value) => subjects_in(alloc, value),
+        None => Ok(None),
+    }
+}
+
+// Null is no subjects.
+fn subjects_in(alloc: Global, value: &Value) -> Result<Option<Subjects>, AllocError>
+    ensures { IfOk result (λ subjects. subjects ≡ subjects_in (tree value.now)) }
+{
+    if is_null(value) {
+        return Ok(Some(Subjects::new(alloc)));
+    }
+    some_subjects(alloc, value)
+}
+
+fn some_subjects(alloc: Global, value: &Value) -> Result<Option<Subjects>, AllocError>
+    ensures { IfOk result (λ subjects. subjects ≡ some_in unsigned_in (tree value.now)) }
+{
+    let Some(members) = array_in(value) else {
+        return Ok(None);
+    };
+    let Some(subjects) = each_subject(alloc, members)? else {
+        return Ok(None);
+    };
+    Ok(if_some(subjects))
+}
+
+fn each_subject(alloc: Global, members: &[(Tag, Value)]) -> Result<Option<Subjects>, AllocError>
+    ensures { IfOk result (λ subjects. subjects ≡ each_in unsigned_in (elements members.now)) }
+{
+    let mut subjects = Subjects::new(alloc);
+    for member in members {
+        let Some(subject) = unsigned_of(&member.1) else {
+            return Ok(None);
+        };
+        subjects.push(subject)?;
+    }
+    Ok(Some(subjects))
+}
+
+fn targets_at(alloc: Global, members: &[(Tag, Value)]) -> Result<Option<Targets>, AllocError>
+    ensures { IfOk result (λ targets. targets ≡ option_and_then targets_in (field_in 4 (elements members.now))) }
+{
+    match field(members, TARGETS) {
+        Some(value) => targets_in(alloc, value),
+        None => Ok(None),
+    }
+}
+
+// Null is no targets.
+fn targets_in(alloc: Global, value: &Value) -> Result<Option<Targets>, AllocError>
+    ensures { IfOk result (λ targets. targets ≡ targets_in (tree value.now)) }
+{
+    if is_null(value) {
+        return Ok(Some(Targets::new(alloc)));
+    }
+    some_targets(alloc, value)
+}
+
+fn some_targets(alloc: Global, value: &Value) -> Result<Option<Targets>, AllocError>
+    ensures { IfOk result (λ targets. targets ≡ some_in whole_target_in (tree value.now)) }
+{
+    let Some(members) = array_in(value) else {
+        return Ok(None);
+    };
+    let Some(targets) = each_target(alloc, members)? else {
+        return Ok(None);
+    };
+    Ok(if_some(targets))
+}
+
+fn each_target(alloc: Global, members: &[(Tag, Value)]) -> Result<Option<Targets>, AllocError>
+    ensures { IfOk result (λ targets. targets ≡ each_in whole_target_in (elements members.now)) }
+{
+    let mut targets = Targets::new(alloc);
+    for member in members {
+        let Some(target) = whole_target_in(&member.1) else {
+            return Ok(None);
+        };
+        targets.push(target)?;
+    }
+    Ok(Some(targets))
+}
+
+// A target with all its fields.
+fn whole_target_in(value: &Value) -> Option<Target>
+    ensures { result ≡ whole_target_in (tree value.now) }
+{
+    if has_target_fields(value) {
+        return target_of(value);
+    }
+    None
+}
+
+fn has_target_fields(value: &Value) -> bool
+    ensures { result ≡ is_some (fields_in (0 ∷ 1 ∷ 2 ∷ []) (tree value.now)) }
+{
+    match fields_in(&[0, 1, 2], value) {
+        Some(_) => true,
+        None => false,
+    }
+}

@@ -1,0 +1,264 @@
+//! What a map of durable state keeps, read key by key.
+
+ghost use Rattle.std.specs.Prelude.{◌≡◌, ◌++◌, IfOk, Some};
+ghost use Rattle.mt_tlv.specs.View.{tree};
+ghost use Rattle.mt_grammar.specs.Decoding.{kept_in, nothing, with_boot, with_ceiling, with_entries, with_entry, with_fabric, with_failsafe, with_items, with_items_in, with_networks, with_roots, with_rows, with_single, with_value};
+ghost use Rattle.mt_grammar.specs.Fields.{number_in};
+ghost use Rattle.mt_grammar.specs.Values.{armed_in, fabric_in, greatest_boot, greatest_ceiling, networks_in, roots_in};
+
+use crate::entries::entries_in;
+use crate::fabrics::fabric_in;
+use crate::failsafe::armed_in;
+use crate::fields::number_in;
+use crate::keys::{Key, key_in};
+use crate::networks::{networks_in, roots_in};
+use crate::rows::{has_items, is_acl, items_in, may_stand, table_row};
+use mt_durable::{Durable, Entry};
+use mt_meta::AttributeRow;
+use mt_model::{AclEntries, Armed, Fabrics, Listed, Networks, Place, Roots, Row};
+use mt_tlv::Value;
+use std::alloc::{AllocError, Global};
+
+/// The greatest number of starts that is kept.
+const GREATEST_BOOT: u64 = 0x8000_0000;
+
+/// The greatest ceiling that is kept.
+const GREATEST_CEILING: u64 = 0x4000_0000_0000_0000;
+
+/// Rows in the order of their keys: those that are no items by place, then items by fabric and place.
+pub type KeptRows = Listed<Row>;
+
+/// What a map keeps.
+#[derive(Drop)]
+pub struct Kept {
+    /// How often the node has started.
+    pub boot: Option<u64>,
+    /// Below which the numbers of events are set aside.
+    pub ceiling: Option<u64>,
+    pub rows: KeptRows,
+    pub entries: AclEntries,
+    pub fabrics: Fabrics,
+    pub roots: Roots,
+    pub networks: Networks,
+    /// The fail-safe, of which nothing is kept that a recovery does not need: its times, the root and the signing
+    /// request are none.
+    pub failsafe: Option<Armed>,
+}
+
+/// What a map keeps, None where a key or what stands under it has no form.
+pub fn kept_in(alloc: Global, map: &Durable) -> Result<Option<Kept>, AllocError>
+    ensures { IfOk result (λ kept. kept ≡ kept_in map.now) }
+{
+    kept_of(alloc, map.as_slice())
+}
+
+fn kept_of(alloc: Global, entries: &[Entry]) -> Result<Option<Kept>, AllocError>
+    ensures { IfOk result (λ kept. kept ≡ kept_in entries.now) }
+{
+    let mut kept = nothing(alloc);
+    for entry in entries {
+        let Some(next) = with_entry(alloc, kept, entry)? else {
+            return Ok(None);
+        };
+        kept = next;
+    }
+    Ok(Some(kept))
+}
+
+fn nothing(alloc: Global) -> Kept
+    ensures { result ≡ nothing }
+{
+    Kept {
+        boot: None,
+        ceiling: None,
+        rows: KeptRows::new(alloc),
+        entries: AclEntries::new(alloc),
+        fabrics: Fabrics::new(alloc),
+        roots: Roots::new(alloc),
+        networks: Networks::new(alloc),
+        failsafe: None,
+    }
+}
+
+// With what stands under one key more.
+fn with_entry(alloc: Global, kept: Kept, entry: &Entry) -> Result<Option<Kept>, AllocError>
+    ensures { IfOk result (λ next. next ≡ with_entry kept entry.now) }
+{
+    let Some(key) = key_in(entry.key.as_slice()) else {
+        return Ok(None);
+    };
+    let Some(value) = &entry.value else {
+        return Ok(None);
+    };
+    with_value(alloc, kept, value, key)
+}
+
+fn with_value(
+    alloc: Global,
+    kept: Kept,
+    value: &Value,
+    key: Key,
+) -> Result<Option<Kept>, AllocError>
+    ensures { IfOk result (λ next. next ≡ with_value kept value.now key) }
+{
+    match key {
+        Key::Boot => Ok(with_boot(kept, value)),
+        Key::Ceiling => Ok(with_ceiling(kept, value)),
+        Key::Single { place } => with_single(kept, &place, value),
+        Key::Items { fabric, place } => with_items(alloc, kept, fabric, &place, value),
+        Key::Fabric { index } => with_fabric(kept, index, value),
+        Key::Roots => with_roots(alloc, kept, value),
+        Key::Networks => with_networks(alloc, kept, value),
+        Key::Failsafe => with_failsafe(alloc, kept, value),
+    }
+}
+
+fn with_boot(kept: Kept, value: &Value) -> Option<Kept>
+    ensures { result ≡ with_boot kept (number_in greatest_boot (tree value.now)) }
+{
+    let boot = number_in(GREATEST_BOOT, value)?;
+    Some(Kept {
+        boot: Some(boot),
+        ..kept
+    })
+}
+
+fn with_ceiling(kept: Kept, value: &Value) -> Option<Kept>
+    ensures { result ≡ with_ceiling kept (number_in greatest_ceiling (tree value.now)) }
+{
+    let ceiling = number_in(GREATEST_CEILING, value)?;
+    Some(Kept {
+        ceiling: Some(ceiling),
+        ..kept
+    })
+}
+
+fn with_single(kept: Kept, place: &Place, value: &Value) -> Result<Option<Kept>, AllocError>
+    ensures { IfOk result (λ next. next ≡ with_single kept place.now value.now) }
+{
+    if !may_stand(place, value) {
+        return Ok(None);
+    }
+    let mut rows = kept.rows;
+    rows.push(Row {
+        place: *place,
+        fabric: 0,
+        value: value.copy()?,
+    })?;
+    Ok(Some(Kept { rows, ..kept }))
+}
+
+fn with_items(
+    alloc: Global,
+    kept: Kept,
+    fabric: u8,
+    place: &Place,
+    value: &Value,
+) -> Result<Option<Kept>, AllocError>
+    ensures { IfOk result (λ next. next ≡ with_items kept fabric place.now (tree value.now)) }
+{
+    match table_row(place) {
+        Some(row) => with_items_in(alloc, kept, fabric, place, value, row),
+        None => Ok(None),
+    }
+}
+
+fn with_items_in(
+    alloc: Global,
+    kept: Kept,
+    fabric: u8,
+    place: &Place,
+    value: &Value,
+    row: &AttributeRow,
+) -> Result<Option<Kept>, AllocError>
+    ensures { IfOk result (λ next. next ≡ with_items_in kept fabric place.now (tree value.now) (Some row.now)) }
+{
+    if !has_items(&row.meta) {
+        return Ok(None);
+    }
+    if is_acl(row.meta.kind) {
+        return with_entries(kept, entries_in(alloc, fabric, value)?);
+    }
+    with_rows(kept, items_in(alloc, place, fabric, &row.meta, value)?)
+}
+
+fn with_entries(kept: Kept, entries: Option<AclEntries>) -> Result<Option<Kept>, AllocError>
+    ensures { IfOk result (λ next. next ≡ with_entries kept entries) }
+{
+    let Some(entries) = entries else {
+        return Ok(None);
+    };
+    let entries = joined_entries(kept.entries, entries)?;
+    Ok(Some(Kept { entries, ..kept }))
+}
+
+fn joined_entries(front: AclEntries, back: AclEntries) -> Result<AclEntries, AllocError>
+    ensures { IfOk result (λ all. all ≡ front ++ back) }
+{
+    let mut all = front;
+    for entry in back.into_vec() {
+        all.push(entry)?;
+    }
+    Ok(all)
+}
+
+fn with_rows(kept: Kept, rows: Option<KeptRows>) -> Result<Option<Kept>, AllocError>
+    ensures { IfOk result (λ next. next ≡ with_rows kept rows) }
+{
+    let Some(rows) = rows else {
+        return Ok(None);
+    };
+    let rows = joined_rows(kept.rows, rows)?;
+    Ok(Some(Kept { rows, ..kept }))
+}
+
+fn joined_rows(front: KeptRows, back: KeptRows) -> Result<KeptRows, AllocError>
+    ensures { IfOk result (λ all. all ≡ front ++ back) }
+{
+    let mut all = front;
+    for row in back.into_vec() {
+        all.push(row)?;
+    }
+    Ok(all)
+}
+
+fn with_fabric(kept: Kept, index: u8, value: &Value) -> Result<Option<Kept>, AllocError>
+    ensures { IfOk result (λ next. next ≡ with_fabric kept (fabric_in index (tree value.now))) }
+{
+    let Some(fabric) = fabric_in(index, value)? else {
+        return Ok(None);
+    };
+    let mut fabrics = kept.fabrics;
+    fabrics.push(fabric)?;
+    Ok(Some(Kept { fabrics, ..kept }))
+}
+
+fn with_roots(alloc: Global, kept: Kept, value: &Value) -> Result<Option<Kept>, AllocError>
+    ensures { IfOk result (λ next. next ≡ with_roots kept (roots_in (tree value.now))) }
+{
+    match roots_in(alloc, value)? {
+        Some(roots) => Ok(Some(Kept { roots, ..kept })),
+        None => Ok(None),
+    }
+}
+
+fn with_networks(alloc: Global, kept: Kept, value: &Value) -> Result<Option<Kept>, AllocError>
+    ensures { IfOk result (λ next. next ≡ with_networks kept (networks_in (tree value.now))) }
+{
+    match networks_in(alloc, value)? {
+        Some(networks) => Ok(Some(Kept { networks, ..kept })),
+        None => Ok(None),
+    }
+}
+
+fn with_failsafe(alloc: Global, kept: Kept, value: &Value) -> Result<Option<Kept>, AllocError>
+    ensures { IfOk result (λ next. next ≡ with_failsafe kept (armed_in (tree value.now))) }
+{
+    match armed_in(alloc, value)? {
+        Some(armed) => Ok(Some(Kept {
+            failsafe: Some(armed),
+            ..kept
+        })),
+        None => Ok(None),
+    }
+}
