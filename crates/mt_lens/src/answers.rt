@@ -1,10 +1,10 @@
 //! Answers in words.
 
 use crate::page::{Colour, Page};
-use crate::payloads::answer_in;
 use crate::shapes::{shape_of_attribute, shape_of_event, shape_of_response};
 use crate::values::show_value;
 use crate::words::{ITEM, Leaf, is_empty, show_message_name, show_path, whole_of};
+use mt_answers::read_answer;
 use mt_model::{Happened, Item, Path, Place, Reply};
 use mt_names::{status_name, status_of};
 use mt_tlv::Value;
@@ -30,7 +30,7 @@ pub(crate) fn show_status(page: &mut Page, code: u8) {
 /// answer is shown by its bytes.
 pub(crate) fn show_answer(page: &mut Page, opcode: u8, payload: &[u8]) {
     show_message_name(page, opcode);
-    match answer_in(page.alloc(), opcode, payload) {
+    match read_answer(page.alloc(), opcode, payload) {
         Ok(Some(answer)) => show_reply(page, &answer.reply, answer.follows),
         Ok(None) => {
             page.text(", which can't be read\n");
@@ -134,7 +134,7 @@ fn show_item(page: &mut Page, item: &Item) {
             page.text("  version ");
             page.number(*version as u64);
             page.text("  ");
-            show_value(page, value, shape_of_attribute(path), ITEM)
+            show_value(page, value, shape_of_attribute(path, value), ITEM)
         }
         Item::Refused { path, code } => {
             show_path(page, path, Leaf::Attribute);

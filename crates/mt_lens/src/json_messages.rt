@@ -1,37 +1,39 @@
 //! Requests and answers as objects of JSON.
 
-use crate::json_objects::{List, Object};
-use crate::page::Page;
-use crate::payloads::answer_in;
+use crate::json_objects::Object;
+use crate::json_values::{put_text, put_value};
 use crate::shapes::{shape_of_attribute, shape_of_command, shape_of_event, shape_of_response};
 use crate::words::{Leaf, query_of, show_cluster, show_fault, show_path, whole_of};
+use mt_answers::read_answer;
 use mt_im::ImFault;
-use mt_model::{Happened, Index, Item, Path, Place, Reply, Request, Version, WriteItem};
+use mt_model::{Happened, Index, Item, Path, Reply, Request, Version, WriteItem};
 use mt_names::{message_name, status_name, status_of};
-use mt_tlv::Value;
-use std::alloc::Global;
 
 // The name of a message, and its opcode.
-fn put_name(map: &mut Object, opcode: u8) {
+fn put_name(out: &mut Object, opcode: u8) {
     if let Some(name) = message_name(opcode) {
-        map.text("message", name);
+        out.text("message", name);
     }
-    map.number("opcode", opcode as u64)
+    out.number("opcode", opcode as u64)
 }
 
 /// What is asked.
-pub(crate) fn put_request(map: &mut Object, opcode: u8, request: &Request) {
-    put_name(map, opcode);
+pub(crate) fn put_request(out: &mut Object, opcode: u8, request: &Request) {
     match request {
-        Request::Status { code } => put_status(map, *code),
-        Request::Read { .. } | Request::Subscribe { .. } => put_query(map, request),
+        Request::Status { code } => {
+            out.number("code", *code as u64);
+            put_name(out, opcode);
+            put_status_name(out, *code)
+        }
+        Request::Read { .. } | Request::Subscribe { .. } => put_query(out, opcode, request),
         Request::Write {
             suppress,
             timed,
             items,
         } => {
-            put_manner(map, *suppress, *timed);
-            put_writes(map, items.as_slice());
+            put_name(out, opcode);
+            put_manner(out, *suppress, *timed);
+            put_writes(out, items.as_slice())
         }
         Request::Invoke {
             suppress,
@@ -39,29 +41,47 @@ pub(crate) fn put_request(map: &mut Object, opcode: u8, request: &Request) {
             command,
             fields,
         } => {
-            put_manner(map, *suppress, *timed);
-            put_place(map, command, Leaf::Command);
-            map.value("fields", fields, shape_of_command(command));
+            put_name(out, opcode);
+            put_manner(out, *suppress, *timed);
+            put_path(out, &Path::from(*command), Leaf::Command);
+            out.key("fields");
+            put_value(out, fields, shape_of_command(command))
         }
-        Request::Timed { ms } => map.number("timeout", *ms as u64),
+        Request::Timed { ms } => {
+            put_name(out, opcode);
+            out.number("timeout", *ms as u64)
+        }
     }
 }
 
 /// A payload that is no request: its first fault, and its bytes.
-pub(crate) fn put_malformed(map: &mut Object, opcode: u8, payload: &[u8], fault: ImFault) {
-    put_name(map, opcode);
-    let mut page = Page::new(map.alloc(), false);
+pub(crate) fn put_malformed(out: &mut Object, opcode: u8, payload: &[u8], fault: ImFault) {
+    out.octets("bytes", payload);
+    let mut page = out.page.fresh();
     show_fault(&mut page, opcode, payload, fault);
-    map.page("malformed", &page);
-    map.octets("bytes", payload);
+    out.key("malformed");
+    match page.whole() {
+        Ok(text) => put_text(out, text),
+        Err(_) => out.page.leave_gap(),
+    }
+    put_name(out, opcode)
 }
 
-fn put_manner(map: &mut Object, suppress: bool, timed: bool) {
-    map.truth("suppress", suppress);
-    map.truth("timed", timed)
+fn put_manner(out: &mut Object, suppress: bool, timed: bool) {
+    out.truth("suppress", suppress);
+    out.truth("timed", timed)
 }
 
-fn put_query(map: &mut Object, request: &Request) {
+fn put_query(out: &mut Object, opcode: u8, request: &Request) {
+    let Some(query) = query_of(request) else {
+        return;
+    };
+    put_paths(out, "events", query.events, Leaf::Event);
+    put_name(out, opcode);
+    out.number("minimum", query.minimum);
+    out.truth("ownItems", query.filtered);
+    put_paths(out, "paths", query.paths, Leaf::Attribute);
+    put_versions(out, query.versions);
     if let Request::Subscribe {
         keep,
         floor,
@@ -69,177 +89,210 @@ fn put_query(map: &mut Object, request: &Request) {
         ..
     } = request
     {
-        map.truth("keep", *keep);
-        map.number("floor", *floor as u64);
-        map.number("ceiling", *ceiling as u64);
+        out.truth("keep", *keep);
+        out.number("floor", *floor as u64);
+        out.number("ceiling", *ceiling as u64);
     }
-    let Some(query) = query_of(request) else {
-        return;
-    };
-    map.truth("ownItems", query.filtered);
-    map.number("minimum", query.minimum);
-    put_paths(map, "paths", query.paths, Leaf::Attribute);
-    put_paths(map, "events", query.events, Leaf::Event);
-    put_versions(map, query.versions)
 }
 
-fn put_paths(map: &mut Object, key: &str, paths: &[Path], leaf: Leaf) {
-    let mut shown = List::new(map.alloc());
+fn put_paths(out: &mut Object, key: &str, paths: &[Path], leaf: Leaf) {
+    out.key(key);
+    out.open_list();
     for path in paths {
-        let mut object = Object::new(map.alloc());
-        put_path(&mut object, path, leaf);
-        shown.push(object);
+        out.next_item();
+        let others = out.open();
+        put_path(out, path, leaf);
+        out.close(others);
     }
-    map.list(key, shown);
+    out.close_list()
 }
 
 // A path by its names, and by its numbers; a wildcard has none.
-fn put_path(map: &mut Object, path: &Path, leaf: Leaf) {
-    let mut page = Page::new(map.alloc(), false);
-    show_path(&mut page, &whole_of(path), leaf);
-    map.page("path", &page);
-    if let Some(endpoint) = path.endpoint {
-        map.number("endpoint", endpoint as u64);
+fn put_path(out: &mut Object, path: &Path, leaf: Leaf) {
+    put_cluster(out, path);
+    put_leaf(out, path, leaf)
+}
+
+// What is refused, and why.
+fn put_refused(out: &mut Object, path: &Path, leaf: Leaf, code: u8) {
+    put_cluster(out, path);
+    out.number("code", code as u64);
+    put_leaf(out, path, leaf);
+    put_status_name(out, code)
+}
+
+fn put_cluster(out: &mut Object, path: &Path) {
+    if path.index == Index::Append {
+        out.truth("appended", true);
     }
     if let Some(cluster) = path.cluster {
-        map.number("cluster", cluster as u64);
-    }
-    if let Some(id) = path.leaf {
-        map.number("id", id as u64);
-    }
-    match path.index {
-        Index::Whole => {}
-        Index::Append => map.truth("appended", true),
-        Index::At(number) => map.number("item", number as u64),
+        out.number("cluster", cluster as u64);
     }
 }
 
-fn put_place(map: &mut Object, place: &Place, leaf: Leaf) {
-    put_path(map, &Path::from(*place), leaf)
+// What of a path stands behind its cluster. No name has anything to be escaped.
+fn put_leaf(out: &mut Object, path: &Path, leaf: Leaf) {
+    if let Some(endpoint) = path.endpoint {
+        out.number("endpoint", endpoint as u64);
+    }
+    if let Some(id) = path.leaf {
+        out.number("id", id as u64);
+    }
+    if let Index::At(number) = path.index {
+        out.number("item", number as u64);
+    }
+    out.key("path");
+    out.page.byte(b'"');
+    show_path(&mut out.page, &whole_of(path), leaf);
+    out.page.byte(b'"')
 }
 
 // What the asker knows already.
-fn put_versions(map: &mut Object, versions: &[Version]) {
-    let mut shown = List::new(map.alloc());
+fn put_versions(out: &mut Object, versions: &[Version]) {
+    out.key("versions");
+    out.open_list();
     for known in versions {
-        let mut object = Object::new(map.alloc());
-        object.number("endpoint", known.endpoint as u64);
-        object.number("cluster", known.cluster as u64);
-        object.number("version", known.version as u64);
-        let mut page = Page::new(map.alloc(), false);
-        show_cluster(&mut page, known.cluster);
-        object.page("name", &page);
-        shown.push(object);
+        out.next_item();
+        put_version(out, known);
     }
-    map.list("versions", shown);
+    out.close_list()
 }
 
-fn put_writes(map: &mut Object, items: &[WriteItem]) {
-    let mut shown = List::new(map.alloc());
+fn put_version(out: &mut Object, known: &Version) {
+    let others = out.open();
+    out.number("cluster", known.cluster as u64);
+    out.number("endpoint", known.endpoint as u64);
+    out.key("name");
+    out.page.byte(b'"');
+    show_cluster(&mut out.page, known.cluster);
+    out.page.byte(b'"');
+    out.number("version", known.version as u64);
+    out.close(others)
+}
+
+fn put_writes(out: &mut Object, items: &[WriteItem]) {
+    out.key("writes");
+    out.open_list();
     for item in items {
-        shown.push(write_of(map.alloc(), item));
+        out.next_item();
+        put_write(out, item);
     }
-    map.list("writes", shown);
+    out.close_list()
 }
 
-fn write_of(alloc: Global, item: &WriteItem) -> Object {
-    let mut object = Object::new(alloc);
-    put_path(&mut object, &item.path, Leaf::Attribute);
+fn put_write(out: &mut Object, item: &WriteItem) {
+    let others = out.open();
+    put_path(out, &item.path, Leaf::Attribute);
+    out.key("value");
+    put_value(
+        out,
+        &item.value,
+        shape_of_attribute(&item.path, &item.value),
+    );
     if let Some(version) = item.version {
-        object.number("version", version as u64);
+        out.number("version", version as u64);
     }
-    object.value("value", &item.value, shape_of_attribute(&item.path));
-    object
+    out.close(others)
 }
 
-// A status by its name and its code.
-fn put_status(map: &mut Object, code: u8) {
+// The name of a status.
+fn put_status_name(out: &mut Object, code: u8) {
     if let Some(status) = status_of(code) {
-        map.text("status", status_name(status));
+        out.text("status", status_name(status));
     }
-    map.number("code", code as u64)
 }
 
 /// An answer. What can't be read as one is told by its bytes.
-pub(crate) fn put_answer(map: &mut Object, opcode: u8, payload: &[u8]) {
-    put_name(map, opcode);
-    match answer_in(map.alloc(), opcode, payload) {
-        Ok(Some(answer)) => put_reply(map, &answer.reply, answer.follows),
-        Ok(None) => map.octets("bytes", payload),
-        Err(_) => map.leave_gap(),
+pub(crate) fn put_answer(out: &mut Object, opcode: u8, payload: &[u8]) {
+    match read_answer(out.page.alloc(), opcode, payload) {
+        Ok(Some(answer)) => put_reply(out, opcode, &answer.reply, answer.follows),
+        Ok(None) => {
+            out.octets("bytes", payload);
+            put_name(out, opcode)
+        }
+        Err(_) => out.page.leave_gap(),
     }
 }
 
-fn put_reply(map: &mut Object, reply: &Reply, follows: bool) {
+fn put_reply(out: &mut Object, opcode: u8, reply: &Reply, follows: bool) {
     match reply {
-        Reply::Status { code } => put_status(map, *code),
+        Reply::Status { code } => {
+            out.number("code", *code as u64);
+            put_name(out, opcode);
+            put_status_name(out, *code)
+        }
         Reply::Report {
             subscription,
             items,
             suppress,
         } => {
+            out.truth("follows", follows);
+            put_items(out, items.as_slice());
+            put_name(out, opcode);
             if let Some(id) = subscription {
-                map.number("subscription", *id as u64);
+                out.number("subscription", *id as u64);
             }
-            map.truth("follows", follows);
-            map.truth("suppress", *suppress);
-            put_items(map, items.as_slice())
+            out.truth("suppress", *suppress)
         }
         Reply::Subscribed { id, ceiling } => {
-            map.number("subscription", *id as u64);
-            map.number("ceiling", *ceiling as u64)
+            out.number("ceiling", *ceiling as u64);
+            put_name(out, opcode);
+            out.number("subscription", *id as u64)
         }
-        Reply::Written { items } => put_items(map, items.as_slice()),
+        Reply::Written { items } => {
+            put_items(out, items.as_slice());
+            put_name(out, opcode)
+        }
         Reply::Invoked { command, fields } => {
-            put_place(map, command, Leaf::Response);
-            map.value("fields", fields, shape_of_response(command));
+            put_path(out, &Path::from(*command), Leaf::Response);
+            out.key("fields");
+            put_value(out, fields, shape_of_response(command));
+            put_name(out, opcode)
         }
         Reply::InvokeStatus { command, code } => {
-            put_place(map, command, Leaf::Command);
-            put_status(map, *code)
+            put_refused(out, &Path::from(*command), Leaf::Command, *code);
+            put_name(out, opcode)
         }
-        Reply::Nothing => {}
+        Reply::Nothing => put_name(out, opcode),
     }
 }
 
-fn put_items(map: &mut Object, items: &[Item]) {
-    let mut shown = List::new(map.alloc());
+fn put_items(out: &mut Object, items: &[Item]) {
+    out.key("items");
+    out.open_list();
     for item in items {
-        let mut object = Object::new(map.alloc());
-        put_item(&mut object, item);
-        shown.push(object);
+        out.next_item();
+        let others = out.open();
+        put_item(out, item);
+        out.close(others);
     }
-    map.list("items", shown);
+    out.close_list()
 }
 
-fn put_item(map: &mut Object, item: &Item) {
+fn put_item(out: &mut Object, item: &Item) {
     match item {
         Item::Attribute {
             path,
             version,
             value,
         } => {
-            put_path(map, path, Leaf::Attribute);
-            map.number("version", *version as u64);
-            map.value("value", value, shape_of_attribute(path));
+            put_path(out, path, Leaf::Attribute);
+            out.key("value");
+            put_value(out, value, shape_of_attribute(path, value));
+            out.number("version", *version as u64)
         }
-        Item::Refused { path, code } => {
-            put_path(map, path, Leaf::Attribute);
-            put_status(map, *code)
-        }
-        Item::Event(happened) => put_happened(map, happened),
-        Item::EventRefused { path, code } => {
-            put_path(map, path, Leaf::Event);
-            put_status(map, *code)
-        }
+        Item::Refused { path, code } => put_refused(out, path, Leaf::Attribute, *code),
+        Item::Event(happened) => put_happened(out, happened),
+        Item::EventRefused { path, code } => put_refused(out, path, Leaf::Event, *code),
     }
 }
 
 // An event that happened.
-fn put_happened(map: &mut Object, happened: &Happened) {
-    put_place(map, &happened.place, Leaf::Event);
-    map.number("number", happened.number);
-    map.number("priority", happened.priority as u64);
-    map.number("at", happened.at);
-    map.value("value", &happened.value, shape_of_event(&happened.place));
+fn put_happened(out: &mut Object, happened: &Happened) {
+    out.number("at", happened.at);
+    put_path(out, &Path::from(happened.place), Leaf::Event);
+    out.number("number", happened.number);
+    out.number("priority", happened.priority as u64);
+    out.key("value");
+    put_value(out, &happened.value, shape_of_event(&happened.place))
 }

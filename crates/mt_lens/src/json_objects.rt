@@ -1,129 +1,191 @@
-//! Objects of JSON that grow. Whoever adds to one need not look whether memory sufficed: the object knows, and says so
-//! at its end.
+//! Objects of JSON as they are written. Whoever writes one need not look whether memory sufficed: the page knows.
+//! Members are put in any order, and stand in that of their names.
 
-use crate::json_values::{json_octets, json_page, json_value};
 use crate::page::Page;
-use crate::shapes::Shape;
-use mt_tlv::Value;
-use serde_json::{Map, Value as Json, put};
+use serde_json::Value as Json;
 use std::alloc::{AllocError, Global};
+use std::str;
 
-/// An object that grows.
+/// An object that is written, and those that stand in it.
 #[derive(Drop)]
 pub(crate) struct Object {
-    alloc: Global,
-    members: Map<String, Json>,
-    /// Whether there was no memory for a part of it.
-    has_gap: bool,
+    pub page: Page,
+    /// Where each member begins of the objects that are open, those of the innermost last.
+    starts: Vec<usize>,
 }
 
 impl Object {
-    pub(crate) fn new(alloc: Global) -> Object {
+    /// Nothing is written yet, and no object is open. Memory is that of a page.
+    pub(crate) fn on(page: &Page) -> Object {
         Object {
-            alloc,
-            members: Map::new(alloc),
-            has_gap: false,
+            page: page.plain(),
+            starts: Vec::new(page.alloc()),
         }
     }
 
-    pub(crate) fn alloc(&self) -> Global {
-        self.alloc
+    pub(crate) fn into_page(self) -> Page {
+        self.page
     }
 
-    /// Notes that there was no memory for a part of it.
-    pub(crate) fn leave_gap(&mut self) {
-        self.has_gap = true;
+    /// Opens an object. What is answered, `close` is told.
+    pub(crate) fn open(&mut self) -> usize {
+        self.page.byte(b'{');
+        self.starts.len()
     }
 
-    /// The whole object; an error where there was no memory for a part of it.
-    pub(crate) fn whole(self) -> Result<Json, AllocError> {
-        if self.has_gap {
-            return Err(AllocError);
+    /// Closes the innermost object, whose members begin behind so many starts.
+    pub(crate) fn close(&mut self, others: usize) {
+        order(&mut self.page, self.starts.get(others..).unwrap_or(&[]));
+        self.starts.truncate(others);
+        self.page.byte(b'}')
+    }
+
+    /// Opens a list.
+    pub(crate) fn open_list(&mut self) {
+        self.page.byte(b'[')
+    }
+
+    /// Begins the next item of the innermost list.
+    pub(crate) fn next_item(&mut self) {
+        if self.page.last() != b'[' {
+            self.page.byte(b',');
         }
-        Ok(Json::Object(self.members))
     }
 
-    /// Adds a member, where there was memory for its value.
-    fn put(&mut self, key: &str, value: Result<Json, AllocError>) {
-        let is_put = match value {
-            Ok(value) => put(&mut self.members, self.alloc, key, value).is_ok(),
-            Err(_) => false,
-        };
-        if !is_put {
-            self.has_gap = true;
+    /// Closes the innermost list.
+    pub(crate) fn close_list(&mut self) {
+        self.page.byte(b']')
+    }
+
+    /// Begins the next member of the innermost object; its name follows, and then `end_key`.
+    pub(crate) fn begin_key(&mut self) {
+        if self.page.last() != b'{' {
+            self.page.byte(b',');
         }
+        if self.starts.push(self.page.len()).is_err() {
+            self.page.leave_gap();
+        }
+        self.page.byte(b'"')
+    }
+
+    pub(crate) fn end_key(&mut self) {
+        self.page.byte(b'"');
+        self.page.byte(b':')
+    }
+
+    /// Begins a member of this name, which has nothing to be escaped. Its value follows.
+    pub(crate) fn key(&mut self, key: &str) {
+        self.begin_key();
+        self.page.text(key);
+        self.end_key()
+    }
+
+    /// Text in quotes, with what JSON does not let stand escaped.
+    pub(crate) fn quoted(&mut self, text: &str) {
+        if is_plain(text.as_bytes()) {
+            self.page.byte(b'"');
+            self.page.text(text);
+            return self.page.byte(b'"');
+        }
+        match escaped(self.page.alloc(), text) {
+            Ok(text) => self.page.text(text.as_str()),
+            Err(_) => self.page.leave_gap(),
+        }
+    }
+
+    /// Octets in hex digits behind `0x`.
+    pub(crate) fn hex(&mut self, octets: &[u8]) {
+        self.page.text("\"0x");
+        self.page.octets(octets);
+        self.page.byte(b'"')
     }
 
     pub(crate) fn text(&mut self, key: &str, text: &str) {
-        let value = Json::try_from_str(self.alloc, text);
-        self.put(key, value);
+        self.key(key);
+        self.quoted(text)
     }
 
     pub(crate) fn number(&mut self, key: &str, number: u64) {
-        self.put(key, Ok(Json::from(number)));
+        self.key(key);
+        self.page.number(number)
     }
 
     pub(crate) fn truth(&mut self, key: &str, truth: bool) {
-        self.put(key, Ok(Json::Bool(truth)));
+        self.key(key);
+        self.page.text(if truth { "true" } else { "false" })
     }
 
-    /// Adds octets as hex digits.
     pub(crate) fn octets(&mut self, key: &str, octets: &[u8]) {
-        let value = json_octets(self.alloc, octets);
-        self.put(key, value);
-    }
-
-    /// Adds what stands on a page, as a text.
-    pub(crate) fn page(&mut self, key: &str, page: &Page) {
-        let value = json_page(self.alloc, page);
-        self.put(key, value);
-    }
-
-    /// Adds a value of the encoding.
-    pub(crate) fn value(&mut self, key: &str, value: &Value, shape: Shape) {
-        let value = json_value(self.alloc, value, shape);
-        self.put(key, value);
-    }
-
-    pub(crate) fn object(&mut self, key: &str, object: Object) {
-        self.put(key, object.whole());
-    }
-
-    pub(crate) fn list(&mut self, key: &str, list: List) {
-        self.put(key, list.whole());
+        self.key(key);
+        self.hex(octets)
     }
 }
 
-/// A list of objects that grows.
-#[derive(Drop)]
-pub(crate) struct List {
-    items: Vec<Json>,
-    /// Whether there was no memory for a part of it.
-    has_gap: bool,
+// Whether nothing in a text is to be escaped.
+fn is_plain(text: &[u8]) -> bool {
+    for byte in text {
+        if *byte < 0x20 || *byte == b'"' || *byte == b'\\' {
+            return false;
+        }
+    }
+    true
 }
 
-impl List {
-    pub(crate) fn new(alloc: Global) -> List {
-        List {
-            items: Vec::new(alloc),
-            has_gap: false,
-        }
-    }
+fn escaped(alloc: Global, text: &str) -> Result<String, AllocError> {
+    Json::try_from_str(alloc, text)?.to_string(alloc)
+}
 
-    pub(crate) fn push(&mut self, object: Object) {
-        let is_pushed = match object.whole() {
-            Ok(item) => self.items.push(item).is_ok(),
-            Err(_) => false,
-        };
-        if !is_pushed {
-            self.has_gap = true;
-        }
+// Puts the members that begin at these places into the order of their names. Most stand in it.
+fn order(page: &mut Page, starts: &[usize]) {
+    let Some(first) = starts.first() else {
+        return;
+    };
+    if are_ordered(page.bytes(), starts) {
+        return;
     }
+    let ordered = ordered(page, starts);
+    page.cut(*first);
+    page.append(&ordered)
+}
 
-    fn whole(self) -> Result<Json, AllocError> {
-        if self.has_gap {
-            return Err(AllocError);
+// Whether each member stands behind those of lesser names.
+fn are_ordered(bytes: &[u8], starts: &[usize]) -> bool {
+    let mut last: &[u8] = &[];
+    for start in starts {
+        let member = bytes.get(*start..).unwrap_or(&[]);
+        if member < last {
+            return false;
         }
-        Ok(Json::Array(self.items))
+        last = member;
     }
+    true
+}
+
+// The members in the order of their names, with commas between them.
+fn ordered(page: &Page, starts: &[usize]) -> Page {
+    let mut ordered = page.fresh();
+    let Ok(mut members) = members_at(page, starts) else {
+        ordered.leave_gap();
+        return ordered;
+    };
+    members.sort_unstable();
+    for member in &members {
+        if ordered.len() > 0 {
+            ordered.byte(b',');
+        }
+        ordered.raw(member);
+    }
+    ordered
+}
+
+// The members that begin at these places, the last of them first. Commas stand between them.
+fn members_at<'a>(page: &'a Page, starts: &[usize]) -> Result<Vec<&'a [u8]>, AllocError> {
+    let bytes = page.bytes();
+    let mut members = Vec::new(page.alloc());
+    let mut end = bytes.len();
+    for start in starts.iter().rev() {
+        members.push(bytes.get(*start..end).unwrap_or(&[]))?;
+        end = start.saturating_sub(1);
+    }
+    Ok(members)
 }

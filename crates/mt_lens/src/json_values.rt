@@ -1,11 +1,9 @@
 //! Values as JSON. A structure is an object by the names of its fields, or by their numbers; octets are a text of
 //! hex digits behind `0x`; what a number stands for is said in place of it.
 
-use crate::page::Page;
+use crate::json_objects::Object;
 use crate::shapes::{Shape, unknown};
 use mt_tlv::{Tag, Value};
-use serde_json::{Map, Value as Json, put};
-use std::alloc::{AllocError, Global};
 use std::str;
 
 /// How many containers may be open inside each other: as many as the encoding lets.
@@ -19,98 +17,77 @@ struct Where {
     field: Option<u8>,
 }
 
-/// A value as JSON.
-pub(crate) fn json_value(alloc: Global, value: &Value, shape: Shape) -> Result<Json, AllocError> {
+/// A value, behind what stands in front of it.
+pub(crate) fn put_value(out: &mut Object, value: &Value, shape: Shape) {
     let at = Where {
         shape,
         of: unknown(),
         field: None,
     };
-    json_of(alloc, value, at, ROOM)
+    put(out, value, at, ROOM)
 }
 
 #[cycle(json)]
-fn json_of(alloc: Global, value: &Value, at: Where, room: u8) -> Result<Json, AllocError> {
+fn put(out: &mut Object, value: &Value, at: Where, room: u8) {
     match value {
-        Value::Int(number) => Ok(Json::from(*number)),
-        Value::Uint(number) => json_number(alloc, *number, at),
-        Value::Bool(truth) => Ok(Json::Bool(*truth)),
-        Value::Text(text) => json_text(alloc, text.as_slice()),
-        Value::Octets(octets) => json_octets(alloc, octets.as_slice()),
-        Value::Null => Ok(Json::Null),
-        Value::Bits32(bits) => json_octets(alloc, &bits.to_be_bytes()),
-        Value::Bits64(bits) => json_octets(alloc, &bits.to_be_bytes()),
-        Value::Struct(members) => json_object(alloc, members.as_slice(), at, room),
-        Value::Array(members) => json_array(alloc, members.as_slice(), at, room),
-        Value::List(members) => json_list(alloc, members.as_slice(), at, room),
+        Value::Int(number) => out.page.signed(*number),
+        Value::Uint(number) => put_number(out, *number, at),
+        Value::Bool(true) => out.page.text("true"),
+        Value::Bool(false) => out.page.text("false"),
+        Value::Text(text) => put_text(out, text.as_slice()),
+        Value::Octets(octets) => out.hex(octets.as_slice()),
+        Value::Null => out.page.text("null"),
+        Value::Bits32(bits) => out.hex(&bits.to_be_bytes()),
+        Value::Bits64(bits) => out.hex(&bits.to_be_bytes()),
+        Value::Struct(members) => put_structure(out, members.as_slice(), at, room),
+        Value::Array(members) => put_array(out, members.as_slice(), at, room),
+        Value::List(members) => put_list(out, members.as_slice(), at, room),
     }
 }
 
 #[cycle(json)]
-fn json_object(
-    alloc: Global,
-    members: &[(Tag, Value)],
-    at: Where,
-    room: u8,
-) -> Result<Json, AllocError> {
-    let mut map = Map::new(alloc);
+fn put_structure(out: &mut Object, members: &[(Tag, Value)], at: Where, room: u8) {
+    let others = out.open();
     if room > 0 {
         for (tag, value) in members {
-            json_member(alloc, &mut map, *tag, value, at, room - 1)?;
+            put_member(out, *tag, value, at, room - 1);
         }
     }
-    Ok(Json::Object(map))
+    out.close(others)
 }
 
 #[cycle(json)]
-fn json_array(
-    alloc: Global,
-    members: &[(Tag, Value)],
-    at: Where,
-    room: u8,
-) -> Result<Json, AllocError> {
-    let mut items = Vec::new(alloc);
+fn put_array(out: &mut Object, members: &[(Tag, Value)], at: Where, room: u8) {
+    out.open_list();
     if room > 0 {
         for (_, value) in members {
-            items.push(json_of(alloc, value, at, room - 1)?)?;
+            out.next_item();
+            put(out, value, at, room - 1);
         }
     }
-    Ok(Json::Array(items))
+    out.close_list()
 }
 
 // A list may have a tag twice, so it is an array of objects of one member.
 #[cycle(json)]
-fn json_list(
-    alloc: Global,
-    members: &[(Tag, Value)],
-    at: Where,
-    room: u8,
-) -> Result<Json, AllocError> {
-    let mut items = Vec::new(alloc);
+fn put_list(out: &mut Object, members: &[(Tag, Value)], at: Where, room: u8) {
+    out.open_list();
     if room > 0 {
         for (tag, value) in members {
-            let mut map = Map::new(alloc);
-            json_member(alloc, &mut map, *tag, value, at, room - 1)?;
-            items.push(Json::Object(map))?;
+            out.next_item();
+            let others = out.open();
+            put_member(out, *tag, value, at, room - 1);
+            out.close(others);
         }
     }
-    Ok(Json::Array(items))
+    out.close_list()
 }
 
-// Adds a member by its name.
+// A member by its name.
 #[cycle(json)]
-fn json_member(
-    alloc: Global,
-    map: &mut Map<String, Json>,
-    tag: Tag,
-    value: &Value,
-    at: Where,
-    room: u8,
-) -> Result<(), AllocError> {
-    let key = key_of(alloc, tag, at.shape)?;
-    let inner = json_of(alloc, value, member(at, tag), room)?;
-    map.insert(key, inner)?;
-    Ok(())
+fn put_member(out: &mut Object, tag: Tag, value: &Value, at: Where, room: u8) {
+    put_key(out, tag, at.shape);
+    put(out, value, member(at, tag), room)
 }
 
 // Where a member stands. One without a tag stands where its array does.
@@ -125,56 +102,54 @@ fn member(at: Where, tag: Tag) -> Where {
     }
 }
 
-// The key of a member: its name, or its tag.
-fn key_of(alloc: Global, tag: Tag, shape: Shape) -> Result<String, AllocError> {
+// Begins a member by its name, or by its tag.
+fn put_key(out: &mut Object, tag: Tag, shape: Shape) {
+    out.begin_key();
     match tag {
-        Tag::Anonymous => String::from_str(alloc, "-"),
+        Tag::Anonymous => out.page.byte(b'-'),
         Tag::Context(field) => match shape.name(field) {
-            Some(name) => String::from_str(alloc, name),
-            None => format!(in alloc; "{field}"),
+            Some(name) => out.page.text(name),
+            None => out.page.number(field as u64),
         },
-        Tag::Common(number) => format!(in alloc; "common:{number}"),
-        Tag::Implicit(number) => format!(in alloc; "implicit:{number}"),
+        Tag::Common(number) => {
+            out.page.text("common:");
+            out.page.number(number as u64)
+        }
+        Tag::Implicit(number) => {
+            out.page.text("implicit:");
+            out.page.number(number as u64)
+        }
         Tag::Full {
             vendor,
             profile,
             number,
-        } => format!(in alloc; "{vendor}:{profile}:{number}"),
+        } => {
+            for part in [vendor as u64, profile as u64] {
+                out.page.number(part);
+                out.page.byte(b':');
+            }
+            out.page.number(number as u64)
+        }
     }
+    out.end_key()
 }
 
 // A number, or what it stands for.
-fn json_number(alloc: Global, number: u64, at: Where) -> Result<Json, AllocError> {
+fn put_number(out: &mut Object, number: u64, at: Where) {
     let meaning = match at.field {
         Some(field) => at.of.meaning(field, number),
         None => None,
     };
     match meaning {
-        Some(word) => Json::try_from_str(alloc, word),
-        None => Ok(Json::from(number)),
+        Some(word) => out.quoted(word),
+        None => out.page.number(number),
     }
 }
 
 /// A text, or its bytes where it is not UTF-8.
-pub(crate) fn json_text(alloc: Global, text: &[u8]) -> Result<Json, AllocError> {
+pub(crate) fn put_text(out: &mut Object, text: &[u8]) {
     match str::from_utf8(text) {
-        Ok(text) => Json::try_from_str(alloc, text),
-        Err(_) => json_octets(alloc, text),
-    }
-}
-
-/// Octets in hex digits behind `0x`.
-pub(crate) fn json_octets(alloc: Global, octets: &[u8]) -> Result<Json, AllocError> {
-    let mut page = Page::new(alloc, false);
-    page.text("0x");
-    page.octets(octets);
-    json_page(alloc, &page)
-}
-
-/// What stands on a page, as a text.
-pub(crate) fn json_page(alloc: Global, page: &Page) -> Result<Json, AllocError> {
-    match str::from_utf8(page.whole()?) {
-        Ok(text) => Json::try_from_str(alloc, text),
-        Err(_) => Ok(Json::Null),
+        Ok(text) => out.quoted(text),
+        Err(_) => out.hex(text),
     }
 }

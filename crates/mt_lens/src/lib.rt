@@ -5,7 +5,6 @@
 //! - `page`: text that grows;
 //! - `telling`, `words`, `answers`, `values`: lines, requests, answers and values in words;
 //! - `json`, `json_messages`, `json_values`, `json_objects`: the same as objects of JSON;
-//! - `payloads`: answers, read from their payloads;
 //! - `places`: where a payload's first fault stands;
 //! - `shapes`: what the fields of a value are called.
 #![tactic(auto)]
@@ -16,7 +15,6 @@ mod json_messages;
 mod json_objects;
 mod json_values;
 mod page;
-mod payloads;
 mod places;
 mod shapes;
 mod telling;

@@ -19,6 +19,12 @@ pub(crate) enum Colour {
     Refusal,
 }
 
+// How many bytes most lines take at most.
+const ROOM: usize = 1024;
+
+// As many as most lines are indented by.
+const BLANKS: [u8; 48] = [b' '; 48];
+
 /// Text that grows. A contract sees the bytes that stand on the page.
 #[derive(Drop)]
 pub struct Page {
@@ -85,11 +91,29 @@ impl Page {
 
     /// A page with nothing on it, which has colours where this one has.
     pub(crate) fn fresh(&self) -> Page {
-        Page::new(self.alloc, self.colours)
+        with_room(self.alloc, self.colours)
+    }
+
+    /// A page with nothing on it, which has no colours.
+    pub(crate) fn plain(&self) -> Page {
+        with_room(self.alloc, false)
     }
 
     pub(crate) fn alloc(&self) -> Global {
         self.alloc
+    }
+
+    /// What stands on the page so far.
+    pub(crate) fn bytes(&self) -> &[u8] {
+        self.bytes.as_slice()
+    }
+
+    /// The last byte; 0 where there is none.
+    pub(crate) fn last(&self) -> u8 {
+        match self.bytes.as_slice() {
+            [.., last] => *last,
+            [] => 0,
+        }
     }
 
     /// Notes that there was no memory for a part of the text.
@@ -118,13 +142,21 @@ impl Page {
     }
 
     pub(crate) fn blanks(&mut self, count: usize) {
-        for _ in 0..count {
-            self.byte(b' ');
+        match BLANKS.get(..count) {
+            Some(blanks) => self.raw(blanks),
+            None => {
+                for _ in 0..count {
+                    self.byte(b' ');
+                }
+            }
         }
     }
 
     /// A number in decimal digits.
     pub(crate) fn number(&mut self, number: u64) {
+        if number < 10 {
+            return self.byte(b'0' + number as u8);
+        }
         let mut buffer = Buffer::new();
         self.text(buffer.format(number));
     }
@@ -139,8 +171,7 @@ impl Page {
     /// Bytes in hex, two digits each.
     pub(crate) fn octets(&mut self, octets: &[u8]) {
         for octet in octets {
-            self.byte(digit(*octet / 16));
-            self.byte(digit(*octet % 16));
+            self.raw(&[digit(*octet / 16), digit(*octet % 16)]);
         }
     }
 
@@ -196,6 +227,20 @@ impl Page {
         if self.colours {
             self.text("\x1b[0m");
         }
+    }
+}
+
+// A page with nothing on it, with room for what most lines tell.
+fn with_room(alloc: Global, colours: bool) -> Page {
+    let bytes = match Vec::with_capacity(alloc, ROOM) {
+        Ok(bytes) => bytes,
+        Err(_) => Vec::new(alloc),
+    };
+    Page {
+        alloc,
+        bytes,
+        colours,
+        has_gap: false,
     }
 }
 

@@ -1,13 +1,17 @@
 //! Where the first fault of a payload's encoding stands.
 
 use mt_tlv::{TlvFault, read};
-use std::alloc::Global;
+use std::alloc::{AllocError, Global};
 
 /// The byte at which the first fault of an encoding stands, from 0: the last of the fewest bytes in front
 /// that already have it. What is cut off has it behind its last byte.
-pub(crate) fn fault_place(alloc: Global, bytes: &[u8], fault: TlvFault) -> usize {
+pub(crate) fn fault_place(
+    alloc: Global,
+    bytes: &[u8],
+    fault: TlvFault,
+) -> Result<usize, AllocError> {
     if fault == TlvFault::Short {
-        return bytes.len();
+        return Ok(bytes.len());
     }
     let mut low = 0;
     let mut high = bytes.len();
@@ -17,21 +21,27 @@ pub(crate) fn fault_place(alloc: Global, bytes: &[u8], fault: TlvFault) -> usize
             break;
         }
         let middle = low + (high - low) / 2;
-        if has_fault(alloc, bytes, middle, fault) {
+        if has_fault(alloc, bytes, middle, fault)? {
             high = middle;
         } else {
             low = middle + 1;
         }
     }
-    low.saturating_sub(1)
+    Ok(low.saturating_sub(1))
 }
 
 // Whether so many bytes in front have the fault.
-fn has_fault(alloc: Global, bytes: &[u8], count: usize, fault: TlvFault) -> bool {
+fn has_fault(
+    alloc: Global,
+    bytes: &[u8],
+    count: usize,
+    fault: TlvFault,
+) -> Result<bool, AllocError> {
     let (front, _) = bytes.split_at(count.min(bytes.len()));
     match read(alloc, front) {
-        Ok(_) => false,
-        Err(met) => met == fault,
+        Ok(_) => Ok(false),
+        Err(TlvFault::Memory) => Err(AllocError),
+        Err(met) => Ok(met == fault),
     }
 }
 

@@ -7,6 +7,7 @@ use mt_names::{
     Named, auth_name, command_field_names, event_field_names, item_field_names, name_among,
     privilege_name, response_field_names, target_field_names, value_field_names,
 };
+use mt_tlv::Value;
 
 /// What the structures in a value are.
 #[derive(Clone, Copy)]
@@ -24,11 +25,16 @@ pub(crate) fn unknown() -> Shape {
     Shape::Fields(&[])
 }
 
-/// What the value of an attribute is.
-pub(crate) fn shape_of_attribute(path: &Path) -> Shape {
-    let Some(place) = path.place() else {
-        return unknown();
-    };
+/// What the structures in a value of an attribute are. It is not looked up for a value that has no members.
+pub(crate) fn shape_of_attribute(path: &Path, value: &Value) -> Shape {
+    match (path.place(), value) {
+        (Some(place), Value::Struct(_) | Value::Array(_) | Value::List(_)) => shape_at(place),
+        _ => unknown(),
+    }
+}
+
+// What the structures in the attribute of a place are.
+fn shape_at(place: Place) -> Shape {
     let kind = match find(&place) {
         Ok(meta) => meta.kind,
         Err(_) => Kind::Null,

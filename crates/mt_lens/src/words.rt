@@ -210,7 +210,12 @@ fn show_writes(page: &mut Page, items: &[WriteItem]) {
             page.number(version as u64);
         }
         page.text(": ");
-        show_value(page, &item.value, shape_of_attribute(&item.path), ITEM);
+        show_value(
+            page,
+            &item.value,
+            shape_of_attribute(&item.path, &item.value),
+            ITEM,
+        );
         page.end_line();
     }
 }
@@ -311,7 +316,10 @@ pub(crate) fn show_fault(page: &mut Page, opcode: u8, payload: &[u8], fault: ImF
     match fault {
         ImFault::Tlv(fault) => {
             page.text("malformed at byte ");
-            page.number(fault_place(page.alloc(), payload, fault) as u64);
+            match fault_place(page.alloc(), payload, fault) {
+                Ok(place) => page.number(place as u64),
+                Err(_) => page.leave_gap(),
+            }
             page.text(": ");
             page.text(encoding_fault(fault))
         }
