@@ -15,7 +15,8 @@
 //! - any other line is a title.
 //!
 //! Each line of data/talks.txt is something that is heard or said over a session: `CASE`, `PASE`, `answer`, `report`, `resend`,
-//! `ends`, `copy` and `drop` likewise, and `hear live|waits port datagram`.
+//! `ends`, `copy` and `drop` likewise, `hear live|waits port datagram`, and `pass count now [opcode deadline payload..]`: so many
+//! reports, of which each is let go.
 #![tactic(auto)]
 
 mod stand;

@@ -33,6 +33,7 @@ impl Talking {
             "report" => self.report(rt, words),
             "resend" => self.resend(rt, words),
             "ends" => self.ends(rt),
+            "pass" => self.pass(rt, words),
             "copy" => {
                 self.talk = self.talk.copy()?;
                 Ok(())
@@ -84,6 +85,17 @@ impl Talking {
         let now = time(words, 2).unwrap_or(0);
         let sent = self.talk.report(subscription, payloads, now)?;
         print_sent(rt, &sent)
+    }
+
+    // So many reports, one after the other, of which each is let go.
+    fn pass(&mut self, rt: &HostRuntime, words: &[&str]) -> io::Result<()> {
+        for _ in 0..number(words, 1).unwrap_or(0) {
+            let payloads = payloads(rt.alloc(), words, 3)?;
+            let now = time(words, 2).unwrap_or(0);
+            self.talk.report(1, payloads, now)?;
+            self.talk.drop_all();
+        }
+        Ok(())
     }
 
     fn resend(&mut self, rt: &HostRuntime, words: &[&str]) -> io::Result<()> {
