@@ -18,13 +18,10 @@ use mt_meta::clusters::network_commissioning::{
     LAST_NETWORKING_STATUS, NETWORK_CONFIG_RESPONSE, REMOVE_NETWORK, REORDER_NETWORK,
 };
 use mt_meta::{given_number, number_of, octets_of};
-use mt_model::limits::{NETWORK_ID_BYTES, NETWORKS};
+use mt_model::limits::{NETWORK_ID_BYTES, NETWORK_SECRET_BYTES, NETWORKS};
 use mt_model::{Actor, Armed, Effect, Network, NodeStep, Place, Roots, Status, Steps, View};
 use mt_tlv::{Bytes, Tag, Value};
 use std::alloc::{AllocError, Global};
-
-// The most bytes of a network's secret.
-const SECRET_BYTES: usize = 64;
 
 /// What a command comes to, where these networks are within reach.
 pub(crate) fn network_commissioning_effect(
@@ -156,7 +153,7 @@ fn reorder_network(
 fn putting(networks: &[Network], id: &[u8], secret: &[u8]) -> Result<u64, NetworkStatus>
     ensures { result ≡ putting (map bare_network networks.now) id.now secret.now }
 {
-    if !is_id(id) || SECRET_BYTES < secret.len() {
+    if !is_id(id) || NETWORK_SECRET_BYTES < secret.len() {
         return Err(NetworkStatus::OutOfRange);
     }
     put_place(networks.len(), place_among(networks, id))

@@ -1,4 +1,3 @@
 pub mod Items
 pub mod Objects
 pub mod Tables
-pub mod Walks

@@ -1,10 +1,10 @@
 -- Reading fabrics and their entries one after the other, as a loop does.
-use Rattle.std.proofs.Common.{◌≡◌, ℕ, ◌+◌, ◌<◌, List, [], ◌∷◌, ◌++◌, length, drop, get_or, Option, Some, None, option_map, refl, sym, ◌∙◌, append_assoc}
+use Rattle.std.proofs.Common.{◌≡◌, ℕ, ◌+◌, ◌<◌, List, [], ◌∷◌, ◌++◌, length, drop, get_or, Option, Some, None, option_map, refl, sym, ap, ◌∙◌, append_assoc}
+use Rattle.std.proofs.lemmas.List.{drop_more}
 use Rattle.serde_json.specs.View.{view, items_view}
 use Rattle.serde_json.specs.declared.value.Value.{Value}
 use Rattle.mt_model.specs.declared.tables.access.AclEntry.{AclEntry}
 use Rattle.mt_model.specs.declared.tables.fabric.Fabric.{Fabric}
-use Rattle.mt_config.proofs.Walks.{drop_at}
 use Rattle.mt_config.specs.Gives.{Fails}
 use Rattle.mt_config.specs.Json.{◌>>=◌}
 use Rattle.mt_config.specs.Lists.{table_from}
@@ -12,6 +12,9 @@ use Rattle.mt_config.specs.Rows.{entries_of, fabric_of}
 use Rattle.mt_config.specs.declared.json.Unread.{Unread}
 use Rattle.mt_config.specs.declared.json.Unread.TheVariants.{Misformed, Memory}
 use Rattle.mt_config.specs.declared.lists.Table.{Table}
+
+drop_at : {X : Type 0} (xs : List X) (i : ℕ) (x : X) → i < length xs → x ≡ get_or xs i x → drop i xs ≡ x ∷ drop (i + 1) xs
+drop_at xs i x lt is = drop_more xs i x lt ∙ ap (λ y. y ∷ drop (i + 1) xs) (sym is)
 
 -- what was read before, and what is still read
 abbrev pub with_fronts : List Fabric → List AclEntry → Option Table → Option Table

@@ -3,7 +3,6 @@
 //! - `configuration`: a configuration read from its text, and what is wrong with one;
 //! - `lists`: its lists;
 //! - `rows`: their rows, field by field;
-//! - `rules`: the rules on configurations, as tests;
 //! - `json`: single values, fields and lists in JSON.
 #![tactic(auto)]
 
@@ -11,6 +10,5 @@ mod configuration;
 mod json;
 mod lists;
 mod rows;
-mod rules;
 
 pub use configuration::{ConfigFault, ConfigField, config};

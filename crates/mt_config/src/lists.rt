@@ -10,11 +10,11 @@ ghost use Rattle.mt_config.specs.Lists.{fabrics, is_table, table_of, table_from,
 use crate::configuration::{ConfigFault, ConfigField};
 use crate::json::{Unread, items, list};
 use crate::rows::{entries, fabric};
-use crate::rules::{
-    are_csrs, are_entries, are_fabrics, are_joins, are_network_ids, are_roots, are_sessions,
-};
 use mt_model::limits::{FABRICS, NETWORKS, SESSIONS, VERDICTS};
 use mt_model::{AclEntries, CsrRows, Fabrics, JoinRows, Listed, RootRows, SessionRows, Ssids};
+use mt_rules::{
+    are_csrs, are_entries, are_fabrics, are_joins, are_network_ids, are_roots, are_sessions,
+};
 use serde_json::Value;
 use std::alloc::Global;
 

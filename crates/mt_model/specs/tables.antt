@@ -1,4 +1,5 @@
 pub mod Access
 pub mod Entries
+pub mod Holding
 pub mod Known
 pub mod Leaving

@@ -114,6 +114,9 @@ pub const SIGNATURE_BYTES: usize = 64;
 /// The most bytes of a network's id.
 pub const NETWORK_ID_BYTES: usize = 32;
 
+/// The most bytes of a network's secret.
+pub const NETWORK_SECRET_BYTES: usize = 64;
+
 /// The greatest group id; the least is 1.
 pub const LAST_GROUP: u64 = 65_535;
 

@@ -10,7 +10,8 @@ ghost use Rattle.mt_model.specs.declared.rows.place.Row.{Row};
 ghost use Rattle.mt_model.specs.declared.tables.access.AclEntry.{AclEntry};
 ghost use Rattle.mt_model.specs.declared.tables.fabric.Fabric.{Fabric};
 ghost use Rattle.mt_machine.specs.Rollback.{breadcrumb, ends, rollback, roots_behind, session_behind, undone, without_breadcrumb};
-ghost use Rattle.mt_machine.specs.State.{IsValid, is_root_of};
+ghost use Rattle.mt_machine.specs.State.{IsValid};
+ghost use Rattle.mt_model.specs.tables.Holding.{is_root_of};
 ghost use Rattle.mt_steps.specs.Expired.{given_by};
 
 use crate::values::set_row;

@@ -1,7 +1,6 @@
 pub mod Elements
 pub mod EachIn
 pub mod KeptEach
-pub mod Ends
 pub mod OwnValues
 pub mod Denied
 pub mod Steps

@@ -3,6 +3,7 @@
 ghost use Rattle.std.specs.Prelude.{◌≡◌, ◌↔◌, ◌==◌, not, nat_lt, filter, IsTrue};
 ghost use Rattle.mt_model.specs.declared.tables.access.AclEntry.{AclEntry};
 ghost use Rattle.mt_model.specs.tables.Access.{includes};
+ghost use Rattle.mt_model.specs.tables.Entries.{mode_numbered, privilege_numbered};
 ghost use Rattle.mt_model.specs.texts.Config.{ascend_from};
 
 use crate::listed::{ExactCopy, Listed};
@@ -33,6 +34,20 @@ impl Privilege {
             Privilege::Administer => true,
         }
     }
+
+    /// The privilege that an entry has this number for.
+    pub fn numbered(number: u64) -> Option<Privilege>
+        ensures { result ≡ privilege_numbered number }
+    {
+        match number {
+            1 => Some(Privilege::View),
+            2 => Some(Privilege::ProxyView),
+            3 => Some(Privilege::Operate),
+            4 => Some(Privilege::Manage),
+            5 => Some(Privilege::Administer),
+            _ => None,
+        }
+    }
 }
 
 /// How a session's peer has proved who it is. Each has the number that an entry of the access
@@ -42,6 +57,20 @@ pub enum Auth {
     Pase = 1,
     Case = 2,
     Group = 3,
+}
+
+impl Auth {
+    /// How a peer has proved who it is where an entry has this number.
+    pub fn numbered(number: u64) -> Option<Auth>
+        ensures { result ≡ mode_numbered number }
+    {
+        match number {
+            1 => Some(Auth::Pase),
+            2 => Some(Auth::Case),
+            3 => Some(Auth::Group),
+            _ => None,
+        }
+    }
 }
 
 /// Who asks: a node of a fabric, or whoever commissions the node (fabric 0).
