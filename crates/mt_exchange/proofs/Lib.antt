@@ -1,4 +1,5 @@
 pub mod Answered
+pub mod Keeping
 pub mod Keys
 pub mod Places
 pub mod Received

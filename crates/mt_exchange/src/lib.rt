@@ -6,6 +6,7 @@
 //! - `lists`: what is handed out in lists;
 //! - `turn`: what a message is;
 //! - `payloads`: what a message of the interaction model says of its exchange;
+//! - `ordered`: exchanges in an order, in a slab;
 //! - `table`: the open exchanges, by rising key;
 //! - `exchanges`: the exchanges of a session;
 //! - `receiving`, `sending`, `resending`: its calls.
@@ -14,6 +15,7 @@
 mod exchange;
 mod exchanges;
 mod lists;
+mod ordered;
 mod payloads;
 mod receiving;
 mod resending;

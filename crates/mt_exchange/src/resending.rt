@@ -27,9 +27,9 @@ impl Exchanges {
             → OnOk result (IsRunOf self.new row (happenings ++ resend_step now ∷ [])) }
         ensures kept { OnErr result (self.new ≡ self.old) }
     {
-        let datagrams = due_again(self.alloc, self.table.as_slice(), now)?;
-        let ends = ended(self.alloc, self.table.as_slice(), now)?;
-        let table = resent(self.alloc, self.table.as_slice(), now)?;
+        let datagrams = due_again(self.alloc, &self.table, now)?;
+        let ends = ended(self.alloc, &self.table, now)?;
+        let table = resent(self.alloc, &self.table, now)?;
         self.table = table;
         Ok((datagrams, ends))
     }
@@ -40,7 +40,7 @@ impl Exchanges {
         ensures { (row : SessionRow) (happenings : List Happening) → IsRunOf self.now row happenings
             → IfOk result (λ times. times ≡ end_times_of (run row happenings).open_ones) }
     {
-        end_times(self.alloc, self.table.as_slice())
+        end_times(self.alloc, &self.table)
     }
 }
 
@@ -77,11 +77,12 @@ fn closes(now: u64, x: &Exchange) -> bool
 }
 
 // What a resend step sends.
-fn due_again(alloc: Global, exchanges: &[Exchange], now: u64) -> Result<Datagrams, AllocError>
-    ensures { IfOk result (λ datagrams. datagrams ≡ due_again_of now exchanges.now) }
+fn due_again(alloc: Global, table: &Table, now: u64) -> Result<Datagrams, AllocError>
+    ensures { IfOk result (λ datagrams. datagrams ≡ due_again_of now table.now) }
 {
     let mut datagrams = Vec::new(alloc);
-    for x in exchanges {
+    for at in 0..table.len() {
+        let x = table.at(at);
         if !closes(now, x) {
             push_due(&mut datagrams, x.owed.as_slice(), now)?;
         }
@@ -101,12 +102,12 @@ fn push_due(datagrams: &mut Vec<mt_tlv::Bytes>, owed: &[Owed], now: u64) -> Resu
 }
 
 // The subscriptions of the exchanges that a resend step closes.
-fn ended(alloc: Global, exchanges: &[Exchange], now: u64) -> Result<Ends, AllocError>
-    ensures { IfOk result (λ ends. ends ≡ ended_by now exchanges.now) }
+fn ended(alloc: Global, table: &Table, now: u64) -> Result<Ends, AllocError>
+    ensures { IfOk result (λ ends. ends ≡ ended_by now table.now) }
 {
     let mut ends = Vec::new(alloc);
-    for x in exchanges {
-        push_ended(&mut ends, x, now)?;
+    for at in 0..table.len() {
+        push_ended(&mut ends, table.at(at), now)?;
     }
     Ok(Ends::from_vec(ends))
 }
@@ -126,16 +127,17 @@ fn push_ended(ends: &mut Vec<u32>, x: &Exchange, now: u64) -> Result<(), AllocEr
 }
 
 // The open exchanges behind a resend step.
-fn resent(alloc: Global, exchanges: &[Exchange], now: u64) -> Result<Table, AllocError>
-    ensures { IfOk result (λ new. new ≡ resent_at now exchanges.now) }
+fn resent(alloc: Global, table: &Table, now: u64) -> Result<Table, AllocError>
+    ensures { IfOk result (λ new. new ≡ resent_at now table.now) }
 {
-    let mut all = Vec::new(alloc);
-    for x in exchanges {
+    let mut all = Table::new(alloc);
+    for at in 0..table.len() {
+        let x = table.at(at);
         if !closes(now, x) {
             all.push(sent_again(alloc, now, x)?)?;
         }
     }
-    Ok(Table::from_vec(all))
+    Ok(all)
 }
 
 // An exchange that stays open behind a resend step.
@@ -172,12 +174,12 @@ fn once_more(now: u64, o: Owed) -> Owed
 }
 
 // From when on the exchanges of subscriptions close.
-fn end_times(alloc: Global, exchanges: &[Exchange]) -> Result<EndTimes, AllocError>
-    ensures { IfOk result (λ times. times ≡ end_times_of exchanges.now) }
+fn end_times(alloc: Global, table: &Table) -> Result<EndTimes, AllocError>
+    ensures { IfOk result (λ times. times ≡ end_times_of table.now) }
 {
     let mut times = Vec::new(alloc);
-    for x in exchanges {
-        push_end(&mut times, x)?;
+    for at in 0..table.len() {
+        push_end(&mut times, table.at(at))?;
     }
     Ok(EndTimes::from_vec(times))
 }

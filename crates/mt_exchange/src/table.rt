@@ -1,20 +1,21 @@
 //! The open exchanges of a session, by rising key.
 
-ghost use Rattle.std.specs.Prelude.{◌≡◌, [], true, OnOk};
+ghost use Rattle.std.specs.Prelude.{◌≡◌, ◌<◌, ◌++◌, ◌∷◌, [], true, OnOk, length, slice_index_or};
 ghost use Rattle.mt_exchange.specs.declared.exchange.Exchange.{Exchange};
 ghost use Rattle.mt_exchange.specs.Opened.{count_of_peer as peer_count, exchange_at, is_open, put as put_among};
 ghost use Rattle.mt_exchange.specs.Places.{IsSpot};
 
 use crate::exchange::{Exchange, Key};
+use crate::ordered::Ordered;
 use mt_model::ExactCopy;
 use std::alloc::{AllocError, Global};
 use std::marker::Model;
-use std::mem::replace;
 
 /// The open exchanges, by rising key. Contracts see the list of them.
 #[derive(Drop)]
 pub struct Table {
-    items: Vec<Exchange>,
+    alloc: Global,
+    exchanges: Ordered,
 }
 
 impl Model for Table {
@@ -23,7 +24,7 @@ impl Model for Table {
 
     ghost Value = { List Exchange };
 
-    ghost view = { λ t. t.items.items };
+    ghost view = { λ t. t.exchanges };
 }
 
 impl Table {
@@ -32,29 +33,44 @@ impl Table {
         ensures { result ≡ [] }
     {
         Table {
-            items: Vec::new(alloc),
+            alloc,
+            exchanges: Ordered::new(alloc),
         }
     }
 
-    /// The table of these exchanges, in their memory.
-    pub fn from_vec(items: Vec<Exchange>) -> Table
-        ensures { result ≡ items.items }
+    /// How many are open.
+    pub fn len(&self) -> usize
+        ensures { result ≡ length self.now }
     {
-        Table { items }
+        self.exchanges.len()
     }
 
-    /// The exchanges, lent.
-    pub fn as_slice(&self) -> &[Exchange]
-        ensures { result.now ≡ self.now }
+    /// The exchange at a place, lent.
+    pub fn at(&self, index: usize) -> &Exchange
+        requires { index < length self.now }
+        ensures { result.now ≡ slice_index_or self.now index result.now }
     {
-        self.items.as_slice()
+        self.exchanges.at(index)
+    }
+
+    /// Adds an exchange, whose key is above those of all others.
+    pub fn push(&mut self, x: Exchange) -> Result<(), AllocError>
+        ensures { OnOk result (self.new ≡ self.old ++ x ∷ []) }
+    {
+        self.exchanges.insert(self.exchanges.len(), x)
     }
 
     /// How many of them the peer began.
     pub fn count_of_peer(&self) -> usize
         ensures { result ≡ peer_count self.now }
     {
-        self.items.iter().filter(|x| !x.key.ours).count()
+        let mut count = 0;
+        for at in 0..self.exchanges.len() {
+            if !self.exchanges.at(at).key.ours {
+                count += 1;
+            }
+        }
+        count
     }
 
     /// Takes out what there is of an exchange. Nothing of it is left in its place.
@@ -62,10 +78,9 @@ impl Table {
         ensures taken { result ≡ exchange_at key self.old }
         ensures rest { (x : Exchange) → x.key ≡ key → put_among x self.new ≡ put_among x self.old }
     {
-        let alloc = *self.items.allocator();
-        let nothing = Exchange::nothing(alloc, key);
-        match find_spot(&self.items, key) {
-            Spot::At(at) => replace(&mut self.items[at], nothing),
+        let nothing = Exchange::nothing(self.alloc, key);
+        match find_spot(&self.exchanges, key) {
+            Spot::At(at) => self.exchanges.replace(at, nothing),
             Spot::Before(_) => nothing,
         }
     }
@@ -78,9 +93,9 @@ impl Table {
         if x.is_open() {
             return self.put_open(x);
         }
-        match find_spot(&self.items, x.key) {
+        match find_spot(&self.exchanges, x.key) {
             Spot::At(at) => {
-                self.items.remove(at);
+                self.exchanges.remove(at);
                 Ok(())
             }
             Spot::Before(_) => Ok(()),
@@ -92,15 +107,12 @@ impl Table {
         requires { is_open x ≡ true }
         ensures { OnOk result (self.new ≡ put_among x self.old) }
     {
-        match find_spot(&self.items, x.key) {
+        match find_spot(&self.exchanges, x.key) {
             Spot::At(at) => {
-                self.items[at] = x;
+                self.exchanges.replace(at, x);
                 Ok(())
             }
-            Spot::Before(at) => {
-                self.items.insert(at, x)?;
-                Ok(())
-            }
+            Spot::Before(at) => self.exchanges.insert(at, x),
         }
     }
 
@@ -108,8 +120,8 @@ impl Table {
     pub fn is_there(&self, key: Key) -> bool
         ensures { result ≡ is_open (exchange_at key self.now) }
     {
-        match find_spot(&self.items, key) {
-            Spot::At(at) => self.items[at].is_open(),
+        match find_spot(&self.exchanges, key) {
+            Spot::At(at) => self.exchanges.at(at).is_open(),
             Spot::Before(_) => false,
         }
     }
@@ -125,12 +137,12 @@ pub enum Spot {
 }
 
 // Where the exchange with a key stands.
-fn find_spot(items: &[Exchange], key: Key) -> Spot
-    ensures { IsSpot key items.now result }
+fn find_spot(exchanges: &Ordered, key: Key) -> Spot
+    ensures { IsSpot key exchanges.now result }
 {
     let rank = key.rank();
-    for at in 0..items.len() {
-        let here = items[at].key.rank();
+    for at in 0..exchanges.len() {
+        let here = exchanges.at(at).key.rank();
         if here == rank {
             return Spot::At(at);
         }
@@ -138,15 +150,15 @@ fn find_spot(items: &[Exchange], key: Key) -> Spot
             return Spot::Before(at);
         }
     }
-    Spot::Before(items.len())
+    Spot::Before(exchanges.len())
 }
 
 impl ExactCopy for Table {
     fn copy(&self) -> Result<Table, AllocError> {
-        let mut items = Vec::with_capacity(*self.items.allocator(), self.items.len())?;
-        for x in &self.items {
-            items.push(x.copy()?)?;
+        let mut copy = Table::new(self.alloc);
+        for at in 0..self.len() {
+            copy.push(self.at(at).copy()?)?;
         }
-        Ok(Table { items })
+        Ok(copy)
     }
 }

@@ -8,7 +8,7 @@ use mt_frame::ProtocolHeader;
 use mt_model::opcode::READ_REQUEST;
 use mt_model::{Auth, Event, SessionRow};
 use mt_outside::Peer;
-use mt_session::Session;
+use mt_session::{SealFault, Session};
 use mt_tlv::Bytes;
 use std::alloc::{AllocError, Global};
 use std::io;
@@ -141,9 +141,7 @@ fn push_line(
         acknowledged: acknowledged(controller.asked),
     };
     controller.asked = controller.asked.saturating_add(1);
-    let Ok(bytes) = controller.session.seal(&header, payload) else {
-        return Ok(());
-    };
+    let bytes = controller.session.seal(&header, payload).map_err(unsealed)?;
     let event = Event::Datagram {
         ms,
         peer: Peer {
@@ -154,6 +152,15 @@ fn push_line(
     };
     write_event(&event, text)?;
     Ok(())
+}
+
+// What the program ends with where a request can't be sealed.
+fn unsealed(fault: SealFault) -> io::Error {
+    match fault {
+        SealFault::Exhausted => io::Error::other("a peer has no counter left for its next request"),
+        SealFault::TooLong => io::Error::other("a request is too long for a datagram"),
+        SealFault::Memory => io::Error::from(io::ErrorKind::OutOfMemory),
+    }
 }
 
 // The counter of the latest answer, where something was asked.

@@ -3,5 +3,5 @@ use Rattle.std.proofs.Common.{◌≡◌, ◌++◌, drop}
 use Rattle.mt_exchange.specs.Resending.{due_again}
 use Rattle.mt_exchange.proofs.resending.due_again.Given as goal
 
-abbrev pub invariant-loop-x : goal.invariant-loop-x
-invariant-loop-x l = l.datagrams.items ++ due_again l.now (drop l.x-index l.exchanges) ≡ due_again l.now l.exchanges
+abbrev pub invariant-loop-at : goal.invariant-loop-at
+invariant-loop-at l = l.datagrams.items ++ due_again l.now (drop l.at l.table) ≡ due_again l.now l.table

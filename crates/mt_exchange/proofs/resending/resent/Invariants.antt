@@ -3,5 +3,5 @@ use Rattle.std.proofs.Common.{◌≡◌, ◌++◌, drop}
 use Rattle.mt_exchange.specs.Resending.{resent}
 use Rattle.mt_exchange.proofs.resending.resent.Given as goal
 
-abbrev pub invariant-loop-x : goal.invariant-loop-x
-invariant-loop-x l = l.all.items ++ resent l.now (drop l.x-index l.exchanges) ≡ resent l.now l.exchanges
+abbrev pub invariant-loop-at : goal.invariant-loop-at
+invariant-loop-at l = l.all ++ resent l.now (drop l.at l.table) ≡ resent l.now l.table

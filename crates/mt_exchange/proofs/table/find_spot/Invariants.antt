@@ -5,4 +5,4 @@ use Rattle.mt_exchange.specs.Opened.{rank}
 use Rattle.mt_exchange.proofs.table.find_spot.Given as goal
 
 abbrev pub invariant-loop-at : goal.invariant-loop-at
-invariant-loop-at l = (k : ℕ) (d : Exchange) → k < l.at → rank (get_or l.items k d).key < rank l.fn.key
+invariant-loop-at l = (k : ℕ) (d : Exchange) → k < l.at → rank (get_or l.exchanges k d).key < rank l.fn.key

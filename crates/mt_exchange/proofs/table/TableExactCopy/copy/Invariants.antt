@@ -1,5 +1,6 @@
+-- the first of the exchanges
 use Rattle.std.proofs.Common.{◌≡◌, take}
 use Rattle.mt_exchange.proofs.table.TableExactCopy.copy.Given as goal
 
-abbrev pub invariant-loop-x : goal.invariant-loop-x
-invariant-loop-x l = l.items.items ≡ take l.x-index l.x-items
+abbrev pub invariant-loop-at : goal.invariant-loop-at
+invariant-loop-at l = l.copy ≡ take l.at l.self
