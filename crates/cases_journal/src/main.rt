@@ -2,7 +2,7 @@
 //! case of the disk in memory, and what must be printed for it is worked out outside of the program. A case is
 //! the bytes of a file in hex, `-` for none, and then what is done, a word each:
 //!
-//! - `s16..18`: an image; `a17..18`: a change, where it fits; `b60000`: a change of so many bytes, where it fits;
+//! - `s16..18`: an image; `a17..18`: a change that may follow each list, where it fits; `b60000`: a change of so many bytes, where it fits;
 //! - `x3kept`, `x3lost`, `x3torn`: the disk stops at that one of the writes and syncs to come, with this fate;
 //! - `r`: the disk is restarted if it has stopped, and the journal recovered;
 //! - `w1020102=5a17`: these bytes are written into the file at this place, and are safe;

@@ -1,5 +1,5 @@
 -- What a commit makes of the map of a keeper. Where a keeper cannot tell its map, nothing is said of it.
-use Rattle.std.specs.Prelude.{◌≡◌, ◌≤◌, ◌⊎◌, ℕ, List, length, Option, Some, None, ⊤}
+use Rattle.std.specs.Prelude.{◌≡◌, ◌≤◌, ◌⊎◌, ℕ, Bool, List, length, Option, Some, None, IsTrue, ⊤}
 use Rattle.mt_durable.specs.Changes.{change_bytes}
 use Rattle.mt_durable.specs.Maps.{Merged}
 use Rattle.mt_durable.specs.Reading.{Says}
@@ -24,6 +24,11 @@ HasRoom bytes (Some before) = (after : List Entry) → LeadsTo bytes before afte
 abbrev pub Committed : List ℕ → Option (List Entry) → Option (List Entry) → Type 0
 Committed bytes None now = ⊤
 Committed bytes (Some before) now = (after : List Entry) × LeadsTo bytes before after × (now ≡ Some after)
+
+-- the map after the change is one that a rule admits
+abbrev pub IsAdmitted : (List Entry → Bool) → List ℕ → Option (List Entry) → Type 0
+IsAdmitted admits bytes None = ⊤
+IsAdmitted admits bytes (Some before) = (after : List Entry) → LeadsTo bytes before after → IsTrue (admits after)
 
 abbrev pub WasOrCommitted : List ℕ → Option (List Entry) → Option (List Entry) → Type 0
 WasOrCommitted bytes before now = (now ≡ before) ⊎ Committed bytes before now

@@ -1,7 +1,7 @@
 //! What keeps durable state, change by change.
 
 ghost use Rattle.std.specs.Prelude.{◌≡◌, ◌≤◌, Bool, List, ℕ, Option, false, is_err, length, IsErr, IsTrue, OnErr, OnOk};
-ghost use Rattle.mt_durable.specs.Keeping.{Committed, HasRoom, IsChange, WasOrCommitted};
+ghost use Rattle.mt_durable.specs.Keeping.{Committed, HasRoom, IsAdmitted, IsChange, WasOrCommitted};
 ghost use Rattle.mt_durable.specs.declared.durable.Entry.{Entry};
 ghost use Rattle.mt_outside.specs.Stream.{HasCause};
 
@@ -12,17 +12,22 @@ pub trait Keeper {
     /// The entries of the map to which its commits have led, where it can tell.
     ghost map: { Self → Option (List Entry) };
 
+    /// Which maps may stand: the rule of what it keeps.
+    ghost admits: { List Entry → Bool };
+
     /// Whether a commit has failed. Then each further one fails, until the keeper is made again.
     ghost failed: { Self → Bool };
 
     /// How many calls have failed, up to 2^64 - 1.
     ghost faults: { Self → ℕ };
 
-    /// Commits a change: the bytes of one, as `write_change` writes them. After `Failed` the map is the one
-    /// with the change or the one without it, and the keeper commits no more.
+    /// Commits a change: the bytes of one, as `write_change` writes them, that leads to a map that may stand.
+    /// After `Failed` the map is the one with the change or the one without it, and the keeper commits no
+    /// more.
     fn commit(&mut self, change: &[u8]) -> Result<(), Failed>
         requires form { IsChange change.now }
         requires room { HasRoom change.now (map self.old) }
+        requires admitted { IsAdmitted admits change.now (map self.old) }
         ensures committed { OnOk result (Committed change.now (map self.old) (map self.new)) }
         ensures part { OnErr result (WasOrCommitted change.now (map self.old) (map self.new)) }
         ensures failed { failed self.new ≡ is_err result }

@@ -6,7 +6,7 @@
 //! - `change`: a change as bytes, `reading`: a change from its bytes;
 //! - `image`: a change merged into an image as bytes, in no memory, `length`: how many bytes an element takes;
 //! - `keeper`: what keeps the map, `list_keeper`: a form of it in memory, some of whose calls fail, `room`: whether one
-//!   has room for a change;
+//!   has room for a change, `rule`: which maps may stand;
 //! - `laws`: what holds of maps and changes, whatever they are.
 #![tactic(auto)]
 
@@ -20,6 +20,7 @@ mod length;
 mod list_keeper;
 mod reading;
 mod room;
+mod rule;
 
 pub use change::{write_change, write_image};
 pub use durable::{Change, Durable, Entry};
@@ -30,6 +31,7 @@ pub use laws::{changes_lead_on, maps_have_images};
 pub use list_keeper::ListKeeper;
 pub use reading::{ChangeFault, bytes_of_a_change_are_read, read_change};
 pub use room::has_room;
+pub use rule::{Rule, is_admitted};
 
 #[cfg(test)]
 mod tests;

@@ -1,8 +1,8 @@
 //! A keeper in memory, some of whose calls fail: for tests, and for runs that keep nothing.
 
 ghost use Rattle.std.specs.Prelude.{◌≡◌, ◌≤◌, ◌↔◌, ◌⊎◌, Some, false, is_err, length, Contains, IfOk, IsErr, IsTrue, OnErr, OnOk};
-ghost use Rattle.mt_durable.specs.Keepers.{ListKeeperState, new_keeper};
-ghost use Rattle.mt_durable.specs.Keeping.{Committed, HasRoom, IsChange, LeadsTo, WasOrCommitted};
+ghost use Rattle.mt_durable.specs.Keepers.{ListKeeperState, any_map, new_keeper};
+ghost use Rattle.mt_durable.specs.Keeping.{Committed, HasRoom, IsAdmitted, IsChange, LeadsTo, WasOrCommitted};
 ghost use Rattle.mt_outside.specs.Stream.{HasCause, one_more};
 
 use crate::durable::Durable;
@@ -91,6 +91,8 @@ impl ListKeeper {
 impl Keeper for ListKeeper {
     ghost map = { λ keeper. Some keeper.map };
 
+    ghost admits = { any_map };
+
     ghost failed = { λ keeper. keeper.failed };
 
     ghost faults = { λ keeper. keeper.faults };
@@ -99,6 +101,7 @@ impl Keeper for ListKeeper {
     fn commit(&mut self, change: &[u8]) -> Result<(), Failed>
         requires form { IsChange change.now }
         requires room { HasRoom change.now (Some self.old.map) }
+        requires admitted { IsAdmitted any_map change.now (Some self.old.map) }
         ensures committed { OnOk result (Committed change.now (Some self.old.map) (Some self.new.map)) }
         ensures part { OnErr result (WasOrCommitted change.now (Some self.old.map) (Some self.new.map)) }
         ensures failed { self.new.failed ≡ is_err result }

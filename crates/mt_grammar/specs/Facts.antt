@@ -4,7 +4,8 @@ use Rattle.std.specs.Prelude.{ℕ, ◌==◌, ◌&&◌, ◌||◌, not, nat_le, by
 use Rattle.std.specs.List.{list_all, list_any}
 use Rattle.mt_fabrics.specs.Table.{is_used}
 use Rattle.mt_failsafe.specs.Facts.{is_added_to, is_updated_in}
-use Rattle.mt_model.specs.texts.Config.{are_credentials, has_identity, has_up_to, have_one_identity, have_one_label, is_certificate, is_entry, is_fabric, is_of, none_alike}
+use Rattle.mt_model.specs.tables.Holding.{have_one_id, is_network, is_owned, is_root_of, saves_identity}
+use Rattle.mt_model.specs.texts.Config.{are_credentials, have_one_identity, have_one_label, is_certificate, is_entry, is_fabric, is_of, none_alike}
 use Rattle.mt_model.specs.declared.rows.place.Row.{Row}
 use Rattle.mt_model.specs.declared.tables.access.AclEntry.{AclEntry}
 use Rattle.mt_model.specs.declared.tables.fabric.Credentials.{Credentials}
@@ -32,9 +33,6 @@ are_rows fabrics rows = list_all (is_row_of fabrics) rows
 
 -- Entries: they are valid, of fabrics of the table, and at most 4 of each.
 
-abbrev pub is_owned : List Fabric → AclEntry → Bool
-is_owned fabrics entry = list_any (λ fabric. is_of fabric entry) fabrics
-
 abbrev pub has_few_entries : List AclEntry → Fabric → Bool
 has_few_entries entries fabric = nat_le (count_by (is_of fabric) entries) 4
 
@@ -42,9 +40,6 @@ abbrev pub are_entries : List Fabric → List AclEntry → Bool
 are_entries fabrics entries = list_all is_entry entries && (list_all (is_owned fabrics) entries && list_all (has_few_entries entries) fabrics)
 
 -- Roots: each stands once, and is used by a fabric, or by commissioning, which has been given one at most.
-
-abbrev pub is_root_of : List ℕ → Fabric → Bool
-is_root_of root fabric = bytes_eq fabric.credentials.root root
 
 abbrev pub is_idle : List Fabric → List ℕ → Bool
 is_idle fabrics root = not (list_any (is_root_of root) fabrics)
@@ -59,25 +54,12 @@ are_roots fabrics armed roots = list_all is_certificate roots
 
 -- Networks: at most 4, whose ids differ.
 
-abbrev pub is_network : Network → Bool
-is_network network = has_up_to 32 network.id && nat_le (length network.secret) 64
-
-abbrev pub have_one_id : Network → Network → Bool
-have_one_id a b = bytes_eq a.id b.id
-
 unfoldable pub are_networks : List Network → Bool
 are_networks networks = nat_le (length networks) 4
     && (list_all is_network networks && none_alike have_one_id networks)
 
 -- The fail-safe: what was added is in the table; credentials are saved exactly where there was an update, with the identity of the
 -- fabric that was updated, which is there, and of their form; and saved networks are such as networks are.
-
-abbrev pub is_fabric_with : ℕ → Credentials → Fabric → Bool
-is_fabric_with index saved fabric = (fabric.index == index) && has_identity saved.root_key saved.fabric_id fabric
-
-abbrev pub saves_identity : List Fabric → ℕ → Option Credentials → Bool
-saves_identity fabrics index None = false
-saves_identity fabrics index (Some saved) = list_any (is_fabric_with index saved) fabrics
 
 abbrev pub is_added : List Fabric → Armed → Bool
 is_added fabrics armed = is_added_to (λ index. is_used index fabrics) armed armed.added

@@ -95,37 +95,13 @@ fn entry_of(
 fn privilege_at(members: &[(Tag, Value)]) -> Option<Privilege>
     ensures { result ≡ option_and_then privilege_numbered (option_and_then unsigned_in (field_in 1 (elements members.now))) }
 {
-    privilege_numbered(unsigned_at(members, PRIVILEGE)?)
+    Privilege::numbered(unsigned_at(members, PRIVILEGE)?)
 }
 
 fn mode_at(members: &[(Tag, Value)]) -> Option<Auth>
     ensures { result ≡ option_and_then mode_numbered (option_and_then unsigned_in (field_in 2 (elements members.now))) }
 {
-    mode_numbered(unsigned_at(members, AUTH_MODE)?)
-}
-
-fn privilege_numbered(number: u64) -> Option<Privilege>
-    ensures { result ≡ privilege_numbered number }
-{
-    match number {
-        1 => Some(Privilege::View),
-        2 => Some(Privilege::ProxyView),
-        3 => Some(Privilege::Operate),
-        4 => Some(Privilege::Manage),
-        5 => Some(Privilege::Administer),
-        _ => None,
-    }
-}
-
-fn mode_numbered(number: u64) -> Option<Auth>
-    ensures { result ≡ mode_numbered number }
-{
-    match number {
-        1 => Some(Auth::Pase),
-        2 => Some(Auth::Case),
-        3 => Some(Auth::Group),
-        _ => None,
-    }
+    Auth::numbered(unsigned_at(members, AUTH_MODE)?)
 }
 
 fn subjects_at(alloc: Global, members: &[(Tag, Value)]) -> Result<Option<Subjects>, AllocError>

@@ -4,19 +4,18 @@ ghost use Rattle.std.specs.Prelude.{◌≡◌, Some, bytes_eq, count_by};
 ghost use Rattle.std.specs.List.{list_all, list_any};
 ghost use Rattle.mt_fabrics.specs.Table.{is_used};
 ghost use Rattle.mt_failsafe.specs.Facts.{is_updated_in};
-ghost use Rattle.mt_model.specs.texts.Config.{are_credentials, has_up_to, have_one_identity, have_one_label, is_certificate, is_entry, is_fabric, is_intermediate, is_label, is_of, none_alike};
-ghost use Rattle.mt_grammar.specs.Facts.{are_entries, are_fabrics, are_networks, are_roots, are_rows, are_saved, commissioning_facts, fabric_facts, facts_hold, has_few_entries, has_numbers, have_one_id, is_added, is_fabric_with, is_failsafe, is_idle, is_network, is_owned, is_root_of, is_row_of, is_updated, most_idle, saves_identity};
+ghost use Rattle.mt_model.specs.texts.Config.{is_certificate, none_alike};
+ghost use Rattle.mt_grammar.specs.Facts.{are_entries, are_fabrics, are_networks, are_roots, are_rows, are_saved, commissioning_facts, fabric_facts, facts_hold, has_numbers, is_added, is_failsafe, is_idle, is_row_of, is_updated, most_idle};
+ghost use Rattle.mt_model.specs.tables.Holding.{have_one_id, is_fabric_with, is_network, is_root_of, saves_identity};
 
 use crate::kept::Kept;
-use mt_acl::valid;
-use mt_model::limits::{
-    CERTIFICATE_BYTES, ENTRIES, IPK_BYTES, LABEL_BYTES, NETWORK_ID_BYTES, NETWORKS, ROOT_KEY_BYTES,
+use mt_model::limits::{NETWORK_ID_BYTES, NETWORK_SECRET_BYTES, NETWORKS};
+use mt_model::{AclEntry, Armed, Credentials, Fabric, Network, Row};
+use mt_rules::{
+    are_all_entries, are_all_fabrics, are_all_owned, are_credentials, are_equal, are_few,
+    has_up_to, identities_differ, is_certificate, labels_differ,
 };
-use mt_model::{AclEntry, Armed, Credentials, Fabric, Network, Row, is_operational, is_utf8};
 use mt_tlv::Bytes;
-
-// The most bytes of a network's secret.
-const SECRET_BYTES: usize = 64;
 
 /// Whether what holds between the keys of a valid state holds of what is kept.
 pub fn facts_hold(kept: &Kept) -> bool
@@ -59,108 +58,6 @@ fn are_fabrics(fabrics: &[Fabric]) -> bool
     are_all_fabrics(fabrics) && identities_differ(fabrics) && labels_differ(fabrics)
 }
 
-fn are_all_fabrics(fabrics: &[Fabric]) -> bool
-    ensures { result ≡ list_all is_fabric fabrics.now }
-{
-    fabrics.iter().all(|fabric| is_fabric(fabric))
-}
-
-fn is_fabric(fabric: &Fabric) -> bool
-    ensures { result ≡ is_fabric fabric.now }
-{
-    are_credentials(&fabric.credentials) && is_label(fabric.label.as_slice())
-}
-
-fn are_credentials(given: &Credentials) -> bool
-    ensures { result ≡ are_credentials given.now }
-{
-    is_certificate(given.root.as_slice())
-        && given.root_key.as_slice().len() == ROOT_KEY_BYTES
-        && is_operational(given.node_id)
-        && is_certificate(given.noc.as_slice())
-        && is_intermediate(given.icac.as_slice())
-        && given.ipk.as_slice().len() == IPK_BYTES
-}
-
-fn has_up_to(most: usize, bytes: &[u8]) -> bool
-    ensures { result ≡ has_up_to most bytes.now }
-{
-    1 <= bytes.len() && bytes.len() <= most
-}
-
-fn is_certificate(bytes: &[u8]) -> bool
-    ensures { result ≡ is_certificate bytes.now }
-{
-    has_up_to(CERTIFICATE_BYTES, bytes)
-}
-
-fn is_intermediate(bytes: &[u8]) -> bool
-    ensures { result ≡ is_intermediate bytes.now }
-{
-    bytes.len() <= CERTIFICATE_BYTES
-}
-
-fn is_label(bytes: &[u8]) -> bool
-    ensures { result ≡ is_label bytes.now }
-{
-    bytes.len() <= LABEL_BYTES && is_utf8(bytes)
-}
-
-#[tactic(auto, using(crate::proofs::Walks::apart_at))]
-fn identities_differ(fabrics: &[Fabric]) -> bool
-    ensures { result ≡ none_alike have_one_identity fabrics.now }
-{
-    for (place, fabric) in fabrics.iter().enumerate() {
-        if any_has_identity(fabric, &fabrics[place + 1..]) {
-            return false;
-        }
-    }
-    true
-}
-
-fn any_has_identity(fabric: &Fabric, others: &[Fabric]) -> bool
-    ensures { result ≡ list_any (have_one_identity fabric.now) others.now }
-{
-    others.iter().any(|other| have_one_identity(fabric, other))
-}
-
-fn have_one_identity(a: &Fabric, b: &Fabric) -> bool
-    ensures { result ≡ have_one_identity a.now b.now }
-{
-    are_equal(&a.credentials.root_key, &b.credentials.root_key)
-        && a.credentials.fabric_id == b.credentials.fabric_id
-}
-
-fn are_equal(a: &Bytes, b: &Bytes) -> bool
-    ensures { result ≡ bytes_eq a.now b.now }
-{
-    a.equals(b)
-}
-
-#[tactic(auto, using(crate::proofs::Walks::apart_at))]
-fn labels_differ(fabrics: &[Fabric]) -> bool
-    ensures { result ≡ none_alike have_one_label fabrics.now }
-{
-    for (place, fabric) in fabrics.iter().enumerate() {
-        if any_has_label(fabric, &fabrics[place + 1..]) {
-            return false;
-        }
-    }
-    true
-}
-
-fn any_has_label(fabric: &Fabric, others: &[Fabric]) -> bool
-    ensures { result ≡ list_any (have_one_label fabric.now) others.now }
-{
-    others.iter().any(|other| have_one_label(fabric, other))
-}
-
-fn have_one_label(a: &Fabric, b: &Fabric) -> bool
-    ensures { result ≡ have_one_label a.now b.now }
-{
-    1 <= a.label.as_slice().len() && are_equal(&a.label, &b.label)
-}
-
 // Whether the index is that of a fabric of the table.
 fn is_used(index: u8, fabrics: &[Fabric]) -> bool
     ensures { result ≡ is_used index fabrics.now }
@@ -186,50 +83,6 @@ fn are_entries(fabrics: &[Fabric], entries: &[AclEntry]) -> bool
     ensures { result ≡ are_entries fabrics.now entries.now }
 {
     are_all_entries(entries) && are_all_owned(fabrics, entries) && are_few(fabrics, entries)
-}
-
-fn are_all_entries(entries: &[AclEntry]) -> bool
-    ensures { result ≡ list_all is_entry entries.now }
-{
-    entries.iter().all(|entry| is_entry(entry))
-}
-
-fn is_entry(entry: &AclEntry) -> bool
-    ensures { result ≡ is_entry entry.now }
-{
-    valid(entry).is_ok()
-}
-
-fn are_all_owned(fabrics: &[Fabric], entries: &[AclEntry]) -> bool
-    ensures { result ≡ list_all (is_owned fabrics.now) entries.now }
-{
-    entries.iter().all(|entry| is_owned(fabrics, entry))
-}
-
-fn is_owned(fabrics: &[Fabric], entry: &AclEntry) -> bool
-    ensures { result ≡ is_owned fabrics.now entry.now }
-{
-    fabrics.iter().any(|fabric| is_of(fabric, entry))
-}
-
-fn is_of(fabric: &Fabric, entry: &AclEntry) -> bool
-    ensures { result ≡ is_of fabric.now entry.now }
-{
-    entry.fabric == fabric.index
-}
-
-fn are_few(fabrics: &[Fabric], entries: &[AclEntry]) -> bool
-    ensures { result ≡ list_all (has_few_entries entries.now) fabrics.now }
-{
-    fabrics
-        .iter()
-        .all(|fabric| has_few_entries(entries, fabric))
-}
-
-fn has_few_entries(entries: &[AclEntry], fabric: &Fabric) -> bool
-    ensures { result ≡ has_few_entries entries.now fabric.now }
-{
-    entries.iter().filter(|entry| is_of(fabric, *entry)).count() <= ENTRIES
 }
 
 // Roots.
@@ -315,7 +168,7 @@ fn is_network(network: &Network) -> bool
     ensures { result ≡ is_network network.now }
 {
     has_up_to(NETWORK_ID_BYTES, network.id.as_slice())
-        && network.secret.as_slice().len() <= SECRET_BYTES
+        && network.secret.as_slice().len() <= NETWORK_SECRET_BYTES
 }
 
 #[tactic(auto, using(crate::proofs::Walks::apart_at))]

@@ -5,7 +5,7 @@ ghost use Rattle.mt_grammar.specs.Grammar.{is_in_grammar};
 
 use crate::facts::facts_hold;
 use crate::kept::kept_in;
-use mt_durable::Durable;
+use mt_durable::{Durable, Rule};
 use std::alloc::{AllocError, Global};
 
 /// Whether a map is in the grammar of states: each key and what stands under it has its form, and what holds between
@@ -16,5 +16,17 @@ pub fn is_in_grammar(alloc: Global, map: &Durable) -> Result<bool, AllocError>
     match kept_in(alloc, map)? {
         Some(kept) => Ok(facts_hold(&kept)),
         None => Ok(false),
+    }
+}
+
+/// The rule that a map is one of the grammar of states.
+#[derive(Clone, Copy)]
+pub struct States;
+
+impl Rule for States {
+    ghost admits = { is_in_grammar };
+
+    fn admits(alloc: Global, map: &Durable) -> Result<bool, AllocError> {
+        is_in_grammar(alloc, map)
     }
 }

@@ -22,6 +22,6 @@ mod networks;
 mod rows;
 
 pub use facts::facts_hold;
-pub use grammar::is_in_grammar;
+pub use grammar::{States, is_in_grammar};
 pub use kept::{Kept, KeptRows, kept_in};
 pub use keys::{Key, key_in};

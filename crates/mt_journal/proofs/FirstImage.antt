@@ -5,7 +5,7 @@ use Rattle.std.proofs.lemmas.Bool.{cases_Bool}
 use Rattle.std.proofs.lemmas.List.{drop_at, take_at, drop-drop, take-append-drop, length-append, length-drop, length-take, get_or-drop}
 use Rattle.mt_outside.specs.Disk.{CutShort, overwritten}
 use Rattle.mt_journal.specs.Committing.{Commits}
-use Rattle.mt_journal.specs.Layout.{Reads, Records, ◌>>=◌, is_open, journal_at, length_of, list_of_slot, marks_move, slot_at, slot_length, slots_at}
+use Rattle.mt_journal.specs.Layout.{MayFollow, Reads, Records, ◌>>=◌, is_open, journal_at, length_of, list_of_slot, marks_move, slot_at, slot_length, slots_at}
 use Rattle.mt_journal.specs.Recovering.{OpenRead}
 use Rattle.mt_journal.specs.Standing.{HasEither, HasUpTo, IsBegun, IsInUse, IsLog, length_field}
 use Rattle.mt_journal.specs.declared.place.Place.TheVariants.{InUse}
@@ -16,14 +16,14 @@ use Rattle.mt_journal.proofs.Pieces.{move_is}
 use Rattle.mt_journal.proofs.Records.{gate_is}
 
 -- A file has this list while its gate is closed, and behind the gate, once it is open, these bytes lead to selectors.
-pub record IsShut (is_image is_change : List ℕ → Bool) (gate : ℕ) (lead : List ℕ) (list : List (List ℕ)) (file : List ℕ) : Type 0 where
+pub record IsShut (is_image : List ℕ → Bool) (may_follow : MayFollow) (gate : ℕ) (lead : List ℕ) (list : List (List ℕ)) (file : List ℕ) : Type 0 where
   pub far : 8 ≤ gate
   pub there : gate < length file
   pub closed : is_open (get_or file gate 0) ≡ false
-  pub shut : (other : List ℕ) → take gate other ≡ take gate file → length file ≤ length other → is_open (get_or other gate 0) ≡ false → journal_at is_image is_change other ≡ Ok list
-  pub opens : (other : List ℕ) → take (gate + 1 + length lead) other ≡ take gate file ++ 0x5a ∷ lead → gate + 1 + length lead ≤ length other → 10 ≤ length other → journal_at is_image is_change other ≡ slots_at is_image is_change (gate + 1 + length lead) other
+  pub shut : (other : List ℕ) → take gate other ≡ take gate file → length file ≤ length other → is_open (get_or other gate 0) ≡ false → journal_at is_image may_follow other ≡ Ok list
+  pub opens : (other : List ℕ) → take (gate + 1 + length lead) other ≡ take gate file ++ 0x5a ∷ lead → gate + 1 + length lead ≤ length other → 10 ≤ length other → journal_at is_image may_follow other ≡ slots_at is_image may_follow (gate + 1 + length lead) other
 
-module _ (is_image is_change : List ℕ → Bool) (gate : ℕ) (lead front : List ℕ) (list : List (List ℕ)) (file : List ℕ) (is_shut : IsShut is_image is_change gate lead list file) (front_is : front ≡ lead ++ 0 ∷ 0 ∷ [])
+module _ (is_image : List ℕ → Bool) (may_follow : MayFollow) (gate : ℕ) (lead front : List ℕ) (list : List (List ℕ)) (file : List ℕ) (is_shut : IsShut is_image may_follow gate lead list file) (front_is : front ≡ lead ++ 0 ∷ 0 ∷ [])
     (image : List ℕ) (short : length image ≤ 65536) (is : is_image image ≡ true) where
   abbrev base : ℕ
   base = gate + 1 + length lead
@@ -64,7 +64,7 @@ module _ (is_image is_change : List ℕ → Bool) (gate : ℕ) (lead front : Lis
   laid_from : drop (gate + 1) laid ≡ lead ++ (0 ∷ 0 ∷ slot)
   laid_from = from_written (gate + 1) bytes file behind_gate ∙ bytes_split
 
-  first_cut : (other : List ℕ) → CutShort (gate + 1) (length bytes) file other → HasEither is_image is_change list (image ∷ []) other
+  first_cut : (other : List ℕ) → CutShort (gate + 1) (length bytes) file other → HasEither is_image may_follow list (image ∷ []) other
   first_cut other cut =
       let same = before_cut (gate + 1) (length bytes) file other behind_gate cut in
       inl (is_shut.shut other (same_earlier other file gate (gate + 1) (omega arith) same) cut.no_shorter (ap is_open (same_byte other file gate (gate + 1) (omega arith) same) ∙ is_shut.closed))
@@ -97,13 +97,13 @@ module _ (is_image is_change : List ℕ → Bool) (gate : ℕ) (lead front : Lis
         ∙ ap (λ (l : List ℕ). drop (4 + n) l) (slot_from ∙ sym (append_assoc (length_field n) image (0 ∷ tail)))
         ∙ drop_at (length_field n ++ image) (0 ∷ tail) (4 + n) (length-append (length_field n) image)
 
-    opened : journal_at is_image is_change other ≡ Ok (image ∷ [])
+    opened : journal_at is_image may_follow other ≡ Ok (image ∷ [])
     opened =
         is_shut.opens other head_is (omega (arith, long)) (omega (arith, long, is_shut.far))
-        ∙ by_selectors is_image is_change base other 0 0 (omega (arith, long)) first_byte (byte 1)
-        ∙ ap (λ (r : Reads Records). r >>= list_of_slot) (image_alone is_image is_change (base + 2) image short is other tail 0 refl slot_from)
+        ∙ by_selectors is_image may_follow base other 0 0 (omega (arith, long)) first_byte (byte 1)
+        ∙ ap (λ (r : Reads Records). r >>= list_of_slot) (image_alone is_image may_follow (base + 2) image short is other tail 0 refl slot_from)
 
-    opened_stands : IsInUse is_image is_change base 0 0 (base + 6 + n) (image ∷ []) other
+    opened_stands : IsInUse is_image may_follow base 0 0 (base + 6 + n) (image ∷ []) other
     opened_stands = record {
       far = omega (arith, is_shut.far);
       head = λ others front there ten. is_shut.opens others (front ∙ head_is) there ten;
@@ -113,13 +113,13 @@ module _ (is_image is_change : List ℕ → Bool) (gate : ℕ) (lead front : Lis
       before_end = omega (arith, short);
       there = omega (arith, long);
       closed = ap is_open (sym (get_or-drop (base + 6 + n) other 0 0 ∙ ap (λ (k : ℕ). get_or other k 0) (omega arith)) ∙ ap (λ (l : List ℕ). get_or l 0 0) gate_from);
-      slot = subst (λ (k : ℕ). HasUpTo (slot_at is_image is_change (base + 2)) is_change (Some (base + 2 + slot_length)) (base + 2) k (image ∷ []) other) (omega arith) (image_up_to is_image is_change (base + 2) image short is other (0 ∷ tail) slot_from);
+      slot = subst (λ (k : ℕ). HasUpTo (slot_at is_image may_follow (base + 2)) may_follow (Some (base + 2 + slot_length)) (base + 2) k (image ∷ []) other) (omega arith) (image_up_to is_image may_follow (base + 2) image short is other (0 ∷ tail) slot_from);
     }
 
   there_laid : gate < length laid
   there_laid = omega (arith, long_laid, is_shut.there)
 
-  second_cut : (other : List ℕ) → CutShort gate 1 laid other → HasEither is_image is_change list (image ∷ []) other
+  second_cut : (other : List ℕ) → CutShort gate 1 laid other → HasEither is_image may_follow list (image ∷ []) other
   second_cut other cut =
       let same : take gate other ≡ take gate file = before_cut gate 1 laid other (omega (arith, there_laid)) cut ∙ same_earlier laid file gate (gate + 1) (omega arith) laid_before in
       let from : drop gate other ≡ get_or other gate 0 ∷ lead ++ (0 ∷ 0 ∷ slot) = one_byte gate laid other there_laid cut ∙ ap (λ (l : List ℕ). get_or other gate 0 ∷ l) laid_from in
@@ -137,7 +137,7 @@ module _ (is_image is_change : List ℕ → Bool) (gate : ℕ) (lead front : Lis
   put_from : drop gate put ≡ 0x5a ∷ lead ++ (0 ∷ 0 ∷ slot)
   put_from = from_written gate (0x5a ∷ []) laid (omega (arith, there_laid)) ∙ ap (λ (l : List ℕ). 0x5a ∷ l) laid_from
 
-  pub first_commits : Commits is_image is_change list (image ∷ []) (gate + 1) bytes gate 0x5a (InUse base 0 0 (base + 6 + n)) file
+  pub first_commits : Commits is_image may_follow list (image ∷ []) (gate + 1) bytes gate 0x5a (InUse base 0 0 (base + 6 + n)) file
   first_commits = record {
     first = first_cut;
     second = second_cut;
@@ -146,21 +146,21 @@ module _ (is_image is_change : List ℕ → Bool) (gate : ℕ) (lead front : Lis
   }
 
 -- A file with a closed begin gate.
-begun_is_shut : (is_image is_change : List ℕ → Bool) (list : List (List ℕ)) (file : List ℕ) → IsBegun list file → IsShut is_image is_change 8 [] list file
-begun_is_shut is_image is_change list file begun = record {
+begun_is_shut : (is_image : List ℕ → Bool) (may_follow : MayFollow) (list : List (List ℕ)) (file : List ℕ) → IsBegun list file → IsShut is_image may_follow 8 [] list file
+begun_is_shut is_image may_follow list file begun = record {
   far = omega arith;
   there = begun.there;
   closed = begun.closed;
-  shut = λ other same long shut. (no_record is_image is_change other (same ∙ begun.head) shut ∙ ap Ok (sym begun.none));
-  opens = λ other head long many. begin_opens is_image is_change other (head ∙ ap (λ (l : List ℕ). l ++ 0x5a ∷ []) begun.head) many;
+  shut = λ other same long shut. (no_record is_image may_follow other (same ∙ begun.head) shut ∙ ap Ok (sym begun.none));
+  opens = λ other head long many. begin_opens is_image may_follow other (head ∙ ap (λ (l : List ℕ). l ++ 0x5a ∷ []) begun.head) many;
 }
 
 -- A log.
 abbrev move : List ℕ
 move = 0xff ∷ 0xff ∷ 0xff ∷ 0xff ∷ []
 
-module _ (is_image is_change : List ℕ → Bool) (gate : ℕ) (list : List (List ℕ)) (file : List ℕ) (log : IsLog is_change gate list file) where
-  log_opens : (other : List ℕ) → take (gate + 1 + 4) other ≡ take gate file ++ 0x5a ∷ move → gate + 1 + 4 ≤ length other → 10 ≤ length other → journal_at is_image is_change other ≡ slots_at is_image is_change (gate + 1 + 4) other
+module _ (is_image : List ℕ → Bool) (may_follow : MayFollow) (gate : ℕ) (list : List (List ℕ)) (file : List ℕ) (log : IsLog may_follow gate list file) where
+  log_opens : (other : List ℕ) → take (gate + 1 + 4) other ≡ take gate file ++ 0x5a ∷ move → gate + 1 + 4 ≤ length other → 10 ≤ length other → journal_at is_image may_follow other ≡ slots_at is_image may_follow (gate + 1 + 4) other
   log_opens other head long many =
       let size : length (take gate file) ≡ gate = omega (arith, length-take gate file, log.there) in
       let whole : other ≡ take gate file ++ (0x5a ∷ move ++ drop (gate + 1 + 4) other) =
@@ -170,25 +170,25 @@ module _ (is_image is_change : List ℕ → Bool) (gate : ℕ) (list : List (Lis
       let byte : get_or other gate 0 ≡ 0x5a = ap (λ (k : ℕ). get_or other k 0) (omega arith) ∙ sym (get_or-drop gate other 0 0) ∙ ap (λ (l : List ℕ). get_or l 0 0) from in
       let behind : drop (gate + 1) other ≡ move ++ drop (gate + 1 + 4) other = ap (λ (k : ℕ). drop k other) (omega arith) ∙ sym (drop-drop 1 gate other) ∙ ap (λ (l : List ℕ). drop 1 l) from in
       let opens : OpenRead gate other = record { there = omega (arith, long); opens = ap is_open byte } in
-      log_moved is_image is_change gate list file log.head log.many log.behind log.log other same many opens
+      log_moved is_image may_follow gate list file log.head log.many log.behind log.log other same many opens
       (move_is None (drop (gate + 1) other) (omega (arith, length-drop (gate + 1) other, long)) (ap (λ (l : List ℕ). marks_move None (length_of (take 4 l))) behind))
-      ∙ ap (λ (k : ℕ). slots_at is_image is_change k other) (omega arith)
+      ∙ ap (λ (k : ℕ). slots_at is_image may_follow k other) (omega arith)
 
-  log_is_shut : IsShut is_image is_change gate move list file
+  log_is_shut : IsShut is_image may_follow gate move list file
   log_is_shut = record {
     far = log.behind;
     there = log.there;
     closed = log.closed;
-    shut = λ other same long shut. log_closed is_image is_change gate list file log.head log.many log.behind log.log other same (omega (arith, long, log.many)) (omega (arith, long, log.there)) shut;
+    shut = λ other same long shut. log_closed is_image may_follow gate list file log.head log.many log.behind log.log other same (omega (arith, long, log.many)) (omega (arith, long, log.there)) shut;
     opens = log_opens;
   }
 
-module _ (is_image is_change : List ℕ → Bool) (list : List (List ℕ)) (file image : List ℕ) (short : length image ≤ 65536) (is : is_image image ≡ true) where
-  pub begun_commits : IsBegun list file → Commits is_image is_change list (image ∷ []) 9 (0 ∷ 0 ∷ length_field (length image) ++ image ++ 0 ∷ []) 8 0x5a (InUse 9 0 0 (15 + length image)) file
-  begun_commits begun = first_commits is_image is_change 8 [] (0 ∷ 0 ∷ []) list file (begun_is_shut is_image is_change list file begun) refl image short is
+module _ (is_image : List ℕ → Bool) (may_follow : MayFollow) (list : List (List ℕ)) (file image : List ℕ) (short : length image ≤ 65536) (is : is_image image ≡ true) where
+  pub begun_commits : IsBegun list file → Commits is_image may_follow list (image ∷ []) 9 (0 ∷ 0 ∷ length_field (length image) ++ image ++ 0 ∷ []) 8 0x5a (InUse 9 0 0 (15 + length image)) file
+  begun_commits begun = first_commits is_image may_follow 8 [] (0 ∷ 0 ∷ []) list file (begun_is_shut is_image may_follow list file begun) refl image short is
 
-  pub log_commits : (gate : ℕ) → IsLog is_change gate list file
-      → Commits is_image is_change list (image ∷ []) (gate + 1) (0xff ∷ 0xff ∷ 0xff ∷ 0xff ∷ 0 ∷ 0 ∷ length_field (length image) ++ image ++ 0 ∷ []) gate 0x5a (InUse (gate + 5) 0 0 (gate + 5 + 6 + length image)) file
+  pub log_commits : (gate : ℕ) → IsLog may_follow gate list file
+      → Commits is_image may_follow list (image ∷ []) (gate + 1) (0xff ∷ 0xff ∷ 0xff ∷ 0xff ∷ 0 ∷ 0 ∷ length_field (length image) ++ image ++ 0 ∷ []) gate 0x5a (InUse (gate + 5) 0 0 (gate + 5 + 6 + length image)) file
   log_commits gate log =
-      subst (λ (b : ℕ). Commits is_image is_change list (image ∷ []) (gate + 1) (0xff ∷ 0xff ∷ 0xff ∷ 0xff ∷ 0 ∷ 0 ∷ length_field (length image) ++ image ++ 0 ∷ []) gate 0x5a (InUse b 0 0 (b + 6 + length image)) file) (omega arith)
-      (first_commits is_image is_change gate move (0xff ∷ 0xff ∷ 0xff ∷ 0xff ∷ 0 ∷ 0 ∷ []) list file (log_is_shut is_image is_change gate list file log) refl image short is)
+      subst (λ (b : ℕ). Commits is_image may_follow list (image ∷ []) (gate + 1) (0xff ∷ 0xff ∷ 0xff ∷ 0xff ∷ 0 ∷ 0 ∷ length_field (length image) ++ image ++ 0 ∷ []) gate 0x5a (InUse b 0 0 (b + 6 + length image)) file) (omega arith)
+      (first_commits is_image may_follow gate move (0xff ∷ 0xff ∷ 0xff ∷ 0xff ∷ 0 ∷ 0 ∷ []) list file (log_is_shut is_image may_follow gate list file log) refl image short is)

@@ -6,7 +6,7 @@ use Rattle.std.proofs.lemmas.Bool.Decides.{nat_tests}
 use Rattle.std.proofs.lemmas.List.{drop_at, drop-drop, length-append, length-drop, get_or-drop}
 use Rattle.mt_outside.specs.Disk.{CutShort, overwritten}
 use Rattle.mt_journal.specs.Committing.{Commits}
-use Rattle.mt_journal.specs.Layout.{Reads, Records, ◌>>=◌, is_open, journal_at, list_of_slot, names_slot_one, selector_above, slot_at, slot_length, slot_start}
+use Rattle.mt_journal.specs.Layout.{MayFollow, Reads, Records, ◌>>=◌, is_open, journal_at, list_of_slot, names_slot_one, selector_above, slot_at, slot_length, slot_start}
 use Rattle.mt_journal.specs.Standing.{HasEither, HasUpTo, IsInUse, length_field}
 use Rattle.mt_journal.specs.declared.place.Place.TheVariants.{InUse}
 use Rattle.mt_journal.proofs.Heads.{by_selectors}
@@ -21,7 +21,7 @@ names_one p1 = grind (arith, nat_tests)
 names_zero : (p0 : ℕ) → names_slot_one p0 (selector_above p0) ≡ false
 names_zero p0 = grind (arith, nat_tests)
 
-module _ (is_image is_change : List ℕ → Bool) (base p0 p1 gate : ℕ) (list : List (List ℕ)) (file : List ℕ) (stands : IsInUse is_image is_change base p0 p1 gate list file)
+module _ (is_image : List ℕ → Bool) (may_follow : MayFollow) (base p0 p1 gate : ℕ) (list : List (List ℕ)) (file : List ℕ) (stands : IsInUse is_image may_follow base p0 p1 gate list file)
     (image : List ℕ) (short : length image ≤ 65536) (is : is_image image ≡ true) where
   abbrev start : Bool → ℕ
   start one = slot_start base one
@@ -50,13 +50,13 @@ module _ (is_image is_change : List ℕ → Bool) (base p0 p1 gate : ℕ) (list 
   SlotSame other = take (gate + 1 - start current) (drop (start current) other) ≡ take (gate + 1 - start current) (drop (start current) file)
 
   -- then it has the list if its selectors name that slot
-  has_list : (other : List ℕ) (a b : ℕ) → take base other ≡ take base file → base + 2 ≤ length other → get_or other base 0 ≡ a → get_or other (base + 1) 0 ≡ b → names_slot_one a b ≡ current → SlotSame other → journal_at is_image is_change other ≡ Ok list
+  has_list : (other : List ℕ) (a b : ℕ) → take base other ≡ take base file → base + 2 ≤ length other → get_or other base 0 ≡ a → get_or other (base + 1) 0 ≡ b → names_slot_one a b ≡ current → SlotSame other → journal_at is_image may_follow other ≡ Ok list
   has_list other a b head long first second named same =
       let s = start current in
       let there : gate + 1 - s ≤ length (drop s other) = as_long (drop s other) (drop s file) (gate + 1 - s) (omega (arith, length-drop s file, stands.there)) same in
       let same_gate : get_or other gate 0 ≡ get_or file gate 0 =
       ap (λ (k : ℕ). get_or other k 0) (omega (arith, stands.behind)) ∙ sym (get_or-drop s other (gate - s) 0) ∙ same_byte (drop s other) (drop s file) (gate - s) (gate + 1 - s) (omega (arith, stands.behind)) same ∙ get_or-drop s file (gate - s) 0 ∙ ap (λ (k : ℕ). get_or file k 0) (omega (arith, stands.behind)) in
-      has_list_by is_image is_change base p0 p1 gate list file stands other a b head long first second named
+      has_list_by is_image may_follow base p0 p1 gate list file stands other a b head long first second named
       (same_earlier (drop s other) (drop s file) (gate - s) (gate + 1 - s) (omega arith) same) (omega (arith, there, length-drop s other, stands.behind)) (ap is_open same_gate ∙ stands.closed)
 
   abbrev put : List ℕ
@@ -86,7 +86,7 @@ module _ (is_image is_change : List ℕ → Bool) (base p0 p1 gate : ℕ) (list 
             same_part other file (start current) (gate + 1) (omega (arith, stands.behind)) (earlier_kept at (gate + 1) file other (omega (arith, p.0, stands.before_end, s_is)) (omega (arith, stands.there)) before),
           )
 
-  first_cut : (other : List ℕ) → CutShort at (length content) file other → HasEither is_image is_change list (image ∷ []) other
+  first_cut : (other : List ℕ) → CutShort at (length content) file other → HasEither is_image may_follow list (image ∷ []) other
   first_cut other cut =
       let kept = outside other cut.before cut.after in
       inl (has_list other p0 p1 (same_earlier other file base (base + 2) (omega arith) kept.0) (as_long other file (base + 2) long_file kept.0)
@@ -128,17 +128,17 @@ module _ (is_image is_change : List ℕ → Bool) (base p0 p1 gate : ℕ) (list 
     slot_from : drop at other ≡ length_field (length image) ++ (image ++ 0 ∷ tail)
     slot_from = slot_is at behind_selectors ∙ put_slot
 
-    new_list : names_slot_one a b ≡ not current → journal_at is_image is_change other ≡ Ok (image ∷ [])
+    new_list : names_slot_one a b ≡ not current → journal_at is_image may_follow other ≡ Ok (image ∷ [])
     new_list named =
         stands.head other head_is (omega (arith, far)) (omega (arith, far, stands.far))
-        ∙ by_selectors is_image is_change base other a b far first second
-        ∙ ap (λ (o : Bool). slot_at is_image is_change (start o) other >>= list_of_slot) named
-        ∙ ap (λ (r : Reads Records). r >>= list_of_slot) (image_alone is_image is_change at image short is other tail 0 refl slot_from)
+        ∙ by_selectors is_image may_follow base other a b far first second
+        ∙ ap (λ (o : Bool). slot_at is_image may_follow (start o) other >>= list_of_slot) named
+        ∙ ap (λ (r : Reads Records). r >>= list_of_slot) (image_alone is_image may_follow at image short is other tail 0 refl slot_from)
 
-    old_list : names_slot_one a b ≡ current → journal_at is_image is_change other ≡ Ok list
+    old_list : names_slot_one a b ≡ current → journal_at is_image may_follow other ≡ Ok list
     old_list named = has_list other a b head_is far first second named (ap (λ (l : List ℕ). take (gate + 1 - start current) l) (slot_is (start current) (slots_apart base current).0) ∙ put_kept.1)
 
-    either_list : HasEither is_image is_change list (image ∷ []) other
+    either_list : HasEither is_image may_follow list (image ∷ []) other
     either_list = ⊎_elim (λ s. inl (old_list s)) (λ d. inr (new_list d)) (tests (names_slot_one a b) current)
       where
         tests : (x y : Bool) → (x ≡ y) ⊎ (x ≡ not y)
@@ -153,7 +153,7 @@ module _ (is_image is_change : List ℕ → Bool) (base p0 p1 gate : ℕ) (list 
         ∙ ap (λ (l : List ℕ). drop (4 + length image) l) (slot_from ∙ sym (append_assoc (length_field (length image)) image (0 ∷ tail)))
         ∙ drop_at (length_field (length image) ++ image) (0 ∷ tail) (4 + length image) (length-append (length_field (length image)) image)
 
-    new_stands : names_slot_one a b ≡ not current → IsInUse is_image is_change base a b (at + 4 + length image) (image ∷ []) other
+    new_stands : names_slot_one a b ≡ not current → IsInUse is_image may_follow base a b (at + 4 + length image) (image ∷ []) other
     new_stands named =
         let start_is : at ≡ start (names_slot_one a b) = ap start (sym named) in
         record {
@@ -165,12 +165,12 @@ module _ (is_image is_change : List ℕ → Bool) (base p0 p1 gate : ℕ) (list 
           before_end = omega (arith, start_is, short);
           there = omega (arith, ap length gate_from, length-drop (at + 4 + length image) other);
           closed = ap is_open (sym (get_or-drop (at + 4 + length image) other 0 0 ∙ ap (λ (n : ℕ). get_or other n 0) (omega arith)) ∙ ap (λ (l : List ℕ). get_or l 0 0) gate_from);
-          slot = subst (λ (s : ℕ). HasUpTo (slot_at is_image is_change s) is_change (Some (s + slot_length)) s (at + 4 + length image) (image ∷ []) other) start_is (image_up_to is_image is_change at image short is other (0 ∷ tail) slot_from);
+          slot = subst (λ (s : ℕ). HasUpTo (slot_at is_image may_follow s) may_follow (Some (s + slot_length)) s (at + 4 + length image) (image ∷ []) other) start_is (image_up_to is_image may_follow at image short is other (0 ∷ tail) slot_from);
         }
 
   -- One selector is written.
   module _ (k : ℕ) (from : base ≤ k) (to : k < base + 2) where
-    second_cut : (other : List ℕ) → CutShort k 1 put other → HasEither is_image is_change list (image ∷ []) other
+    second_cut : (other : List ℕ) → CutShort k 1 put other → HasEither is_image may_follow list (image ∷ []) other
     second_cut other cut =
         either_list other (get_or other base 0) (get_or other (base + 1) 0)
         (same_earlier other put base k from (before_cut k 1 put other (omega (arith, to, long_put)) cut))
@@ -184,7 +184,7 @@ module _ (is_image is_change : List ℕ → Bool) (base p0 p1 gate : ℕ) (list 
       there = omega (arith, to, long_put)
 
       selector_commits : get_or written base 0 ≡ a → get_or written (base + 1) 0 ≡ b → names_slot_one a b ≡ not current
-          → Commits is_image is_change list (image ∷ []) at content k byte (InUse base a b (at + 4 + length image)) file
+          → Commits is_image may_follow list (image ∷ []) at content k byte (InUse base a b (at + 4 + length image)) file
       selector_commits first second named =
           let head = same_earlier written put base k from (before_written k (byte ∷ []) put (omega (arith, there))) in
           let slots = later_kept (k + 1) (base + 2) put written (omega (arith, to)) (behind_byte k byte put there) in
@@ -196,13 +196,13 @@ module _ (is_image is_change : List ℕ → Bool) (base p0 p1 gate : ℕ) (list 
             has = new_list written a b head slots long first second named;
           }
 
-  pub one_commits : current ≡ false → Commits is_image is_change list (image ∷ []) at content base (selector_above p1) (InUse base (selector_above p1) p1 (at + 4 + length image)) file
+  pub one_commits : current ≡ false → Commits is_image may_follow list (image ∷ []) at content base (selector_above p1) (InUse base (selector_above p1) p1 (at + 4 + length image)) file
   one_commits zero =
       let byte = selector_above p1 in
       let there : base < length put = omega (arith, long_put) in
       selector_commits base (omega arith) (omega arith) byte byte p1 (byte_there base byte put there) (next_byte base byte put there ∙ put_byte (base + 1) (omega arith) ∙ stands.p1_is) (names_one p1 ∙ sym (ap not zero))
 
-  pub zero_commits : current ≡ true → Commits is_image is_change list (image ∷ []) at content (base + 1) (selector_above p0) (InUse base p0 (selector_above p0) (at + 4 + length image)) file
+  pub zero_commits : current ≡ true → Commits is_image may_follow list (image ∷ []) at content (base + 1) (selector_above p0) (InUse base p0 (selector_above p0) (at + 4 + length image)) file
   zero_commits one =
       let byte = selector_above p0 in
       let there : base + 1 < length put = omega (arith, long_put) in

@@ -4,7 +4,7 @@ use Rattle.std.specs.Prelude.{Ok, Err, Option, Some, None, nat_lt, ◌||◌, ◌
 use Rattle.std.proofs.lemmas.Bool.{le-ltb, lt-ltb}
 use Rattle.std.proofs.lemmas.Bool.Decides.{nat_tests}
 use Rattle.std.proofs.lemmas.List.{append-nil, drop_at, take_at, drop-drop, length-append}
-use Rattle.mt_journal.specs.Layout.{Reads, Records, ◌>>=◌, after_one, is_move, marks_move, is_open, is_past, length_of, piece_at, records_at}
+use Rattle.mt_journal.specs.Layout.{MayFollow, Reads, Records, ◌>>=◌, after_one, is_move, marks_move, is_open, is_past, length_of, piece_at, records_at}
 use Rattle.mt_journal.specs.Standing.{go_on, length_field}
 
 -- the four bytes of a length stand for it
@@ -80,33 +80,34 @@ piece_read is_piece whole limit place piece tail short within is =
 abbrev pub no_more : Records
 no_more = record { changes = []; moved = None }
 
-module _ (is_change : List ℕ → Bool) (whole : ℕ) (limit : Option ℕ) where
+module _ (may_follow : MayFollow) (whole : ℕ) (limit : Option ℕ) where
   -- bytes that are passed over
-  pub passed_over : (bytes tail : List ℕ) (behind place : ℕ) → behind ≡ length bytes → records_at is_change whole limit behind place (bytes ++ tail) ≡ records_at is_change whole limit 0 (place + length bytes) tail
-  passed_over [] tail zero place is = ap (λ (p : ℕ). records_at is_change whole limit 0 p tail) (omega arith)
-  passed_over [] tail (suc behind) place is = absurd (omega arith)
-  passed_over (byte ∷ bytes) tail zero place is = absurd (omega arith)
-  passed_over (byte ∷ bytes) tail (suc behind) place is =
-      passed_over bytes tail behind (place + 1) (omega arith) ∙ ap (λ (p : ℕ). records_at is_change whole limit 0 p tail) (omega arith)
+  pub passed_over : (list : List (List ℕ)) (bytes tail : List ℕ) (behind place : ℕ) → behind ≡ length bytes → records_at may_follow whole limit list behind place (bytes ++ tail) ≡ records_at may_follow whole limit list 0 (place + length bytes) tail
+  passed_over list [] tail zero place is = ap (λ (p : ℕ). records_at may_follow whole limit list 0 p tail) (omega arith)
+  passed_over list [] tail (suc behind) place is = absurd (omega arith)
+  passed_over list (byte ∷ bytes) tail zero place is = absurd (omega arith)
+  passed_over list (byte ∷ bytes) tail (suc behind) place is =
+      passed_over list bytes tail behind (place + 1) (omega arith) ∙ ap (λ (p : ℕ). records_at may_follow whole limit list 0 p tail) (omega arith)
 
   -- a closed gate ends the records
-  pub closed_gate : (gate place : ℕ) (rest : List ℕ) → is_open gate ≡ false → records_at is_change whole limit 0 place (gate ∷ rest) ≡ Ok no_more
-  closed_gate gate place rest shut = if_false (is_open gate) _ (Ok no_more) shut
+  pub closed_gate : (list : List (List ℕ)) (gate place : ℕ) (rest : List ℕ) → is_open gate ≡ false → records_at may_follow whole limit list 0 place (gate ∷ rest) ≡ Ok no_more
+  closed_gate list gate place rest shut = if_false (is_open gate) _ (Ok no_more) shut
 
   -- behind an open gate a change is read
-  pub open_gate : (place : ℕ) (change tail : List ℕ) → length change ≤ 65536 → is_past limit (place + 1 + 5 + length change) ≡ false → is_change change ≡ true
-      → records_at is_change whole limit 0 place (0x5a ∷ length_field (length change) ++ (change ++ tail)) ≡ (records_at is_change whole limit 0 (place + 5 + length change) tail >>= after_one change)
-  open_gate place change tail short within is =
+  pub open_gate : (list : List (List ℕ)) (place : ℕ) (change tail : List ℕ) → length change ≤ 65536 → is_past limit (place + 1 + 5 + length change) ≡ false → may_follow list change ≡ true
+      → records_at may_follow whole limit list 0 place (0x5a ∷ length_field (length change) ++ (change ++ tail)) ≡ (records_at may_follow whole limit (list ++ change ∷ []) 0 (place + 5 + length change) tail >>= after_one change)
+  open_gate list place change tail short within is =
       let n = length change in
+      let more : List (List ℕ) = list ++ change ∷ [] in
       let rest : List ℕ = length_field n ++ (change ++ tail) in
       let stays : is_move limit rest ≡ false = short_is_no_move limit rest (omega (arith, length_field-back n (omega arith), short)) in
-      let go : Reads (List ℕ × List ℕ) → Reads Records = λ read. (read >>= λ piece. records_at is_change whole limit (4 + length piece.0) (place + 1) rest >>= after_one piece.0) in
-      let over : records_at is_change whole limit (4 + n) (place + 1) rest ≡ records_at is_change whole limit 0 (place + 5 + n) tail =
-      ap (λ (l : List ℕ). records_at is_change whole limit (4 + n) (place + 1) l) (sym (append_assoc (length_field n) change tail))
-      ∙ passed_over (length_field n ++ change) tail (4 + n) (place + 1) (omega (arith, length-append (length_field n) change))
-      ∙ ap (λ (p : ℕ). records_at is_change whole limit 0 p tail) (omega (arith, length-append (length_field n) change)) in
-      if_false (is_move limit rest) _ (go (piece_at is_change whole limit (place + 1) rest)) stays
-      ∙ ap go (piece_read is_change whole limit (place + 1) change tail short within is)
+      let go : Reads (List ℕ × List ℕ) → Reads Records = λ read. (read >>= λ piece. records_at may_follow whole limit (list ++ piece.0 ∷ []) (4 + length piece.0) (place + 1) rest >>= after_one piece.0) in
+      let over : records_at may_follow whole limit more (4 + n) (place + 1) rest ≡ records_at may_follow whole limit more 0 (place + 5 + n) tail =
+      ap (λ (l : List ℕ). records_at may_follow whole limit more (4 + n) (place + 1) l) (sym (append_assoc (length_field n) change tail))
+      ∙ passed_over more (length_field n ++ change) tail (4 + n) (place + 1) (omega (arith, length-append (length_field n) change))
+      ∙ ap (λ (p : ℕ). records_at may_follow whole limit more 0 p tail) (omega (arith, length-append (length_field n) change)) in
+      if_false (is_move limit rest) _ (go (piece_at (may_follow list) whole limit (place + 1) rest)) stays
+      ∙ ap go (piece_read (may_follow list) whole limit (place + 1) change tail short within is)
       ∙ ap (λ (r : Reads Records). r >>= after_one change) over
 
 -- more changes after one more

@@ -6,7 +6,7 @@ use Rattle.std.proofs.lemmas.Bool.Decides.{nat_tests}
 use Rattle.std.proofs.lemmas.List.{drop_more, drop_at, take_at, drop-drop, drop-take, take-append-drop, length-append, length-drop, get_or-drop}
 use Rattle.mt_outside.specs.Disk.{CutShort, overwritten}
 use Rattle.mt_journal.specs.Committing.{Commits}
-use Rattle.mt_journal.specs.Layout.{Reads, Records, ◌>>=◌, is_open, is_past, journal_at, list_of_slot, names_slot_one, records_at, slot_at, slot_length, slot_start}
+use Rattle.mt_journal.specs.Layout.{MayFollow, Reads, Records, ◌>>=◌, is_open, is_past, journal_at, list_of_slot, names_slot_one, records_at, slot_at, slot_length, slot_start}
 use Rattle.mt_journal.specs.Standing.{HasEither, HasUpTo, IsInUse, go_on, length_field}
 use Rattle.mt_journal.specs.declared.place.Place.TheVariants.{InUse}
 use Rattle.mt_journal.proofs.Heads.{by_selectors}
@@ -21,7 +21,7 @@ pub slots_apart : (base : ℕ) (one : Bool) → (base + 2 ≤ slot_start base on
 slots_apart base true = (omega arith, omega arith)
 slots_apart base false = (omega arith, omega arith)
 
-module _ (is_image is_change : List ℕ → Bool) (base p0 p1 gate : ℕ) (list : List (List ℕ)) (file : List ℕ) (stands : IsInUse is_image is_change base p0 p1 gate list file) where
+module _ (is_image : List ℕ → Bool) (may_follow : MayFollow) (base p0 p1 gate : ℕ) (list : List (List ℕ)) (file : List ℕ) (stands : IsInUse is_image may_follow base p0 p1 gate list file) where
   abbrev start : ℕ
   start = slot_start base (names_slot_one p0 p1)
 
@@ -34,24 +34,24 @@ module _ (is_image is_change : List ℕ → Bool) (base p0 p1 gate : ℕ) (list 
   -- a file that is the same in its head, and whose selectors name the same slot, goes on at the gate if it is the same up to there
   pub reads_on_by : (other : List ℕ) (a b : ℕ) → take base other ≡ take base file → base + 2 ≤ length other → get_or other base 0 ≡ a → get_or other (base + 1) 0 ≡ b → names_slot_one a b ≡ names_slot_one p0 p1
       → take (gate - start) (drop start other) ≡ take (gate - start) (drop start file)
-      → journal_at is_image is_change other ≡ (records_at is_change (length other) limit 0 gate (drop gate other) >>= go_on list >>= list_of_slot)
+      → journal_at is_image may_follow other ≡ (records_at may_follow (length other) limit list 0 gate (drop gate other) >>= go_on list >>= list_of_slot)
   reads_on_by other a b head long first second named same =
       stands.head other head (omega (arith, long)) (omega (arith, long, stands.far))
-      ∙ by_selectors is_image is_change base other a b long first second
-      ∙ ap (λ (o : Bool). slot_at is_image is_change (slot_start base o) other >>= list_of_slot) named
+      ∙ by_selectors is_image may_follow base other a b long first second
+      ∙ ap (λ (o : Bool). slot_at is_image may_follow (slot_start base o) other >>= list_of_slot) named
       ∙ ap (λ (r : Reads Records). r >>= list_of_slot) (stands.slot other same)
 
   -- so it has the list where the gate is closed
   pub has_list_by : (other : List ℕ) (a b : ℕ) → take base other ≡ take base file → base + 2 ≤ length other → get_or other base 0 ≡ a → get_or other (base + 1) 0 ≡ b → names_slot_one a b ≡ names_slot_one p0 p1
-      → take (gate - start) (drop start other) ≡ take (gate - start) (drop start file) → gate < length other → is_open (get_or other gate 0) ≡ false → journal_at is_image is_change other ≡ Ok list
+      → take (gate - start) (drop start other) ≡ take (gate - start) (drop start file) → gate < length other → is_open (get_or other gate 0) ≡ false → journal_at is_image may_follow other ≡ Ok list
   has_list_by other a b head long first second named same there shut =
       reads_on_by other a b head long first second named same
-      ∙ ap (λ (l : List ℕ). records_at is_change (length other) limit 0 gate l >>= go_on list >>= list_of_slot) (drop_more other gate 0 there)
-      ∙ ap (λ (r : Reads Records). r >>= go_on list >>= list_of_slot) (closed_gate is_change (length other) limit (get_or other gate 0) gate (drop (gate + 1) other) shut)
+      ∙ ap (λ (l : List ℕ). records_at may_follow (length other) limit list 0 gate l >>= go_on list >>= list_of_slot) (drop_more other gate 0 there)
+      ∙ ap (λ (r : Reads Records). r >>= go_on list >>= list_of_slot) (closed_gate may_follow (length other) limit list (get_or other gate 0) gate (drop (gate + 1) other) shut)
       ∙ ap (λ (r : Reads Records). r >>= list_of_slot) (go_on-none list)
 
   -- each file that is the same before the gate has the list, and what is read from the gate on
-  pub reads_on : (other : List ℕ) → take gate other ≡ take gate file → journal_at is_image is_change other ≡ (records_at is_change (length other) limit 0 gate (drop gate other) >>= go_on list >>= list_of_slot)
+  pub reads_on : (other : List ℕ) → take gate other ≡ take gate file → journal_at is_image may_follow other ≡ (records_at may_follow (length other) limit list 0 gate (drop gate other) >>= go_on list >>= list_of_slot)
   reads_on other same =
       let long : gate ≤ length other = as_long other file gate (omega (arith, stands.there)) same in
       let enough : base + 6 ≤ gate = omega (arith, far, stands.behind) in
@@ -60,17 +60,17 @@ module _ (is_image is_change : List ℕ → Bool) (base p0 p1 gate : ℕ) (list 
       (same_part other file start gate (omega (arith, stands.behind)) same)
 
   -- the list, where the gate is closed
-  pub has_list : (other : List ℕ) → take gate other ≡ take gate file → gate < length other → is_open (get_or other gate 0) ≡ false → journal_at is_image is_change other ≡ Ok list
+  pub has_list : (other : List ℕ) → take gate other ≡ take gate file → gate < length other → is_open (get_or other gate 0) ≡ false → journal_at is_image may_follow other ≡ Ok list
   has_list other same there shut =
       reads_on other same
-      ∙ ap (λ (l : List ℕ). records_at is_change (length other) limit 0 gate l >>= go_on list >>= list_of_slot) (drop_more other gate 0 there)
-      ∙ ap (λ (r : Reads Records). r >>= go_on list >>= list_of_slot) (closed_gate is_change (length other) limit (get_or other gate 0) gate (drop (gate + 1) other) shut)
+      ∙ ap (λ (l : List ℕ). records_at may_follow (length other) limit list 0 gate l >>= go_on list >>= list_of_slot) (drop_more other gate 0 there)
+      ∙ ap (λ (r : Reads Records). r >>= go_on list >>= list_of_slot) (closed_gate may_follow (length other) limit list (get_or other gate 0) gate (drop (gate + 1) other) shut)
       ∙ ap (λ (r : Reads Records). r >>= list_of_slot) (go_on-none list)
 
-  pub has_itself : journal_at is_image is_change file ≡ Ok list
+  pub has_itself : journal_at is_image may_follow file ≡ Ok list
   has_itself = has_list file refl stands.there stands.closed
 
-  module _ (change : List ℕ) (short : length change ≤ 65536) (fits : gate + 6 + length change ≤ start + slot_length) (is : is_change change ≡ true) where
+  module _ (change : List ℕ) (short : length change ≤ 65536) (fits : gate + 6 + length change ≤ start + slot_length) (is : may_follow list change ≡ true) where
     abbrev bytes : List ℕ
     bytes = length_field (length change) ++ change ++ 0 ∷ []
 
@@ -97,7 +97,7 @@ module _ (is_image is_change : List ℕ → Bool) (base p0 p1 gate : ℕ) (list 
     long_laid = length_written (gate + 1) bytes file behind_gate
 
     -- a crash of the first write leaves the list
-    first_cut : (other : List ℕ) → CutShort (gate + 1) (length bytes) file other → HasEither is_image is_change list (list ++ change ∷ []) other
+    first_cut : (other : List ℕ) → CutShort (gate + 1) (length bytes) file other → HasEither is_image may_follow list (list ++ change ∷ []) other
     first_cut other cut =
         let same = before_cut (gate + 1) (length bytes) file other behind_gate cut in
         inl (has_list other (same_earlier other file gate (gate + 1) (omega arith) same) (omega (arith, stands.there, cut.no_shorter)) (ap is_open (same_byte other file gate (gate + 1) (omega arith) same) ∙ stands.closed))
@@ -110,18 +110,18 @@ module _ (is_image is_change : List ℕ → Bool) (base p0 p1 gate : ℕ) (list 
 
     -- a file in which the gate is open and the record stands behind it
     opened : (other : List ℕ) → take gate other ≡ take gate file → drop gate other ≡ 0x5a ∷ length_field (length change) ++ (change ++ tail)
-        → journal_at is_image is_change other ≡ Ok (list ++ change ∷ [])
+        → journal_at is_image may_follow other ≡ Ok (list ++ change ∷ [])
     opened other same from =
         let w = length other in
         reads_on other same
-        ∙ ap (λ (l : List ℕ). records_at is_change w limit 0 gate l >>= go_on list >>= list_of_slot) from
-        ∙ ap (λ (r : Reads Records). r >>= go_on list >>= list_of_slot) (open_gate is_change w limit gate change tail short within is)
-        ∙ ap (λ (r : Reads Records). r >>= list_of_slot) (go_on-push list change (records_at is_change w limit 0 (gate + 5 + length change) tail))
-        ∙ ap (λ (r : Reads Records). r >>= go_on (list ++ change ∷ []) >>= list_of_slot) (closed_gate is_change w limit 0 (gate + 5 + length change) (drop (gate + 1 + length bytes) file) refl)
+        ∙ ap (λ (l : List ℕ). records_at may_follow w limit list 0 gate l >>= go_on list >>= list_of_slot) from
+        ∙ ap (λ (r : Reads Records). r >>= go_on list >>= list_of_slot) (open_gate may_follow w limit list gate change tail short within is)
+        ∙ ap (λ (r : Reads Records). r >>= list_of_slot) (go_on-push list change (records_at may_follow w limit (list ++ change ∷ []) 0 (gate + 5 + length change) tail))
+        ∙ ap (λ (r : Reads Records). r >>= go_on (list ++ change ∷ []) >>= list_of_slot) (closed_gate may_follow w limit (list ++ change ∷ []) 0 (gate + 5 + length change) (drop (gate + 1 + length bytes) file) refl)
         ∙ ap (λ (r : Reads Records). r >>= list_of_slot) (go_on-none (list ++ change ∷ []))
 
     -- a crash of the second write leaves the list with the change or without it
-    second_cut : (other : List ℕ) → CutShort gate 1 laid other → HasEither is_image is_change list (list ++ change ∷ []) other
+    second_cut : (other : List ℕ) → CutShort gate 1 laid other → HasEither is_image may_follow list (list ++ change ∷ []) other
     second_cut other cut =
         let there : gate < length laid = omega (arith, long_laid, stands.there) in
         let same : take gate other ≡ take gate file = before_cut gate 1 laid other (omega (arith, there)) cut ∙ same_earlier laid file gate (gate + 1) (omega arith) laid_before in
@@ -162,7 +162,7 @@ module _ (is_image is_change : List ℕ → Bool) (base p0 p1 gate : ℕ) (list 
     long_added : next < length added
     long_added = omega (arith, ap length next_from, length-drop next added)
 
-    slot_added : HasUpTo (slot_at is_image is_change start) is_change limit start next (list ++ change ∷ []) added
+    slot_added : HasUpTo (slot_at is_image may_follow start) may_follow limit start next (list ++ change ∷ []) added
     slot_added other same =
         let w = length other in
         let earlier : take (gate - start) (drop start other) ≡ take (gate - start) (drop start file) =
@@ -181,11 +181,11 @@ module _ (is_image is_change : List ℕ → Bool) (base p0 p1 gate : ℕ) (list 
         ∙ ap (λ (l : List ℕ). record_bytes ++ l) (drop-drop (5 + length change) gate other ∙ ap (λ (n : ℕ). drop n other) (omega arith))
         ∙ ap (λ (l : List ℕ). 0x5a ∷ l) (append_assoc (length_field (length change)) change (drop next other)) in
         stands.slot other earlier
-        ∙ ap (λ (l : List ℕ). records_at is_change w limit 0 gate l >>= go_on list) from
-        ∙ ap (λ (r : Reads Records). r >>= go_on list) (open_gate is_change w limit gate change (drop next other) short within is)
-        ∙ go_on-push list change (records_at is_change w limit 0 next (drop next other))
+        ∙ ap (λ (l : List ℕ). records_at may_follow w limit list 0 gate l >>= go_on list) from
+        ∙ ap (λ (r : Reads Records). r >>= go_on list) (open_gate may_follow w limit list gate change (drop next other) short within is)
+        ∙ go_on-push list change (records_at may_follow w limit (list ++ change ∷ []) 0 next (drop next other))
 
-    added_stands : IsInUse is_image is_change base p0 p1 next (list ++ change ∷ []) added
+    added_stands : IsInUse is_image may_follow base p0 p1 next (list ++ change ∷ []) added
     added_stands = record {
       far = stands.far;
       head = λ other same. stands.head other (same ∙ same_earlier added file base gate (omega (arith, far, stands.behind)) added_before);
@@ -198,7 +198,7 @@ module _ (is_image is_change : List ℕ → Bool) (base p0 p1 gate : ℕ) (list 
       slot = slot_added;
     }
 
-    pub change_commits : Commits is_image is_change list (list ++ change ∷ []) (gate + 1) bytes gate 0x5a (InUse base p0 p1 next) file
+    pub change_commits : Commits is_image may_follow list (list ++ change ∷ []) (gate + 1) bytes gate 0x5a (InUse base p0 p1 next) file
     change_commits = record {
       first = first_cut;
       second = second_cut;

@@ -2,7 +2,7 @@
 use Rattle.std.proofs.Common.{◌≡◌, ℕ, ◌+◌, ◌-◌, ◌≤◌, ◌<◌, Bool, true, false, List, [], ◌∷◌, ◌++◌, length, take, drop, get_or, refl, sym, ap, subst, ◌∙◌, arith}
 use Rattle.std.specs.Prelude.{Ok, Err, Option, Some, None}
 use Rattle.std.proofs.lemmas.List.{drop-drop, drop-take, drop_all, drop_more, length-take, length-drop, take-append-drop, get_or-drop}
-use Rattle.mt_journal.specs.Layout.{Reads, Records, ◌>>=◌, after_one, is_move, is_open, log_at, piece_at, records_at, slot_at, slot_length}
+use Rattle.mt_journal.specs.Layout.{MayFollow, Reads, Records, ◌>>=◌, after_one, is_move, is_open, log_at, piece_at, records_at, slot_at, slot_length}
 use Rattle.mt_journal.specs.Recovering.{LaysOut, OnlyRead, OpenRead, RecordRead}
 use Rattle.mt_journal.specs.Standing.{HasUpTo, go_on}
 use Rattle.mt_journal.proofs.Fields.{lies_too, no_length, piece_found, piece_refused}
@@ -18,62 +18,63 @@ module _ {D : Type 0} (contents : D → Option (List ℕ)) (images : D → List 
     moments = in_turn moment images_since old mid new (images old) first.moments (weaker moment images_since mid new (images mid) (images old) first.crash second.moments);
   }
 
-module _ (is_change : List ℕ → Bool) (whole : ℕ) (limit : Option ℕ) (gate : ℕ) (file : List ℕ) where
-  pub no_gate : length file ≤ gate → records_at is_change whole limit 0 gate (drop gate file) ≡ Err whole
-  no_gate short = ap (λ (l : List ℕ). records_at is_change whole limit 0 gate l) (drop_all gate file short)
+module _ (may_follow : MayFollow) (list : List (List ℕ)) (whole : ℕ) (limit : Option ℕ) (gate : ℕ) (file : List ℕ) where
+  pub no_gate : length file ≤ gate → records_at may_follow whole limit list 0 gate (drop gate file) ≡ Err whole
+  no_gate short = ap (λ (l : List ℕ). records_at may_follow whole limit list 0 gate l) (drop_all gate file short)
 
-  pub at_closed : gate < length file → is_open (get_or file gate 0) ≡ false → records_at is_change whole limit 0 gate (drop gate file) ≡ Ok no_more
-  at_closed there shut = ap (λ (l : List ℕ). records_at is_change whole limit 0 gate l) (drop_more file gate 0 there) ∙ closed_gate is_change whole limit (get_or file gate 0) gate (drop (gate + 1) file) shut
+  pub at_closed : gate < length file → is_open (get_or file gate 0) ≡ false → records_at may_follow whole limit list 0 gate (drop gate file) ≡ Ok no_more
+  at_closed there shut = ap (λ (l : List ℕ). records_at may_follow whole limit list 0 gate l) (drop_more file gate 0 there) ∙ closed_gate may_follow whole limit list (get_or file gate 0) gate (drop (gate + 1) file) shut
 
   module _ (open_ : OpenRead gate file) where
     abbrev behind : List ℕ
     behind = drop (gate + 1) file
 
     abbrev with_piece : Reads Records
-    with_piece = (piece_at is_change whole limit (gate + 1) behind >>= λ piece. records_at is_change whole limit (4 + length piece.0) (gate + 1) behind >>= after_one piece.0)
+    with_piece = (piece_at (may_follow list) whole limit (gate + 1) behind >>= λ piece. records_at may_follow whole limit (list ++ piece.0 ∷ []) (4 + length piece.0) (gate + 1) behind >>= after_one piece.0)
 
-    opened : records_at is_change whole limit 0 gate (drop gate file) ≡ records_at is_change whole limit 0 gate (0x5a ∷ behind)
+    opened : records_at may_follow whole limit list 0 gate (drop gate file) ≡ records_at may_follow whole limit list 0 gate (0x5a ∷ behind)
     opened =
-        ap (λ (l : List ℕ). records_at is_change whole limit 0 gate l) (drop_more file gate 0 open_.there)
+        ap (λ (l : List ℕ). records_at may_follow whole limit list 0 gate l) (drop_more file gate 0 open_.there)
         ∙ if_true (is_open (get_or file gate 0)) _ (Ok no_more) open_.opens
 
-    pub at_move : is_move limit behind ≡ true → records_at is_change whole limit 0 gate (drop gate file) ≡ Ok (record { changes = []; moved = Some (gate + 5) })
+    pub at_move : is_move limit behind ≡ true → records_at may_follow whole limit list 0 gate (drop gate file) ≡ Ok (record { changes = []; moved = Some (gate + 5) })
     at_move is = opened ∙ if_true (is_move limit behind) (Ok (record { changes = []; moved = Some (gate + 5) })) with_piece is
 
-    pub at_gate : is_move limit behind ≡ false → records_at is_change whole limit 0 gate (drop gate file) ≡ with_piece
+    pub at_gate : is_move limit behind ≡ false → records_at may_follow whole limit list 0 gate (drop gate file) ≡ with_piece
     at_gate is = opened ∙ if_false (is_move limit behind) (Ok (record { changes = []; moved = Some (gate + 5) })) with_piece is
 
-    pub piece_wrong : is_move limit behind ≡ false → (at : ℕ) → piece_at is_change whole limit (gate + 1) behind ≡ Err at → records_at is_change whole limit 0 gate (drop gate file) ≡ Err at
-    piece_wrong is at wrong = at_gate is ∙ ap (λ (r : Reads (List ℕ × List ℕ)). r >>= λ piece. records_at is_change whole limit (4 + length piece.0) (gate + 1) behind >>= after_one piece.0) wrong
+    pub piece_wrong : is_move limit behind ≡ false → (at : ℕ) → piece_at (may_follow list) whole limit (gate + 1) behind ≡ Err at → records_at may_follow whole limit list 0 gate (drop gate file) ≡ Err at
+    piece_wrong is at wrong = at_gate is ∙ ap (λ (r : Reads (List ℕ × List ℕ)). r >>= λ piece. records_at may_follow whole limit (list ++ piece.0 ∷ []) (4 + length piece.0) (gate + 1) behind >>= after_one piece.0) wrong
 
-    pub length_wrong : length behind < 4 → records_at is_change whole limit 0 gate (drop gate file) ≡ Err whole
-    length_wrong few = piece_wrong (cut_is_no_move limit behind few) whole (no_length is_change whole limit (gate + 1) behind few)
+    pub length_wrong : length behind < 4 → records_at may_follow whole limit list 0 gate (drop gate file) ≡ Err whole
+    length_wrong few = piece_wrong (cut_is_no_move limit behind few) whole (no_length (may_follow list) whole limit (gate + 1) behind few)
 
-    pub form_wrong : (bytes : List ℕ) → LaysOut limit (gate + 1) behind bytes → is_change bytes ≡ false → records_at is_change whole limit 0 gate (drop gate file) ≡ Err (gate + 5)
+    pub form_wrong : (bytes : List ℕ) → LaysOut limit (gate + 1) behind bytes → may_follow list bytes ≡ false → records_at may_follow whole limit list 0 gate (drop gate file) ≡ Err (gate + 5)
     form_wrong bytes lies wrong =
         piece_wrong (short_is_no_move limit behind (omega (arith, lies.count, lies.short))) (gate + 5)
-        (piece_refused limit (gate + 1) behind bytes lies is_change whole wrong ∙ ap (λ (p : ℕ). Err p) (omega arith))
+        (piece_refused limit (gate + 1) behind bytes lies (may_follow list) whole wrong ∙ ap (λ (p : ℕ). Err p) (omega arith))
 
 -- one record more
-one_record : (is_change : List ℕ → Bool) (whole : ℕ) (limit : Option ℕ) (gate : ℕ) (bytes file : List ℕ) → RecordRead is_change limit gate bytes file
-    → records_at is_change whole limit 0 gate (drop gate file) ≡ (records_at is_change whole limit 0 (gate + 5 + length bytes) (drop (gate + 5 + length bytes) file) >>= after_one bytes)
-one_record is_change whole limit gate bytes file found =
+one_record : (may_follow : MayFollow) (list : List (List ℕ)) (whole : ℕ) (limit : Option ℕ) (gate : ℕ) (bytes file : List ℕ) → RecordRead may_follow list limit gate bytes file
+    → records_at may_follow whole limit list 0 gate (drop gate file) ≡ (records_at may_follow whole limit (list ++ bytes ∷ []) 0 (gate + 5 + length bytes) (drop (gate + 5 + length bytes) file) >>= after_one bytes)
+one_record may_follow list whole limit gate bytes file found =
     let n = length bytes in
+    let more = list ++ bytes ∷ [] in
     let rest = drop (gate + 1) file in
-    let go : Reads (List ℕ × List ℕ) → Reads Records = λ read. (read >>= λ piece. records_at is_change whole limit (4 + length piece.0) (gate + 1) rest >>= after_one piece.0) in
+    let go : Reads (List ℕ × List ℕ) → Reads Records = λ read. (read >>= λ piece. records_at may_follow whole limit (list ++ piece.0 ∷ []) (4 + length piece.0) (gate + 1) rest >>= after_one piece.0) in
     let long : length (take (4 + n) rest) ≡ 4 + n = omega (arith, length-take (4 + n) rest, found.lies.there) in
-    let over : records_at is_change whole limit (4 + n) (gate + 1) rest ≡ records_at is_change whole limit 0 (gate + 5 + n) (drop (gate + 5 + n) file) =
-    ap (λ (l : List ℕ). records_at is_change whole limit (4 + n) (gate + 1) l) (sym (take-append-drop (4 + n) rest))
-    ∙ passed_over is_change whole limit (take (4 + n) rest) (drop (4 + n) rest) (4 + n) (gate + 1) (sym long)
-    ∙ ap (λ (p : ℕ). records_at is_change whole limit 0 p (drop (4 + n) rest)) (omega (arith, long))
-    ∙ ap (λ (l : List ℕ). records_at is_change whole limit 0 (gate + 5 + n) l) (drop-drop (4 + n) (gate + 1) file ∙ ap (λ (k : ℕ). drop k file) (omega arith)) in
-    at_gate is_change whole limit gate file found.open_ (short_is_no_move limit rest (omega (arith, found.lies.count, found.lies.short)))
-    ∙ ap go (piece_found limit (gate + 1) rest bytes found.lies is_change whole found.form)
+    let over : records_at may_follow whole limit more (4 + n) (gate + 1) rest ≡ records_at may_follow whole limit more 0 (gate + 5 + n) (drop (gate + 5 + n) file) =
+    ap (λ (l : List ℕ). records_at may_follow whole limit more (4 + n) (gate + 1) l) (sym (take-append-drop (4 + n) rest))
+    ∙ passed_over may_follow whole limit more (take (4 + n) rest) (drop (4 + n) rest) (4 + n) (gate + 1) (sym long)
+    ∙ ap (λ (p : ℕ). records_at may_follow whole limit more 0 p (drop (4 + n) rest)) (omega (arith, long))
+    ∙ ap (λ (l : List ℕ). records_at may_follow whole limit more 0 (gate + 5 + n) l) (drop-drop (4 + n) (gate + 1) file ∙ ap (λ (k : ℕ). drop k file) (omega arith)) in
+    at_gate may_follow list whole limit gate file found.open_ (short_is_no_move limit rest (omega (arith, found.lies.count, found.lies.short)))
+    ∙ ap go (piece_found limit (gate + 1) rest bytes found.lies (may_follow list) whole found.form)
     ∙ ap (λ (r : Reads Records). r >>= after_one bytes) over
 
 -- a record stands in another file too that is the same up to its end
-found_too : (is_change : List ℕ → Bool) (limit : Option ℕ) (gate : ℕ) (bytes file other : List ℕ) → RecordRead is_change limit gate bytes file → take (5 + length bytes) (drop gate other) ≡ take (5 + length bytes) (drop gate file) → RecordRead is_change limit gate bytes other
-found_too is_change limit gate bytes file other found same =
+found_too : (may_follow : MayFollow) (list : List (List ℕ)) (limit : Option ℕ) (gate : ℕ) (bytes file other : List ℕ) → RecordRead may_follow list limit gate bytes file → take (5 + length bytes) (drop gate other) ≡ take (5 + length bytes) (drop gate file) → RecordRead may_follow list limit gate bytes other
+found_too may_follow list limit gate bytes file other found same =
     let n = length bytes in
     let fits : 5 + n ≤ length (drop gate file) = omega (arith, found.lies.there, length-drop (gate + 1) file, length-drop gate file, found.open_.there) in
     let long : 5 + n ≤ length (drop gate other) = as_long (drop gate other) (drop gate file) (5 + n) fits same in
@@ -88,9 +89,9 @@ found_too is_change limit gate bytes file other found same =
     }
 
 -- What was read up to a gate goes on there.
-module _ (reads : List ℕ → Reads Records) (is_change : List ℕ → Bool) (limit : Option ℕ) (start gate : ℕ) (list : List (List ℕ)) (file : List ℕ) (behind : start ≤ gate) (up_to : HasUpTo reads is_change limit start gate list file) where
+module _ (reads : List ℕ → Reads Records) (may_follow : MayFollow) (limit : Option ℕ) (start gate : ℕ) (list : List (List ℕ)) (file : List ℕ) (behind : start ≤ gate) (up_to : HasUpTo reads may_follow limit start gate list file) where
   -- to one more record
-  pub after_record : (bytes : List ℕ) → RecordRead is_change limit gate bytes file → HasUpTo reads is_change limit start (gate + (5 + length bytes)) (list ++ bytes ∷ []) file
+  pub after_record : (bytes : List ℕ) → RecordRead may_follow list limit gate bytes file → HasUpTo reads may_follow limit start (gate + (5 + length bytes)) (list ++ bytes ∷ []) file
   after_record bytes found other same =
       let n = length bytes in
       let next = gate + (5 + n) in
@@ -101,29 +102,29 @@ module _ (reads : List ℕ → Reads Records) (is_change : List ℕ → Bool) (l
       (ap (λ (m : ℕ). drop (gate - start) (take m (drop start l))) (sym k)
       ∙ drop-take (gate - start) (5 + n) (drop start l)
       ∙ ap (λ (d : List ℕ). take (5 + n) d) (drop-drop (gate - start) start l ∙ ap (λ (m : ℕ). drop m l) (omega (arith, behind)))) in
-      let too = found_too is_change limit gate bytes file other found (sym (on other) ∙ ap (λ (l : List ℕ). drop (gate - start) l) same ∙ on file) in
+      let too = found_too may_follow list limit gate bytes file other found (sym (on other) ∙ ap (λ (l : List ℕ). drop (gate - start) l) same ∙ on file) in
       let place : gate + 5 + n ≡ next = omega arith in
       up_to other earlier
-      ∙ ap (λ (r : Reads Records). r >>= go_on list) (one_record is_change w limit gate bytes other too)
-      ∙ go_on-push list bytes (records_at is_change w limit 0 (gate + 5 + n) (drop (gate + 5 + n) other))
-      ∙ ap (λ (p : ℕ). records_at is_change w limit 0 p (drop p other) >>= go_on (list ++ bytes ∷ [])) place
+      ∙ ap (λ (r : Reads Records). r >>= go_on list) (one_record may_follow list w limit gate bytes other too)
+      ∙ go_on-push list bytes (records_at may_follow w limit (list ++ bytes ∷ []) 0 (gate + 5 + n) (drop (gate + 5 + n) other))
+      ∙ ap (λ (p : ℕ). records_at may_follow w limit (list ++ bytes ∷ []) 0 p (drop p other) >>= go_on (list ++ bytes ∷ [])) place
 
   -- to a record that is none
-  pub record_wrong : (at : ℕ) → records_at is_change (length file) limit 0 gate (drop gate file) ≡ Err at → reads file ≡ Err at
+  pub record_wrong : (at : ℕ) → records_at may_follow (length file) limit list 0 gate (drop gate file) ≡ Err at → reads file ≡ Err at
   record_wrong at wrong = up_to file refl ∙ ap (λ (r : Reads Records). r >>= go_on list) wrong
 
   -- to a closed gate, in each file that is the same up to there
   pub ends_closed : (other : List ℕ) → take (gate - start) (drop start other) ≡ take (gate - start) (drop start file) → gate < length other → is_open (get_or other gate 0) ≡ false → reads other ≡ go_on list no_more
-  ends_closed other same there shut = up_to other same ∙ ap (λ (r : Reads Records). r >>= go_on list) (at_closed is_change (length other) limit gate other there shut)
+  ends_closed other same there shut = up_to other same ∙ ap (λ (r : Reads Records). r >>= go_on list) (at_closed may_follow list (length other) limit gate other there shut)
 
   -- to the mark of a move
   pub ends_moved : (other : List ℕ) → take (gate - start) (drop start other) ≡ take (gate - start) (drop start file) → OpenRead gate other → is_move limit (drop (gate + 1) other) ≡ true → reads other ≡ go_on list (record { changes = []; moved = Some (gate + 5) })
-  ends_moved other same open_ is = up_to other same ∙ ap (λ (r : Reads Records). r >>= go_on list) (at_move is_change (length other) limit gate other open_ is)
+  ends_moved other same open_ is = up_to other same ∙ ap (λ (r : Reads Records). r >>= go_on list) (at_move may_follow list (length other) limit gate other open_ is)
 
-module _ (is_image is_change : List ℕ → Bool) (start : ℕ) (file : List ℕ) where
+module _ (is_image : List ℕ → Bool) (may_follow : MayFollow) (start : ℕ) (file : List ℕ) where
   -- after the image
   pub after_image : (image : List ℕ) → LaysOut (Some (start + slot_length)) start (drop start file) image → is_image image ≡ true
-      → HasUpTo (slot_at is_image is_change start) is_change (Some (start + slot_length)) start (start + 4 + length image) (image ∷ []) file
+      → HasUpTo (slot_at is_image may_follow start) may_follow (Some (start + slot_length)) start (start + 4 + length image) (image ∷ []) file
   after_image image lies is other same =
       let n = length image in
       let e : Option ℕ = Some (start + slot_length) in
@@ -131,24 +132,24 @@ module _ (is_image is_change : List ℕ → Bool) (start : ℕ) (file : List ℕ
       let size : start + 4 + n - start ≡ 4 + n = omega arith in
       let same_piece : take (4 + n) (drop start other) ≡ take (4 + n) (drop start file) = ap (λ (k : ℕ). take k (drop start other)) (sym size) ∙ same ∙ ap (λ (k : ℕ). take k (drop start file)) size in
       let too = lies_too e start (drop start file) image lies (drop start other) same_piece in
-      let go : Reads (List ℕ × List ℕ) → Reads Records = λ read. (read >>= λ image. records_at is_change w e 0 (start + 4 + length image.0) image.1 >>= after_one image.0) in
+      let go : Reads (List ℕ × List ℕ) → Reads Records = λ read. (read >>= λ image. records_at may_follow w e (image.0 ∷ []) 0 (start + 4 + length image.0) image.1 >>= after_one image.0) in
       ap go (piece_found e start (drop start other) image too is_image w is)
-      ∙ ap (λ (l : List ℕ). records_at is_change w e 0 (start + 4 + n) l >>= after_one image) (drop-drop (4 + n) start other ∙ ap (λ (k : ℕ). drop k other) (omega arith))
+      ∙ ap (λ (l : List ℕ). records_at may_follow w e (image ∷ []) 0 (start + 4 + n) l >>= after_one image) (drop-drop (4 + n) start other ∙ ap (λ (k : ℕ). drop k other) (omega arith))
 
   -- the image is none
-  pub image_wrong : (at : ℕ) → piece_at is_image (length file) (Some (start + slot_length)) start (drop start file) ≡ Err at → slot_at is_image is_change start file ≡ Err at
-  image_wrong at wrong = ap (λ (r : Reads (List ℕ × List ℕ)). r >>= λ image. records_at is_change (length file) (Some (start + slot_length)) 0 (start + 4 + length image.0) image.1 >>= after_one image.0) wrong
+  pub image_wrong : (at : ℕ) → piece_at is_image (length file) (Some (start + slot_length)) start (drop start file) ≡ Err at → slot_at is_image may_follow start file ≡ Err at
+  image_wrong at wrong = ap (λ (r : Reads (List ℕ × List ℕ)). r >>= λ image. records_at may_follow (length file) (Some (start + slot_length)) (image.0 ∷ []) 0 (start + 4 + length image.0) image.1 >>= after_one image.0) wrong
 
   -- the same, as it is read
   pub slot_up_to : (image : List ℕ) (list : List (List ℕ)) (n : ℕ) → LaysOut (Some (start + slot_length)) start (drop start file) image → is_image image ≡ true → list ≡ image ∷ [] → n ≡ length image
-      → HasUpTo (slot_at is_image is_change start) is_change (Some (start + slot_length)) start (start + 4 + n) list file
+      → HasUpTo (slot_at is_image may_follow start) may_follow (Some (start + slot_length)) start (start + 4 + n) list file
   slot_up_to image list n lies is list_is n_is =
-      subst (λ (l : List (List ℕ)). HasUpTo (slot_at is_image is_change start) is_change (Some (start + slot_length)) start (start + 4 + n) l file) (sym list_is)
-      (subst (λ (k : ℕ). HasUpTo (slot_at is_image is_change start) is_change (Some (start + slot_length)) start (start + 4 + k) (image ∷ []) file) (sym n_is) (after_image image lies is))
+      subst (λ (l : List (List ℕ)). HasUpTo (slot_at is_image may_follow start) may_follow (Some (start + slot_length)) start (start + 4 + n) l file) (sym list_is)
+      (subst (λ (k : ℕ). HasUpTo (slot_at is_image may_follow start) may_follow (Some (start + slot_length)) start (start + 4 + k) (image ∷ []) file) (sym n_is) (after_image image lies is))
 
 -- a log begins with no change
-pub log_begins : (is_change : List ℕ → Bool) (list : List (List ℕ)) (file : List ℕ) → list ≡ [] → HasUpTo (log_at is_change) is_change None 8 8 list file
-log_begins is_change list file none other same = nothing (log_at is_change other) ∙ ap (λ (l : List (List ℕ)). log_at is_change other >>= go_on l) (sym none)
+pub log_begins : (may_follow : MayFollow) (list : List (List ℕ)) (file : List ℕ) → list ≡ [] → HasUpTo (log_at may_follow) may_follow None 8 8 list file
+log_begins may_follow list file none other same = nothing (log_at may_follow other) ∙ ap (λ (l : List (List ℕ)). records_at may_follow (length other) None l 0 8 (drop 8 other) >>= go_on l) (sym none)
   where
     nothing : (read : Reads Records) → read ≡ (read >>= go_on [])
     nothing (Ok records) = refl

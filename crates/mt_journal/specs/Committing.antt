@@ -1,7 +1,7 @@
 -- What a commit writes, and why a crash at any moment leaves what was there before it or after it.
 use Rattle.std.specs.Prelude.{◌≡◌, ◌⊎◌, ℕ, Bool, true, false, List, [], ◌∷◌, ◌++◌, length, Ok}
 use Rattle.mt_outside.specs.Disk.{CutShort, overwritten}
-use Rattle.mt_journal.specs.Layout.{journal_at}
+use Rattle.mt_journal.specs.Layout.{MayFollow, journal_at}
 use Rattle.mt_journal.specs.Standing.{HasEither, Stands, fits_at, length_field}
 use Rattle.mt_journal.specs.declared.place.Place.{Place}
 use Rattle.mt_journal.specs.declared.place.Place.TheVariants.{Fresh, Begun, Log, InUse}
@@ -16,10 +16,10 @@ abbrev pub list_with : Kind → List ℕ → List (List ℕ) → List (List ℕ)
 list_with Change piece list = list ++ piece ∷ []
 list_with Image piece list = piece ∷ []
 
--- the piece is of the form that its kind asks for
-abbrev pub has_form : (List ℕ → Bool) → (List ℕ → Bool) → Kind → List ℕ → Bool
-has_form is_image is_change Change piece = is_change piece
-has_form is_image is_change Image piece = is_image piece
+-- the piece is of the form that its kind asks for, behind this list
+abbrev pub has_form : (List ℕ → Bool) → MayFollow → Kind → List (List ℕ) → List ℕ → Bool
+has_form is_image may_follow Change list piece = may_follow list piece
+has_form is_image may_follow Image list piece = is_image piece
 
 -- an image always finds room
 abbrev pub has_room : Kind → Place → ℕ → Bool
@@ -55,12 +55,12 @@ abbrev pub CutIn : Step → List ℕ → List ℕ → List ℕ → Type 0
 CutIn step piece file image = CutShort step.at (length (laid_out step.front piece)) file image ⊎ CutShort step.last_at 1 (piece_written step piece file) image
 
 -- Bytes are written at a place and, once they are safe, one byte, which makes them count. A crash leaves the one list or the other, and in the end the file has the other, and this place stands for it.
-pub record Commits (is_image is_change : List ℕ → Bool) (list other : List (List ℕ)) (at : ℕ) (bytes : List ℕ) (last_at last : ℕ) (next : Place) (file : List ℕ) : Type 0 where
-  pub first : (image : List ℕ) → CutShort at (length bytes) file image → HasEither is_image is_change list other image
-  pub second : (image : List ℕ) → CutShort last_at 1 (overwritten at bytes file) image → HasEither is_image is_change list other image
-  pub stands : Stands is_image is_change next other (overwritten last_at (last ∷ []) (overwritten at bytes file))
-  pub has : journal_at is_image is_change (overwritten last_at (last ∷ []) (overwritten at bytes file)) ≡ Ok other
+pub record Commits (is_image : List ℕ → Bool) (may_follow : MayFollow) (list other : List (List ℕ)) (at : ℕ) (bytes : List ℕ) (last_at last : ℕ) (next : Place) (file : List ℕ) : Type 0 where
+  pub first : (image : List ℕ) → CutShort at (length bytes) file image → HasEither is_image may_follow list other image
+  pub second : (image : List ℕ) → CutShort last_at 1 (overwritten at bytes file) image → HasEither is_image may_follow list other image
+  pub stands : Stands is_image may_follow next other (overwritten last_at (last ∷ []) (overwritten at bytes file))
+  pub has : journal_at is_image may_follow (overwritten last_at (last ∷ []) (overwritten at bytes file)) ≡ Ok other
 
 -- the same of a step, with this piece
-abbrev pub StepCommits : (List ℕ → Bool) → (List ℕ → Bool) → Kind → List ℕ → List (List ℕ) → Step → List ℕ → Type 0
-StepCommits is_image is_change kind piece list step file = Commits is_image is_change list (list_with kind piece list) step.at (laid_out step.front piece) step.last_at step.last step.next file
+abbrev pub StepCommits : (List ℕ → Bool) → MayFollow → Kind → List ℕ → List (List ℕ) → Step → List ℕ → Type 0
+StepCommits is_image may_follow kind piece list step file = Commits is_image may_follow list (list_with kind piece list) step.at (laid_out step.front piece) step.last_at step.last step.next file

@@ -1,5 +1,5 @@
--- Which list of changes the bytes of a journal are: an image of the whole state and the changes after it, each in the order in which they were made. There are two layouts: slots, and the earlier log, which a move carries over into slots behind it.
-use Rattle.std.specs.Prelude.{ℕ, zero, suc, ◌+◌, ◌*◌, Bool, true, false, List, [], ◌∷◌, length, take, drop, get_or, Option, Some, None, Result, Ok, Err, nat_lt, not, ◌==◌, ◌&&◌, ◌||◌, if◌then◌else◌}
+-- Which list of changes the bytes of a journal are: an image of the whole state and the changes after it, each in the order in which they were made. Which bytes are an image, and which may follow a list as a change, is given. There are two layouts: slots, and the earlier log, which a move carries over into slots behind it.
+use Rattle.std.specs.Prelude.{ℕ, zero, suc, ◌+◌, ◌*◌, Bool, true, false, List, [], ◌∷◌, length, take, drop, get_or, Option, Some, None, Result, Ok, Err, nat_lt, not, ◌==◌, ◌++◌, ◌&&◌, ◌||◌, if◌then◌else◌}
 
 -- what is read, or the place of the byte from which on the file is no journal
 abbrev pub Reads : Type 0 → Type 0
@@ -9,6 +9,10 @@ infixl 10 ◌>>=◌
 abbrev pub ◌>>=◌ : {A B : Type 0} → Reads A → (A → Reads B) → Reads B
 (Ok x) >>= f = f x
 (Err place) >>= f = Err place
+
+-- which bytes are a change that may follow a list
+abbrev pub MayFollow : Type 0
+MayFollow = List (List ℕ) → List ℕ → Bool
 
 -- a gate is open where it is 5a, and closed otherwise
 abbrev pub is_open : ℕ → Bool
@@ -51,13 +55,13 @@ pub record Records : Type 0 where
 abbrev pub after_one : List ℕ → Records → Reads Records
 after_one change records = Ok (record { changes = change ∷ records.changes; moved = records.moved })
 
--- The records from a gate on, which stands behind so many bytes; they begin at this place. The first closed gate ends them, and so does the mark of a move; what follows is not read.
-abbrev pub records_at : (List ℕ → Bool) → ℕ → Option ℕ → ℕ → ℕ → List ℕ → Reads Records
-records_at is_change whole limit behind place [] = Err whole
-records_at is_change whole limit (suc behind) place (byte ∷ rest) = records_at is_change whole limit behind (place + 1) rest
-records_at is_change whole limit zero place (gate ∷ rest) =
+-- The records behind a list, from a gate on, which stands behind so many bytes; they begin at this place. Each change may follow the list and the changes before it. The first closed gate ends them, and so does the mark of a move; what follows is not read.
+abbrev pub records_at : MayFollow → ℕ → Option ℕ → List (List ℕ) → ℕ → ℕ → List ℕ → Reads Records
+records_at may_follow whole limit list behind place [] = Err whole
+records_at may_follow whole limit list (suc behind) place (byte ∷ rest) = records_at may_follow whole limit list behind (place + 1) rest
+records_at may_follow whole limit list zero place (gate ∷ rest) =
     if is_open gate then (if is_move limit rest then Ok (record { changes = []; moved = Some (place + 5) })
-    else (piece_at is_change whole limit (place + 1) rest >>= λ piece. records_at is_change whole limit (4 + length piece.0) (place + 1) rest >>= after_one piece.0))
+    else (piece_at (may_follow list) whole limit (place + 1) rest >>= λ piece. records_at may_follow whole limit (list ++ piece.0 ∷ []) (4 + length piece.0) (place + 1) rest >>= after_one piece.0))
     else Ok (record { changes = []; moved = None })
 
 -- Slots.
@@ -67,10 +71,10 @@ abbrev pub slot_length : ℕ
 slot_length = 1048576
 
 -- the image of a slot that begins here, and its changes
-abbrev pub slot_at : (List ℕ → Bool) → (List ℕ → Bool) → ℕ → List ℕ → Reads Records
-slot_at is_image is_change start file =
+abbrev pub slot_at : (List ℕ → Bool) → MayFollow → ℕ → List ℕ → Reads Records
+slot_at is_image may_follow start file =
     piece_at is_image (length file) (Some (start + slot_length)) start (drop start file) >>= λ image.
-    records_at is_change (length file) (Some (start + slot_length)) 0 (start + 4 + length image.0) image.1 >>= after_one image.0
+    records_at may_follow (length file) (Some (start + slot_length)) (image.0 ∷ []) 0 (start + 4 + length image.0) image.1 >>= after_one image.0
 
 abbrev pub is_selector : ℕ → Bool
 is_selector byte = byte == 0x5a || byte == 0x5b || byte == 0x5c
@@ -96,23 +100,23 @@ abbrev pub list_of_slot : Records → Reads (List (List ℕ))
 list_of_slot slot = Ok slot.changes
 
 -- two selectors, and the two slots after them
-abbrev pub slots_at : (List ℕ → Bool) → (List ℕ → Bool) → ℕ → List ℕ → Reads (List (List ℕ))
-slots_at is_image is_change base file =
+abbrev pub slots_at : (List ℕ → Bool) → MayFollow → ℕ → List ℕ → Reads (List (List ℕ))
+slots_at is_image may_follow base file =
     if nat_lt (length file) (base + 2) then Err (length file)
-    else slot_at is_image is_change (slot_start base (names_slot_one (get_or file base 0) (get_or file (base + 1) 0))) file >>= list_of_slot
+    else slot_at is_image may_follow (slot_start base (names_slot_one (get_or file base 0) (get_or file (base + 1) 0))) file >>= list_of_slot
 
 -- The earlier layout: a log, whose first gate stands at 8.
 
-abbrev pub log_at : (List ℕ → Bool) → List ℕ → Reads Records
-log_at is_change file = records_at is_change (length file) None 0 8 (drop 8 file)
+abbrev pub log_at : MayFollow → List ℕ → Reads Records
+log_at may_follow file = records_at may_follow (length file) None [] 0 8 (drop 8 file)
 
 -- what a log has is the list, unless a move ended it: then what the slots behind it hold, and nothing else
-abbrev pub list_of_log : (List ℕ → Bool) → (List ℕ → Bool) → List ℕ → List (List ℕ) → Option ℕ → Reads (List (List ℕ))
-list_of_log is_image is_change file changes None = Ok changes
-list_of_log is_image is_change file changes (Some base) = slots_at is_image is_change base file
+abbrev pub list_of_log : (List ℕ → Bool) → MayFollow → List ℕ → List (List ℕ) → Option ℕ → Reads (List (List ℕ))
+list_of_log is_image may_follow file changes None = Ok changes
+list_of_log is_image may_follow file changes (Some base) = slots_at is_image may_follow base file
 
-abbrev pub log_list : (List ℕ → Bool) → (List ℕ → Bool) → List ℕ → Records → Reads (List (List ℕ))
-log_list is_image is_change file log = list_of_log is_image is_change file log.changes log.moved
+abbrev pub log_list : (List ℕ → Bool) → MayFollow → List ℕ → Records → Reads (List (List ℕ))
+log_list is_image may_follow file log = list_of_log is_image may_follow file log.changes log.moved
 
 -- The eight bytes in front: "MTJRNL2" and a line feed, and of a log "MTJRNL1".
 
@@ -136,13 +140,13 @@ same_front (x ∷ xs) (y ∷ ys) = if x == y then suc (same_front xs ys) else 0
 same_front xs ys = 0
 
 -- what follows the mark of a log, or the mark of slots: these have no record where the begin gate is closed
-abbrev pub marked_at : (List ℕ → Bool) → (List ℕ → Bool) → Bool → List ℕ → Reads (List (List ℕ))
-marked_at is_image is_change true file = log_at is_change file >>= log_list is_image is_change file
-marked_at is_image is_change false file = if is_open (get_or file 8 0) then slots_at is_image is_change 9 file else Ok []
+abbrev pub marked_at : (List ℕ → Bool) → MayFollow → Bool → List ℕ → Reads (List (List ℕ))
+marked_at is_image may_follow true file = log_at may_follow file >>= log_list is_image may_follow file
+marked_at is_image may_follow false file = if is_open (get_or file 8 0) then slots_at is_image may_follow 9 file else Ok []
 
 -- The list of a file. At most nine bytes are a journal without a record, whatever they are.
-abbrev pub journal_at : (List ℕ → Bool) → (List ℕ → Bool) → List ℕ → Reads (List (List ℕ))
-journal_at is_image is_change file =
+abbrev pub journal_at : (List ℕ → Bool) → MayFollow → List ℕ → Reads (List (List ℕ))
+journal_at is_image may_follow file =
     if nat_lt (length file) 10 then Ok []
     else if nat_lt (same_front (mark_for (is_log file)) file) 8 then Err (same_front (mark_for (is_log file)) file)
-    else marked_at is_image is_change (is_log file) file
+    else marked_at is_image may_follow (is_log file) file

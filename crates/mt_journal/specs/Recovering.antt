@@ -1,8 +1,8 @@
 -- What is read of a journal's file, and by what faults.
-use Rattle.std.specs.Prelude.{◌≡◌, ◌≤◌, ◌<◌, ◌+◌, ℕ, Bool, true, false, List, length, take, drop, get_or, Result, Ok, Err, Option, ⊤}
+use Rattle.std.specs.Prelude.{◌≡◌, ◌≤◌, ◌<◌, ◌+◌, ℕ, true, false, List, length, take, drop, get_or, Result, Ok, Err, Option, ⊤}
 use Rattle.mt_outside.specs.Disk.{LeavesOnly, NoneNew}
 use Rattle.mt_outside.specs.Stream.{RoseByOne}
-use Rattle.mt_journal.specs.Layout.{Reads, Records, is_move, is_open, is_past, length_of}
+use Rattle.mt_journal.specs.Layout.{MayFollow, Reads, Records, is_move, is_open, is_past, length_of}
 use Rattle.mt_journal.specs.Standing.{HasUpTo}
 use Rattle.mt_journal.specs.declared.reading.AtGate.{AtGate}
 use Rattle.mt_journal.specs.declared.reading.AtGate.TheVariants.{Closed, Moved, Change}
@@ -50,17 +50,17 @@ pub record OpenRead (gate : ℕ) (file : List ℕ) : Type 0 where
   pub there : gate < length file
   pub opens : is_open (get_or file gate 0) ≡ true
 
--- A record was read at this gate, which is open.
-pub record RecordRead (is_change : List ℕ → Bool) (limit : Option ℕ) (gate : ℕ) (bytes file : List ℕ) : Type 0 where
+-- A record was read at this gate, which is open. Its change may follow this list.
+pub record RecordRead (may_follow : MayFollow) (list : List (List ℕ)) (limit : Option ℕ) (gate : ℕ) (bytes file : List ℕ) : Type 0 where
   pub open_ : OpenRead gate file
   pub lies : LaysOut limit (gate + 1) (drop (gate + 1) file) bytes
-  pub form : is_change bytes ≡ true
+  pub form : may_follow list bytes ≡ true
 
 -- A gate was read, which is closed, or the mark of a move behind one that is open, or a record.
-abbrev pub GateRead : (List ℕ → Bool) → Option ℕ → ℕ → AtGate → List ℕ → Type 0
-GateRead is_change limit gate Closed file = (gate < length file) × (is_open (get_or file gate 0) ≡ false)
-GateRead is_change limit gate Moved file = OpenRead gate file × (is_move limit (drop (gate + 1) file) ≡ true)
-GateRead is_change limit gate (Change bytes) file = RecordRead is_change limit gate bytes file
+abbrev pub GateRead : MayFollow → List (List ℕ) → Option ℕ → ℕ → AtGate → List ℕ → Type 0
+GateRead may_follow list limit gate Closed file = (gate < length file) × (is_open (get_or file gate 0) ≡ false)
+GateRead may_follow list limit gate Moved file = OpenRead gate file × (is_move limit (drop (gate + 1) file) ≡ true)
+GateRead may_follow list limit gate (Change bytes) file = RecordRead may_follow list limit gate bytes file
 
 -- what holds of a change that was read
 abbrev pub IsChange : AtGate → (List ℕ → Type 0) → Type 0
@@ -74,6 +74,6 @@ EndsAt (ends.Closed gate) P = P gate
 EndsAt (ends.Moved gate) P = P gate
 
 -- Records were read up to a closed gate, or to the mark of a move.
-abbrev pub RecordsRead : (List ℕ → Reads Records) → (List ℕ → Bool) → Option ℕ → ℕ → RecordsEnd → List (List ℕ) → List ℕ → Type 0
-RecordsRead reads is_change limit start (ends.Closed gate) list file = HasUpTo reads is_change limit start gate list file × (gate < length file) × (is_open (get_or file gate 0) ≡ false)
-RecordsRead reads is_change limit start (ends.Moved gate) list file = HasUpTo reads is_change limit start gate list file × OpenRead gate file × (is_move limit (drop (gate + 1) file) ≡ true)
+abbrev pub RecordsRead : (List ℕ → Reads Records) → MayFollow → Option ℕ → ℕ → RecordsEnd → List (List ℕ) → List ℕ → Type 0
+RecordsRead reads may_follow limit start (ends.Closed gate) list file = HasUpTo reads may_follow limit start gate list file × (gate < length file) × (is_open (get_or file gate 0) ≡ false)
+RecordsRead reads may_follow limit start (ends.Moved gate) list file = HasUpTo reads may_follow limit start gate list file × OpenRead gate file × (is_move limit (drop (gate + 1) file) ≡ true)

@@ -85,16 +85,16 @@ impl<D: Disk, F: Form> Journal<D, F> {
         self.disk
     }
 
-    /// Adds a change at the end of the list, in four calls of the disk. After a failure the journal makes
-    /// no more calls, and has to be recovered: the change is in the list then or it is not.
+    /// Adds a change that may follow the list at its end, in four calls of the disk. After a failure the
+    /// journal makes no more calls, and has to be recovered: the change is in the list then or it is not.
+    /// Behind bytes that may not follow the list, the file is no journal any more.
     pub fn append(&mut self, change: &[u8]) -> Result<(), Failed>
-        requires form { IsTrue (F.change change.now) }
         requires short { length change.now ≤ 65536 }
         requires fits { IsTrue (fits_at self.old.place (length change.now)) }
-        ensures added { (list : List (List ℕ)) → StandsFor D.contents D.images F.image F.change self.old.disk self.old.place list
+        ensures added { (list : List (List ℕ)) → StandsFor D.contents D.images F.image F.change self.old.disk self.old.place list → IsTrue (F.change list change.now)
             → OnOk result (StandsFor D.contents D.images F.image F.change self.new.disk self.new.place (list ++ change.now ∷ [])) }
         // A crash at any moment leaves the list with the change or without it.
-        ensures moments { (list : List (List ℕ)) → StandsFor D.contents D.images F.image F.change self.old.disk self.old.place list
+        ensures moments { (list : List (List ℕ)) → StandsFor D.contents D.images F.image F.change self.old.disk self.old.place list → IsTrue (F.change list change.now)
             → LeavesOnly D.moment D.images_since self.old.disk self.new.disk (HasEither F.image F.change list (list ++ change.now ∷ [])) }
         ensures calls { OnOk result (D.calls self.new.disk ≡ after_calls 4 (D.calls self.old.disk)) }
         // It fails only where the disk has failed in it, or an earlier call has.
@@ -142,12 +142,11 @@ impl<D: Disk, F: Form> Journal<D, F> {
     // Commits a piece, unless an earlier call has failed. While it is under way the journal has failed, so
     // that each way out by a failure leaves it so.
     fn commit(&mut self, kind: Kind, piece: &[u8]) -> Result<(), Failed>
-        requires form { IsTrue (has_form F.image F.change kind piece.now) }
         requires short { length piece.now ≤ 65536 }
         requires room { IsTrue (has_room kind self.old.place (length piece.now)) }
-        ensures committed { (list : List (List ℕ)) → StandsFor D.contents D.images F.image F.change self.old.disk self.old.place list
+        ensures committed { (list : List (List ℕ)) → StandsFor D.contents D.images F.image F.change self.old.disk self.old.place list → IsTrue (has_form F.image F.change kind list piece.now)
             → OnOk result (StandsFor D.contents D.images F.image F.change self.new.disk self.new.place (list_with kind piece.now list)) }
-        ensures moments { (list : List (List ℕ)) → StandsFor D.contents D.images F.image F.change self.old.disk self.old.place list
+        ensures moments { (list : List (List ℕ)) → StandsFor D.contents D.images F.image F.change self.old.disk self.old.place list → IsTrue (has_form F.image F.change kind list piece.now)
             → LeavesOnly D.moment D.images_since self.old.disk self.new.disk (HasEither F.image F.change list (list_with kind piece.now list)) }
         ensures calls { OnOk result (D.calls self.new.disk ≡ after_calls (switch_calls self.old.place) (D.calls self.old.disk)) }
         ensures failed { self.new.failed ≡ is_err result }
@@ -174,12 +173,11 @@ fn commit_at<D: Disk, F: Form>(
 ) -> Result<Place, Failed>
     requires capacity { 65547 ≤ vec_capacity buffer.old }
     requires within { IsWithin place }
-    requires form { IsTrue (has_form F.image F.change kind piece.now) }
     requires short { length piece.now ≤ 65536 }
     requires room { IsTrue (has_room kind place (length piece.now)) }
-    ensures committed { (list : List (List ℕ)) → StandsFor D.contents D.images F.image F.change disk.old place list
+    ensures committed { (list : List (List ℕ)) → StandsFor D.contents D.images F.image F.change disk.old place list → IsTrue (has_form F.image F.change kind list piece.now)
         → IfOk result (λ next. StandsFor D.contents D.images F.image F.change disk.new next (list_with kind piece.now list)) }
-    ensures moments { (list : List (List ℕ)) → StandsFor D.contents D.images F.image F.change disk.old place list
+    ensures moments { (list : List (List ℕ)) → StandsFor D.contents D.images F.image F.change disk.old place list → IsTrue (has_form F.image F.change kind list piece.now)
         → LeavesOnly D.moment D.images_since disk.old disk.new (HasEither F.image F.change list (list_with kind piece.now list)) }
     ensures calls { OnOk result (D.calls disk.new ≡ after_calls (switch_calls place) (D.calls disk.old)) }
     ensures cause { HasCause (D.faults disk.old) (D.faults disk.new) result }

@@ -3,6 +3,7 @@
 ghost use Rattle.std.specs.Prelude.{◌≡◌, ◌≤◌, ◌+◌, ◌^◌, ℕ, List, Bool, length, IsTrue};
 ghost use Rattle.mt_journal.specs.Committing.{StepCommits, front_bytes, has_begun, has_form, has_room};
 ghost use Rattle.mt_journal.specs.Committing.{laid_out};
+ghost use Rattle.mt_journal.specs.Layout.{MayFollow};
 ghost use Rattle.mt_journal.specs.Standing.{IsInUse, IsWithin, Stands};
 
 use crate::place::{Place, names_slot_one, selector_above, slot_start};
@@ -45,7 +46,7 @@ pub fn step_for(kind: Kind, place: Place, count: u64) -> Step
     requires room { IsTrue (has_room kind place count) }
     requires within { IsWithin place }
     requires short { count ≤ 65536 }
-    ensures commits { (images changes : List ℕ → Bool) (list : List (List ℕ)) (file piece : List ℕ) → IsTrue (has_form images changes kind piece) → length piece ≡ count
+    ensures commits { (images : List ℕ → Bool) (changes : MayFollow) (list : List (List ℕ)) (file piece : List ℕ) → IsTrue (has_form images changes kind list piece) → length piece ≡ count
         → Stands images changes place list file → StepCommits images changes kind piece list result file }
     ensures within { IsWithin result.next }
 {
@@ -102,7 +103,7 @@ fn first_image(gate: u64, front: Front, base: u64, count: u64) -> Step
 fn later_image(base: u64, p0: u8, p1: u8, count: u64) -> Step
     requires within { base ≤ 2 ^ 62 + 5 }
     requires short { count ≤ 65536 }
-    ensures commits { (images changes : List ℕ → Bool) (gate : ℕ) (list : List (List ℕ)) (file piece : List ℕ) → IsTrue (images piece) → length piece ≡ count
+    ensures commits { (images : List ℕ → Bool) (changes : MayFollow) (gate : ℕ) (list : List (List ℕ)) (file piece : List ℕ) → IsTrue (images piece) → length piece ≡ count
         → IsInUse images changes base p0 p1 gate list file → StepCommits images changes Kind.Image piece list result file }
     ensures within { IsWithin result.next }
 {

@@ -1,6 +1,6 @@
 //! The pieces of a journal's file: gates, lengths, images and changes.
 
-ghost use Rattle.std.specs.Prelude.{◌≡◌, ◌≤◌, ◌<◌, ◌+◌, ◌^◌, Bool, List, ℕ, Option, Some, Ok, Err, length, take, drop, get_or, false, IfOk, IfSome, OnOk};
+ghost use Rattle.std.specs.Prelude.{◌≡◌, ◌≤◌, ◌<◌, ◌+◌, ◌++◌, ◌^◌, [], ◌∷◌, Bool, List, ℕ, Option, Some, Ok, Err, length, take, drop, get_or, false, IfOk, IfSome, OnOk};
 ghost use Rattle.mt_journal.specs.Layout.{is_open, is_past, length_of, marks_move, piece_at, records_at};
 ghost use Rattle.mt_journal.specs.Recovering.{GateRead, HasReadCause, IfNotAJournal, IsChange, LaysOut, OnlyRead};
 ghost use Rattle.mt_journal.specs.Standing.{Stands};
@@ -181,19 +181,21 @@ fn read_gate<D: Disk>(
     }
 }
 
-/// Reads what stands at a gate.
+/// Reads what stands at a gate, behind what the form was told. It is told the change.
 pub fn read_at_gate<D: Disk, F: Form>(
     alloc: Global,
     disk: &mut D,
+    form: &mut F,
     whole: u64,
     limit: Option<u64>,
     gate: u64,
 ) -> Result<AtGate, JournalFault>
     requires { whole ≤ 2 ^ 62 }
-    ensures found { (file : List ℕ) → D.contents disk.old ≡ Some file → whole ≡ length file
-        → IfOk result (λ at. GateRead F.change limit gate at file) }
-    ensures refused { (file : List ℕ) → D.contents disk.old ≡ Some file → whole ≡ length file
-        → IfNotAJournal result (λ at. records_at F.change whole limit 0 gate (drop gate file) ≡ Err at) }
+    ensures found { (file : List ℕ) (list : List (List ℕ)) → D.contents disk.old ≡ Some file → whole ≡ length file → F.was_told form.old list
+        → IfOk result (λ at. GateRead F.change list limit gate at file) }
+    ensures refused { (file : List ℕ) (list : List (List ℕ)) → D.contents disk.old ≡ Some file → whole ≡ length file → F.was_told form.old list
+        → IfNotAJournal result (λ at. records_at F.change whole limit list 0 gate (drop gate file) ≡ Err at) }
+    ensures told { (list : List (List ℕ)) → F.was_told form.old list → IfOk result (λ at. IsChange at (λ bytes. F.was_told form.new (list ++ bytes ∷ []))) }
     ensures there { IfOk result (λ _. gate < whole) }
     ensures short { IfOk result (λ at. IsChange at (λ bytes. length bytes ≤ 65536)) }
     ensures within { IfOk result (λ at. IsChange at (λ bytes. is_past limit (gate + 6 + length bytes) ≡ false)) }
@@ -208,7 +210,7 @@ pub fn read_at_gate<D: Disk, F: Form>(
         return Ok(AtGate::Moved);
     }
     let change = read_content(alloc, disk, whole, limit, gate + 1, count)?;
-    let Ok(is_change) = F::is_change(alloc, &change) else {
+    let Ok(is_change) = form.is_change(alloc, &change) else {
         return Err(JournalFault::Memory);
     };
     if !is_change {

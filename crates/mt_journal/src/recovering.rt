@@ -110,8 +110,10 @@ fn read_log<D: Disk, F: Form>(
     ensures only { OnlyRead D.contents D.images D.moment D.images_since disk.old disk.new }
     ensures cause { HasReadCause (D.faults disk.old) (D.faults disk.new) result }
 {
+    let mut form = F::start(alloc);
     let none = Vec::new(alloc);
-    let (end, changes) = read_records::<D, F>(alloc, disk, whole, None, 8, none)?;
+    let (end, changes) = read_records(alloc, disk, &mut form, whole, None, 8, none)?;
+    drop(form);
     match end {
         RecordsEnd::Closed(gate) => Ok((Place::Log { gate }, changes)),
         RecordsEnd::Moved(gate) => read_slots::<D, F>(alloc, disk, whole, gate + 5),
@@ -180,8 +182,10 @@ fn read_slot<D: Disk, F: Form>(
     ensures cause { HasReadCause (D.faults disk.old) (D.faults disk.new) result }
 {
     let limit = Some(start + SLOT_LENGTH);
-    let (first, image) = read_image::<D, F>(alloc, disk, whole, start)?;
-    let (end, list) = read_records::<D, F>(alloc, disk, whole, limit, first, image)?;
+    let mut form = F::start(alloc);
+    let (first, image) = read_image(alloc, disk, &mut form, whole, start)?;
+    let (end, list) = read_records(alloc, disk, &mut form, whole, limit, first, image)?;
+    drop(form);
     match end {
         RecordsEnd::Closed(gate) => Ok((gate, list)),
         // In a slot there is no mark of a move.
@@ -189,10 +193,12 @@ fn read_slot<D: Disk, F: Form>(
     }
 }
 
-// Reads the image of the slot that begins here: where its gate is, and the list of the image.
+// Reads the image of the slot that begins here: where its gate is, and the list of the image, which the
+// form is told.
 fn read_image<D: Disk, F: Form>(
     alloc: Global,
     disk: &mut D,
+    form: &mut F,
     whole: u64,
     start: u64,
 ) -> Result<(u64, Vec<Bytes>), JournalFault>
@@ -201,13 +207,14 @@ fn read_image<D: Disk, F: Form>(
         → IfOk result (λ image. HasUpTo (slot_at F.image F.change start) F.change (Some (start + slot_length)) start image.0 image.1.items file) }
     ensures refused { (file : List ℕ) → D.contents disk.old ≡ Some file → whole ≡ length file
         → IfNotAJournal result (λ at. slot_at F.image F.change start file ≡ Err at) }
+    ensures told { IfOk result (λ image. F.was_told form.new image.1.items) }
     ensures behind { IfOk result (λ image. start + 4 ≤ image.0) }
     ensures before { IfOk result (λ image. image.0 < start + slot_length) }
     ensures only { OnlyRead D.contents D.images D.moment D.images_since disk.old disk.new }
     ensures cause { HasReadCause (D.faults disk.old) (D.faults disk.new) result }
 {
     let image = read_piece(alloc, disk, whole, Some(start + SLOT_LENGTH), start)?;
-    let Ok(is_image) = F::is_image(alloc, &image) else {
+    let Ok(is_image) = form.is_image(alloc, &image) else {
         return Err(JournalFault::Memory);
     };
     if !is_image {
@@ -221,10 +228,12 @@ fn read_image<D: Disk, F: Form>(
     Ok((gate, list))
 }
 
-// Reads records from a gate on, behind a list: what ends them, and the list with their changes.
+// Reads records from a gate on, behind a list that the form was told: what ends them, and the list with
+// their changes.
 fn read_records<D: Disk, F: Form>(
     alloc: Global,
     disk: &mut D,
+    form: &mut F,
     whole: u64,
     limit: Option<u64>,
     first: u64,
@@ -232,6 +241,7 @@ fn read_records<D: Disk, F: Form>(
 ) -> Result<(RecordsEnd, Vec<Bytes>), JournalFault>
     requires whole { whole ≤ 2 ^ 62 }
     requires before { is_past limit (first + 1) ≡ false }
+    requires told { F.was_told form.old list.items }
     ensures found { (file : List ℕ) (reads : List ℕ → Reads Records) (start : ℕ) → D.contents disk.old ≡ Some file → whole ≡ length file → start ≤ first
         → HasUpTo reads F.change limit start first list.items file → IfOk result (λ records. RecordsRead reads F.change limit start records.0 records.1.items file) }
     ensures refused { (file : List ℕ) (reads : List ℕ → Reads Records) (start : ℕ) → D.contents disk.old ≡ Some file → whole ≡ length file → start ≤ first
@@ -243,7 +253,7 @@ fn read_records<D: Disk, F: Form>(
     let mut gate = first;
     let mut list = list;
     'records: loop {
-        match read_at_gate::<D, F>(alloc, disk, whole, limit, gate)? {
+        match read_at_gate(alloc, disk, form, whole, limit, gate)? {
             AtGate::Closed => return Ok((RecordsEnd::Closed(gate), list)),
             AtGate::Moved => return Ok((RecordsEnd::Moved(gate), list)),
             AtGate::Change(change) => {

@@ -1,6 +1,6 @@
 -- What a change adds to a list, and what an image is in its place.
 use Rattle.std.proofs.Common.{◌≡◌, ◌≤◌, ℕ, true, false, List, [], ◌∷◌, ◌++◌, length, refl, sym, ap, ◌∙◌, subst, ⊎_elim, inl, inr, arith}
-use Rattle.std.specs.Prelude.{Option, Some, None, Result, Ok, Err, OnOk, Bool, ◌⊎◌}
+use Rattle.std.specs.Prelude.{Option, Some, None, Result, Ok, Err, IfOk, IsTrue, OnOk, Bool, ◌⊎◌, ◌&&◌}
 use Rattle.std.proofs.lemmas.Bool.{cases_Bool}
 use Rattle.mt_durable.specs.Changes.{change_bytes, entry_trees}
 use Rattle.mt_durable.specs.Images.{IsImage, image_after}
@@ -9,7 +9,7 @@ use Rattle.mt_durable.specs.Maps.{Merged, have_values, keys_ascend}
 use Rattle.mt_durable.specs.Reading.{Says, change_at, entries_or_none, is_change, is_image, is_said, is_said_whole, said}
 use Rattle.mt_durable.specs.Setting.{with_all}
 use Rattle.mt_durable.specs.declared.durable.Entry.{Entry}
-use Rattle.mt_journal.specs.Layout.{journal_at}
+use Rattle.mt_journal.specs.Layout.{MayFollow, journal_at}
 use Rattle.mt_journal.specs.Recovering.{HasPlace}
 use Rattle.mt_journal.specs.Standing.{HasEither}
 use Rattle.mt_journal.specs.declared.reading.JournalFault.{JournalFault}
@@ -36,6 +36,10 @@ pub on_ok : {T E : Type 0} (result : Result T E) (P Q : Type 0) → (P → Q) �
 on_ok (Ok x) P Q then p = then p
 on_ok (Err e) P Q then p = p
 
+pub always : {E : Type 0} (result : Result Bool E) (P : Type 0) → P → IfOk result (λ is. IsTrue is → P)
+always (Ok is) P p = λ _. p
+always (Err e) P p = tt
+
 pub place_then : (fault : JournalFault) (P Q : ℕ → Type 0) → ((at : ℕ) → P at → Q at) → HasPlace fault P → HasPlace fault Q
 place_then Disk P Q then p = p
 place_then (NotAJournal at) P Q then p = then at p
@@ -50,8 +54,13 @@ leaves_then moment images_since old new P Q then leaves = record {
   before = λ from image earlier left. ⊎_elim (λ (b : images_since old from image). inl b) (λ (p : P image). inr (then image p)) (leaves.before from image earlier left);
 }
 
+-- a change may follow where it leads to a map that is admitted
+pub may_follow : (admits : List Entry → Bool) (follows : Bool) (change image : List ℕ) (map : List Entry) → is_change change ≡ true → follows ≡ (admits (with_all (said change) map) && is_change change)
+    → said image ≡ with_all (said change) map → admits (said image) ≡ true → follows ≡ true
+may_follow admits follows change image map is law next admitted = law ∙ ap (λ (b : Bool). admits (with_all (said change) map) && b) is ∙ ap (λ (m : List Entry). admits m && true) (sym next) ∙ ap (λ (b : Bool). b && true) admitted
+
 -- the list from before or the one behind leads to one of two maps
-pub either_holds : (image change : List ℕ → Bool) (list other : List (List ℕ)) (map after : List Entry) → map_of list ≡ Some map → map_of other ≡ Some after
+pub either_holds : (image : List ℕ → Bool) (change : MayFollow) (list other : List (List ℕ)) (map after : List Entry) → map_of list ≡ Some map → map_of other ≡ Some after
     → (file : List ℕ) → HasEither image change list other file → HoldsEither image change map after file
 either_holds image change list other map after leads then file has = ⊎_elim
     (λ (is : journal_at image change file ≡ Ok list). inl (record { list = list; has = is; leads = leads }))

@@ -2,7 +2,7 @@
 
 ghost use Rattle.std.specs.Prelude.{◌≡◌, ◌<◌, ◌↔◌, None, Some, length, IfOk, IsTrue};
 ghost use Rattle.mt_durable.specs.Changes.{change_bytes, entry_trees};
-ghost use Rattle.mt_durable.specs.Keeping.{HasRoom, IsChange, LeadsTo};
+ghost use Rattle.mt_durable.specs.Keeping.{HasRoom, IsAdmitted, IsChange, LeadsTo};
 ghost use Rattle.mt_durable.specs.Maps.{have_values};
 ghost use Rattle.mt_durable.specs.Reading.{Says, change_at, said};
 ghost use Rattle.mt_durable.specs.Setting.{with_all};
@@ -12,8 +12,8 @@ ghost use Rattle.mt_tlv.specs.Tree.{array};
 
 use crate::map_form::MapForm;
 use mt_durable::{
-    ChangeFault, Durable, bytes_of_a_change_are_read, changes_lead_on, has_room, maps_have_images,
-    read_change, write_image,
+    ChangeFault, Durable, Rule, bytes_of_a_change_are_read, changes_lead_on, has_room, is_admitted,
+    maps_have_images, read_change, write_image,
 };
 use std::alloc::{AllocError, Global};
 use std::marker::Model;
@@ -96,6 +96,18 @@ impl Image {
         let entries = read_change(alloc, change)?;
         let map = self.map(alloc)?;
         Ok(has_room(alloc, &map, entries)?)
+    }
+
+    /// Whether the map after a change may stand under a rule, as a commit under it wants. NotAChange says that the
+    /// bytes are no change.
+    pub fn is_admitted<R: Rule>(&self, alloc: Global, change: &[u8]) -> Result<bool, ChangeFault>
+        ensures form { IfOk result (λ _. IsChange change.now) }
+        ensures admitted { IfOk result (λ is. IsTrue is ↔ IsAdmitted R.admits change.now (Some self.now)) }
+        ensures refused { IfNotAChange result (change_at change.now ≡ None) }
+    {
+        let entries = read_change(alloc, change)?;
+        let map = self.map(alloc)?;
+        Ok(is_admitted::<R>(alloc, &map, entries)?)
     }
 
     /// Becomes the image of the map to which a change leads from that of another image. It takes no memory.

@@ -1,15 +1,19 @@
 //! How images and changes are told and merged.
 
-ghost use Rattle.std.specs.Prelude.{◌≡◌, ◌≤◌, List, ℕ, length, vec_capacity};
+ghost use Rattle.std.specs.Prelude.{◌≡◌, ◌≤◌, ◌&&◌, List, ℕ, Some, length, vec_capacity};
 ghost use Rattle.mt_durable.specs.Images.{IsImage, image_after};
 ghost use Rattle.mt_durable.specs.Keeping.{IsChange};
-ghost use Rattle.mt_durable.specs.Reading.{is_change, is_image};
+ghost use Rattle.mt_durable.specs.Reading.{is_change, is_image, said};
+ghost use Rattle.mt_durable.specs.Setting.{with_all};
+ghost use Rattle.mt_durable.specs.declared.durable.Entry.{Entry};
+ghost use Rattle.mt_store.specs.Leading.{map_of};
 
+use mt_durable::Rule;
 use mt_journal::Form;
 
-/// A form whose images and changes are those of mt_durable, and that merges a change into an image as
-/// bytes, in the memory that is there.
-pub trait MapForm: Form {
+/// A form whose images and changes are those of mt_durable that lead to maps that may stand, and that merges a
+/// change into an image as bytes, in the memory that is there.
+pub trait MapForm: Form + Rule {
     /// Leaves in `into` the image after a change.
     fn merge(from: &[u8], change: &[u8], into: &mut Vec<u8>)
         requires from { IsImage from.now }
@@ -18,9 +22,10 @@ pub trait MapForm: Form {
         ensures merged { into.new.items ≡ image_after change.now from.now }
         ensures capacity { vec_capacity into.new ≡ vec_capacity into.old };
 
-    /// Its images are those of maps.
-    ghost images: { (bytes : List ℕ) → Self.Form.image bytes ≡ is_image bytes };
+    /// Its images are those of maps that may stand.
+    ghost images: { (bytes : List ℕ) → Self.Form.image bytes ≡ (Self.Rule.admits (said bytes) && is_image bytes) };
 
-    /// Its changes are those of maps.
-    ghost changes: { (bytes : List ℕ) → Self.Form.change bytes ≡ is_change bytes };
+    /// Its changes are those of maps, to maps that may stand.
+    ghost changes: { (list : List (List ℕ)) (map : List Entry) (bytes : List ℕ) → map_of list ≡ Some map
+        → Self.Form.change list bytes ≡ (Self.Rule.admits (with_all (said bytes) map) && is_change bytes) };
 }

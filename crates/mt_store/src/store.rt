@@ -3,7 +3,7 @@
 ghost use Rattle.std.specs.Prelude.{◌≡◌, ◌<◌, ◌⊎◌, ℕ, List, Some, Err, false, is_err, length, IfErr, IfOk, OnErr, OnOk, IsErr, IsTrue};
 ghost use Rattle.mt_durable.specs.Changes.{change_bytes, entry_trees};
 ghost use Rattle.mt_durable.specs.Images.{IsImage};
-ghost use Rattle.mt_durable.specs.Keeping.{Committed, HasRoom, IsChange, WasOrCommitted};
+ghost use Rattle.mt_durable.specs.Keeping.{Committed, HasRoom, IsAdmitted, IsChange, WasOrCommitted};
 ghost use Rattle.mt_durable.specs.Reading.{said};
 ghost use Rattle.mt_durable.specs.Readings.{Gives};
 ghost use Rattle.mt_durable.specs.Setting.{with_all};
@@ -87,6 +87,8 @@ impl<D: Disk, F: MapForm> Store<D, F> {
 impl<D: Disk, F: MapForm> Keeper for Store<D, F> {
     ghost map = { λ store. Some store.image };
 
+    ghost admits = { F.admits };
+
     ghost failed = { λ store. store.journal.failed };
 
     ghost faults = { λ store. D.faults store.journal.disk };
@@ -96,6 +98,7 @@ impl<D: Disk, F: MapForm> Keeper for Store<D, F> {
     fn commit(&mut self, change: &[u8]) -> Result<(), Failed>
         requires form { IsChange change.now }
         requires room { HasRoom change.now (Some self.old.image) }
+        requires admitted { IsAdmitted F.admits change.now (Some self.old.image) }
         ensures committed { OnOk result (Committed change.now (Some self.old.image) (Some self.new.image)) }
         ensures part { OnErr result (WasOrCommitted change.now (Some self.old.image) (Some self.new.image)) }
         ensures failed { self.new.journal.failed ≡ is_err result }
@@ -136,6 +139,7 @@ fn put<D: Disk, F: MapForm>(
 ) -> Result<(), Failed>
     requires form { IsChange change.now }
     requires image_form { IsImage image.now }
+    requires admitted { IsTrue (F.admits (said image.now)) }
     ensures kept { (map : List Entry) → said image.now ≡ with_all (said change.now) map
         → Keeps D.contents D.images F.image F.change journal.old.disk journal.old.place map
         → OnOk result (Keeps D.contents D.images F.image F.change journal.new.disk journal.new.place (with_all (said change.now) map)) }

@@ -3,7 +3,7 @@
 //! argument; without one there are few, so that the run is short. What is found goes to standard error.
 #![tactic(auto)]
 
-ghost use Rattle.std.specs.Prelude.{◌≡◌, ◌≤◌, length};
+ghost use Rattle.std.specs.Prelude.{◌≡◌, ◌≤◌, ⊤, length};
 ghost use Rattle.speed_journal.specs.Form.{is_any};
 
 use mt_file_disk::FileDisk;
@@ -17,18 +17,25 @@ use std::{env, io};
 const FEW: u32 = 20;
 
 /// Each string of bytes is an image and a change.
+#[derive(Drop)]
 pub struct Any;
 
 impl Form for Any {
     ghost image = { is_any };
 
-    ghost change = { is_any };
+    ghost change = { λ list bytes. is_any bytes };
 
-    fn is_image(_alloc: Global, _bytes: &[u8]) -> Result<bool, AllocError> {
+    ghost was_told = { λ form list. ⊤ };
+
+    fn start(_alloc: Global) -> Self {
+        Any
+    }
+
+    fn is_image(&mut self, _alloc: Global, _bytes: &[u8]) -> Result<bool, AllocError> {
         Ok(true)
     }
 
-    fn is_change(_alloc: Global, _bytes: &[u8]) -> Result<bool, AllocError> {
+    fn is_change(&mut self, _alloc: Global, _bytes: &[u8]) -> Result<bool, AllocError> {
         Ok(true)
     }
 }

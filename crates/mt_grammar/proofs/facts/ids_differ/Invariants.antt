@@ -1,6 +1,6 @@
 use Rattle.std.proofs.Common.{◌≡◌, drop}
 use Rattle.mt_model.specs.texts.Config.{none_alike}
-use Rattle.mt_grammar.specs.Facts.{have_one_id}
+use Rattle.mt_model.specs.tables.Holding.{have_one_id}
 use Rattle.mt_grammar.proofs.facts.ids_differ.Given as goal
 
 abbrev pub invariant-loop-place : goal.invariant-loop-place

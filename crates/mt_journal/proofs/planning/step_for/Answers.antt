@@ -25,9 +25,9 @@ returns-in-Change-clause-commits c = λ images changes list file piece form size
     let room = subst (λ k. IsTrue (has_room k (InUse c.in-InUse.base c.in-InUse.p0 c.in-InUse.p1 gate) c.args.count)) c.in-Change.is (subst (λ p. IsTrue (has_room c.args.kind p c.args.count)) c.in-InUse.is c.requires.room) in
     subst (λ k. StepCommits images changes k piece list (record { at = gate + 1; front = Nothing; last_at = gate; last = 0x5a; next = InUse c.in-InUse.base c.in-InUse.p0 c.in-InUse.p1 (gate + 5 + c.args.count) }) file) (sym c.in-Change.is)
     (change_step images changes list file piece c.args.count c.requires.short size c.in-InUse.base c.in-InUse.p0 c.in-InUse.p1 gate (subst (λ p. Stands images changes p list file) c.in-InUse.is stands) room
-    (subst (λ k. IsTrue (has_form images changes k piece)) c.in-Change.is form)))
+    (subst (λ k. IsTrue (has_form images changes k list piece)) c.in-Change.is form)))
 
 pub returns-in-Image-clause-commits : goal.returns-in-Image-clause-commits
 returns-in-Image-clause-commits c = λ images changes list file piece form size stands.
     (subst (λ k. StepCommits images changes k piece list c.later_image.result file) (sym c.in-Image.is)
-    (c.later_image.ensures.commits images changes c.in-InUse.gate list file piece (subst (λ k. IsTrue (has_form images changes k piece)) c.in-Image.is form) size (subst (λ p. Stands images changes p list file) c.in-InUse.is stands)))
+    (c.later_image.ensures.commits images changes c.in-InUse.gate list file piece (subst (λ k. IsTrue (has_form images changes k list piece)) c.in-Image.is form) size (subst (λ p. Stands images changes p list file) c.in-InUse.is stands)))

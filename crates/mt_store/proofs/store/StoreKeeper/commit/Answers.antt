@@ -1,10 +1,17 @@
-use Rattle.std.proofs.Common.{◌≡◌, List, ap, ◌∙◌}
+use Rattle.std.proofs.Common.{◌≡◌, true, List, ap, sym, subst, ◌∙◌}
 use Rattle.std.specs.Prelude.{Some}
-use Rattle.mt_durable.specs.Reading.{said}
+use Rattle.mt_durable.specs.Maps.{have_values}
+use Rattle.mt_durable.specs.Reading.{Says, said}
 use Rattle.mt_durable.specs.Setting.{with_all}
 use Rattle.mt_durable.specs.declared.durable.Entry.{Entry}
 use Rattle.mt_store.proofs.Leads.{said_is}
 use Rattle.mt_store.proofs.store.StoreKeeper.commit.Goals as goal
+
+pub put-requires-clause-image_form : goal.put-requires-clause-image_form
+put-requires-clause-image_form g c =
+    let bytes = c.as_slice.result.now in
+    subst (λ (es : List Entry). Says es bytes × (have_values es ≡ true)) (sym (said_is c.bytes_of_a_change_are_read.ensures.read c.follow.new.self bytes c.as_slice.ensures.says))
+    (c.as_slice.ensures.says, c.as_slice.ensures.whole)
 
 pub returns-in_err-put-clause-moments : goal.returns-in_err-put-clause-moments
 returns-in_err-put-clause-moments g c = λ keeps.
