@@ -34,15 +34,15 @@ pub fn entry_events(
     let mut before = entries;
     for step in steps {
         if let NodeStep::SetEntries { entries: new, .. } = step {
-            push_events(alloc, actor, before, new.as_slice(), &mut events)?;
+            push_events_between(alloc, actor, before, new.as_slice(), &mut events)?;
             before = new.as_slice();
         }
     }
     Ok(events)
 }
 
-// The events between two lists.
-fn push_events(
+/// Appends the events between two lists of entries of the actor's fabric, compared by position: what was there, and what is.
+pub fn push_events_between(
     alloc: Global,
     actor: &Actor,
     entries: &[AclEntry],

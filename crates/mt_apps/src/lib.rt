@@ -32,7 +32,7 @@ mod rows;
 mod shown;
 
 pub use commands::invoke;
-pub use events::entry_events;
+pub use events::{entry_events, push_events_between};
 pub use laws::places_have_their_rows;
 pub use rows::rows_at;
 pub use shown::{items_shown, value_shown};

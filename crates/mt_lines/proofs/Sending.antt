@@ -5,11 +5,7 @@ use Rattle.std.specs.Option.{option_and_then, option_map}
 use Rattle.mt_im.specs.Reading.{request_in}
 use Rattle.mt_im.specs.declared.fault.ImFault.{ImFault}
 use Rattle.mt_im_out.specs.Chunks.{chunks_of}
-use Rattle.mt_model.specs.messages.Status.{code_of}
-use Rattle.mt_model.specs.rows.Seen.{Observation}
 use Rattle.mt_model.specs.declared.messages.message.Request.{Request}
-use Rattle.mt_model.specs.declared.messages.status.Status.TheVariants.{Timeout}
-use Rattle.mt_model.specs.declared.node.action.Action.TheVariants as actions
 use Rattle.mt_model.specs.declared.node.state.NodeState.{NodeState}
 use Rattle.mt_model.specs.declared.tables.access.Actor.{Actor}
 use Rattle.mt_model.specs.declared.texts.recording.Event.{Event}
@@ -22,10 +18,15 @@ use Rattle.mt_machine.specs.Given.{Given}
 use Rattle.mt_machine.specs.Isolation as machine
 use Rattle.mt_machine.specs.Isolation.{own}
 use Rattle.mt_machine.specs.Laws as laws
-use Rattle.mt_machine.specs.Step.{asked_reply, is_late, refusal, reply_of, reply_to, session_actor}
+use Rattle.mt_machine.specs.Lines.{line_actor, sent_as}
+use Rattle.mt_machine.specs.Step.{asker, session_actor}
+use Rattle.mt_history.specs.Asking.{full_line_reply}
+use Rattle.mt_history.specs.History.{History}
+use Rattle.mt_history.specs.Isolation.{veiled_history}
+use Rattle.mt_history.specs.Laws as history_laws
 use Rattle.mt_lines.specs.Datagrams.{actor_on, all_sent, answer_to, behind_answer, datagram_of, dated, deadline_set, if_any, reply_over, resent_over, resent_talk, said_to, sent_over, session_named, talked}
 use Rattle.mt_lines.specs.Isolation.{IsValidWhole, veil}
-use Rattle.mt_lines.specs.Lines.{fabric_named, fabric_of, resent_named, sent, sent_named}
+use Rattle.mt_lines.specs.Lines.{fabric_named, fabric_of, resent_named, sent, sent_asked, sent_line, sent_named}
 use Rattle.mt_lines.specs.Whole.{SessionTalk, Whole, is_live, is_talk_of, talk_of}
 use Rattle.mt_lines.proofs.Ids.{is_named}
 use Rattle.mt_lines.proofs.Sessions.{actor_on_veil, if_its, is_its, own_named}
@@ -49,29 +50,33 @@ own_has_not w valid fabric id none = own_named fabric w.state.node id valid.sess
 pub none_on_veil : (w : Whole) (valid : IsValidWhole w) (fabric id : ℕ) → session_actor w.state.node id ≡ None → session_actor (machine.veil fabric w.state.node) id ≡ None
 none_on_veil w valid fabric id none = actor_on_veil fabric w.state.node id valid.sessions_differ ∙ ap (if_its fabric) none
 
-module _ (sees : laws.SeesTheVeil) (given : Given) (w : Whole) (valid : IsValidWhole w) where
+abbrev sent_by_any : (SessionTalk → List Sent) → Option SessionTalk → List Sent
+sent_by_any G None = []
+sent_by_any G (Some t) = G t
+
+module _ (replies : history_laws.RepliesOnTheVeil) (given : Given) (w : Whole) (valid : IsValidWhole w) where
   abbrev s : NodeState
   s = w.state.node
+
+  abbrev h : History
+  h = w.history
 
   -- Over a session that is live.
   module _ (id : ℕ) (a : Actor) (live : session_actor s id ≡ Some a) where
     abbrev veiled : NodeState
     veiled = machine.veil a.fabric s
 
+    abbrev veiled_h : History
+    veiled_h = veiled_history a.fabric h
+
     pub live_same : is_live veiled id ≡ is_live s id
     live_same = ap is_some (on_veil w valid id a live ∙ sym live)
 
-    reply_same : (request : Request) (timed : Option ℕ) (ms : ℕ) → reply_of given veiled (actions.Ask (actor_on id) request timed) ms ≡ reply_of given s (actions.Ask (actor_on id) request timed) ms
-    reply_same request timed ms =
-        ap (asked_reply given veiled request timed ms) (on_veil w valid id a live)
-        ∙ ap (λ (o : Observation). if is_late timed ms then refusal (code_of Timeout) else reply_to given o a (is_some timed) request) (sees a.fabric s valid.node)
-        ∙ sym (ap (asked_reply given s request timed ms) live)
-
-    over_same : (timed : Option ℕ) (ms : ℕ) (asked : Result Request ImFault) → reply_over given veiled id timed ms asked ≡ reply_over given s id timed ms asked
-    over_same timed ms (Ok request) = reply_same request timed ms
+    over_same : (timed : Option ℕ) (ms : ℕ) (asked : Result Request ImFault) → reply_over given veiled veiled_h id timed ms asked ≡ reply_over given s h id timed ms asked
+    over_same timed ms (Ok request) = replies given s h (actor_on id) a request timed ms valid.node valid.history live (on_veil w valid id a live)
     over_same timed ms (Err fault) = refl
 
-    pub answer_same : (ms : ℕ) (what : Said) → answer_to given veiled id ms what ≡ answer_to given s id ms what
+    pub answer_same : (ms : ℕ) (what : Said) → answer_to given veiled veiled_h id ms what ≡ answer_to given s h id ms what
     answer_same ms nothing = refl
     answer_same ms (asks key acknowledge opcode payload timed) = λ i. Some (record {
       key = key;
@@ -82,13 +87,15 @@ module _ (sees : laws.SeesTheVeil) (given : Given) (w : Whole) (valid : IsValidW
     answer_same ms (ends key acknowledge subscription) = refl
     answer_same ms (answers key acknowledge payloads) = refl
 
-  sent_same : (ms : ℕ) (from : Peer) (bytes : List ℕ) (t : SessionTalk) (a : Actor) (live : session_actor s t.row.session ≡ Some a) → sent_over given (machine.veil a.fabric s) ms from bytes t ≡ sent_over given s ms from bytes t
+  sent_same : (ms : ℕ) (from : Peer) (bytes : List ℕ) (t : SessionTalk) (a : Actor) (live : session_actor s t.row.session ≡ Some a)
+      → sent_over given (machine.veil a.fabric s) (veiled_history a.fabric h) ms from bytes t ≡ sent_over given s h ms from bytes t
   sent_same ms from bytes t a live =
       let l = live_same t.row.session a live in
       λ i. all_sent ms t.row.session (after_datagram t.row (l i) from bytes t.talk).latest
       (if_any (datagram_of t.row (after_datagram t.row (l i) from bytes t.talk) (answer_same t.row.session a live ms (said t.row t.talk (l i) bytes) i)))
 
-  pub talked_same : (ms : ℕ) (from : Peer) (bytes : List ℕ) (t : SessionTalk) (a : Actor) (live : session_actor s t.row.session ≡ Some a) → talked given (machine.veil a.fabric s) ms from bytes t ≡ talked given s ms from bytes t
+  pub talked_same : (ms : ℕ) (from : Peer) (bytes : List ℕ) (t : SessionTalk) (a : Actor) (live : session_actor s t.row.session ≡ Some a)
+      → talked given (machine.veil a.fabric s) (veiled_history a.fabric h) ms from bytes t ≡ talked given s h ms from bytes t
   talked_same ms from bytes t a live =
       let l = live_same t.row.session a live in
       λ i. behind_answer t.row ms (after_datagram t.row (l i) from bytes t.talk) (answer_same t.row.session a live ms (said t.row t.talk (l i) bytes) i)
@@ -105,66 +112,92 @@ module _ (sees : laws.SeesTheVeil) (given : Given) (w : Whole) (valid : IsValidW
   nothing_sent ms id None = refl
   nothing_sent ms id (Some peer) = refl
 
-  sent_quiet : (ms : ℕ) (from : Peer) (bytes : List ℕ) (x : NodeState) (t : SessionTalk) → session_actor x t.row.session ≡ None → sent_over given x ms from bytes t ≡ []
-  sent_quiet ms from bytes x t none =
+  sent_quiet : (ms : ℕ) (from : Peer) (bytes : List ℕ) (x : NodeState) (y : History) (t : SessionTalk) → session_actor x t.row.session ≡ None → sent_over given x y ms from bytes t ≡ []
+  sent_quiet ms from bytes x y t none =
       ap (λ (l : Bool). all_sent ms t.row.session (after_datagram t.row l from bytes t.talk).latest
-      (if_any (datagram_of t.row (after_datagram t.row l from bytes t.talk) (answer_to given x t.row.session ms (said t.row t.talk l bytes))))) (ap is_some none)
+      (if_any (datagram_of t.row (after_datagram t.row l from bytes t.talk) (answer_to given x y t.row.session ms (said t.row t.talk l bytes))))) (ap is_some none)
       ∙ nothing_sent ms t.row.session (after_datagram t.row false from bytes t.talk).latest
 
   resent_quiet : (ms : ℕ) (x : NodeState) (t : SessionTalk) → session_actor x t.row.session ≡ None → resent_over x ms t ≡ []
   resent_quiet ms x t none = ap (λ (l : Bool). if l then all_sent ms t.row.session t.talk.latest (resent_in t.row ms t.talk) else []) (ap is_some none)
 
-  -- Whatever session is named.
-  module _ (F : NodeState → SessionTalk → List Sent) (alike : (t : SessionTalk) (a : Actor) → session_actor s t.row.session ≡ Some a → F (machine.veil a.fabric s) t ≡ F s t) (quiet : (x : NodeState) (t : SessionTalk) → session_actor x t.row.session ≡ None → F x t ≡ []) where
-    abbrev pub over : NodeState → Option SessionTalk → List Sent
-    over x None = []
-    over x (Some t) = F x t
-
-    over_found : (id : ℕ) (a : Actor) → session_actor s id ≡ Some a → (found : Option SessionTalk) → find (is_talk_of id) w.talks ≡ found → over (machine.veil a.fabric s) found ≡ over s found
+  -- Whatever session is named: what is sent over it, and on the veil of a fabric.
+  module _ (F : SessionTalk → List Sent) (V : ℕ → SessionTalk → List Sent)
+      (alike : (t : SessionTalk) (a : Actor) → session_actor s t.row.session ≡ Some a → V a.fabric t ≡ F t)
+      (quiet : (t : SessionTalk) → session_actor s t.row.session ≡ None → F t ≡ [])
+      (quiet_there : (fabric : ℕ) (t : SessionTalk) → session_actor (machine.veil fabric s) t.row.session ≡ None → V fabric t ≡ []) where
+    over_found : (id : ℕ) (a : Actor) → session_actor s id ≡ Some a → (found : Option SessionTalk) → find (is_talk_of id) w.talks ≡ found → sent_by_any (V a.fabric) found ≡ sent_by_any F found
     over_found id a live None is = refl
     over_found id a live (Some t) is = alike t a (ap (session_actor s) (found_id id w.talks t is) ∙ live)
 
-    over_quiet : (x : NodeState) (id : ℕ) (talks : List SessionTalk) → session_actor x id ≡ None → (found : Option SessionTalk) → find (is_talk_of id) talks ≡ found → over x found ≡ []
-    over_quiet x id talks none None is = refl
-    over_quiet x id talks none (Some t) is = quiet x t (ap (session_actor x) (found_id id talks t is) ∙ none)
+    over_quiet : (id : ℕ) → session_actor s id ≡ None → (found : Option SessionTalk) → find (is_talk_of id) w.talks ≡ found → sent_by_any F found ≡ []
+    over_quiet id none None is = refl
+    over_quiet id none (Some t) is = quiet t (ap (session_actor s) (found_id id w.talks t is) ∙ none)
+
+    over_quiet_there : (id : ℕ) (talks : List SessionTalk) → session_actor (machine.veil 0 s) id ≡ None → (found : Option SessionTalk) → find (is_talk_of id) talks ≡ found → sent_by_any (V 0) found ≡ []
+    over_quiet_there id talks none None is = refl
+    over_quiet_there id talks none (Some t) is = quiet_there 0 t (ap (session_actor (machine.veil 0 s)) (found_id id talks t is) ∙ none)
 
     by_actor : (id : ℕ) (found : Option Actor) → session_actor s id ≡ found
-        → over (machine.veil (unwrap_or (option_map (λ (actor : Actor). actor.fabric) found) 0) s) (find (is_talk_of id) (veil (unwrap_or (option_map (λ (actor : Actor). actor.fabric) found) 0) w).talks) ≡ over s (find (is_talk_of id) w.talks)
+        → sent_by_any (V (unwrap_or (option_map (λ (actor : Actor). actor.fabric) found) 0)) (find (is_talk_of id) (veil (unwrap_or (option_map (λ (actor : Actor). actor.fabric) found) 0) w).talks) ≡ sent_by_any F (find (is_talk_of id) w.talks)
     by_actor id None none =
-        over_quiet (machine.veil 0 s) id (veil 0 w).talks (none_on_veil w valid 0 id none) (find (is_talk_of id) (veil 0 w).talks) refl
-        ∙ sym (over_quiet s id w.talks none (find (is_talk_of id) w.talks) refl)
+        over_quiet_there id (veil 0 w).talks (none_on_veil w valid 0 id none) (find (is_talk_of id) (veil 0 w).talks) refl
+        ∙ sym (over_quiet id none (find (is_talk_of id) w.talks) refl)
     by_actor id (Some a) live =
-        ap (over (machine.veil a.fabric s)) (found_among (own a.fabric s).sessions id w.talks (own_has w valid id a live))
+        ap (sent_by_any (V a.fabric)) (found_among (own a.fabric s).sessions id w.talks (own_has w valid id a live))
         ∙ over_found id a live (find (is_talk_of id) w.talks) refl
 
-    pub over_named : (named : Option ℕ) → over (machine.veil (fabric_named s named) s) (talk_of named (veil (fabric_named s named) w).talks) ≡ over s (talk_of named w.talks)
+    pub over_named : (named : Option ℕ) → sent_by_any (V (fabric_named s named)) (talk_of named (veil (fabric_named s named) w).talks) ≡ sent_by_any F (talk_of named w.talks)
     over_named None = refl
     over_named (Some id) = by_actor id (session_actor s id) refl
 
-  is_sent : (ms : ℕ) (from : Peer) (bytes : List ℕ) (x : NodeState) (found : Option SessionTalk) → sent_named given x ms from bytes found ≡ over (λ (y : NodeState) (t : SessionTalk). sent_over given y ms from bytes t) (sent_same ms from bytes) (sent_quiet ms from bytes) x found
-  is_sent ms from bytes x None = refl
-  is_sent ms from bytes x (Some t) = refl
+  is_over : (G : SessionTalk → List Sent) (named_by : Option SessionTalk → List Sent) → named_by None ≡ [] → ((t : SessionTalk) → named_by (Some t) ≡ G t) → (found : Option SessionTalk) → named_by found ≡ sent_by_any G found
+  is_over G named_by none some None = none
+  is_over G named_by none some (Some t) = some t
 
-  is_resent : (ms : ℕ) (x : NodeState) (found : Option SessionTalk) → resent_named x ms found ≡ over (λ (y : NodeState) (t : SessionTalk). resent_over y ms t) (resent_same ms) (resent_quiet ms) x found
-  is_resent ms x None = refl
-  is_resent ms x (Some t) = refl
-
-  sends_datagram : (ms : ℕ) (from : Peer) (bytes : List ℕ) (named : Option ℕ) → sent_named given (machine.veil (fabric_named s named) s) ms from bytes (talk_of named (veil (fabric_named s named) w).talks) ≡ sent_named given s ms from bytes (talk_of named w.talks)
+  sends_datagram : (ms : ℕ) (from : Peer) (bytes : List ℕ) (named : Option ℕ)
+      → sent_named given (machine.veil (fabric_named s named) s) (veiled_history (fabric_named s named) h) ms from bytes (talk_of named (veil (fabric_named s named) w).talks) ≡ sent_named given s h ms from bytes (talk_of named w.talks)
   sends_datagram ms from bytes named =
-      is_sent ms from bytes (machine.veil (fabric_named s named) s) (talk_of named (veil (fabric_named s named) w).talks)
-      ∙ over_named (λ (y : NodeState) (t : SessionTalk). sent_over given y ms from bytes t) (sent_same ms from bytes) (sent_quiet ms from bytes) named
-      ∙ sym (is_sent ms from bytes s (talk_of named w.talks))
+      let F : SessionTalk → List Sent = λ t. sent_over given s h ms from bytes t in
+      let V : ℕ → SessionTalk → List Sent = λ fabric t. sent_over given (machine.veil fabric s) (veiled_history fabric h) ms from bytes t in
+      is_over (V (fabric_named s named)) (sent_named given (machine.veil (fabric_named s named) s) (veiled_history (fabric_named s named) h) ms from bytes) refl (λ t. refl) (talk_of named (veil (fabric_named s named) w).talks)
+      ∙ over_named F V (sent_same ms from bytes) (sent_quiet ms from bytes s h) (λ fabric. sent_quiet ms from bytes (machine.veil fabric s) (veiled_history fabric h)) named
+      ∙ sym (is_over F (sent_named given s h ms from bytes) refl (λ t. refl) (talk_of named w.talks))
 
   sends_again : (ms : ℕ) (named : Option ℕ) → resent_named (machine.veil (fabric_named s named) s) ms (talk_of named (veil (fabric_named s named) w).talks) ≡ resent_named s ms (talk_of named w.talks)
   sends_again ms named =
-      is_resent ms (machine.veil (fabric_named s named) s) (talk_of named (veil (fabric_named s named) w).talks)
-      ∙ over_named (λ (y : NodeState) (t : SessionTalk). resent_over y ms t) (resent_same ms) (resent_quiet ms) named
-      ∙ sym (is_resent ms s (talk_of named w.talks))
+      let F : SessionTalk → List Sent = λ t. resent_over s ms t in
+      let V : ℕ → SessionTalk → List Sent = λ fabric t. resent_over (machine.veil fabric s) ms t in
+      is_over (V (fabric_named s named)) (resent_named (machine.veil (fabric_named s named) s) ms) refl (λ t. refl) (talk_of named (veil (fabric_named s named) w).talks)
+      ∙ over_named F V (resent_same ms) (resent_quiet ms s) (λ fabric. resent_quiet ms (machine.veil fabric s)) named
+      ∙ sym (is_over F (resent_named s ms) refl (λ t. refl) (talk_of named w.talks))
 
-  pub sends_on_veil : laws.SendsOnTheVeil → (e : Event) → sent given (veil (fabric_of s e) w) e ≡ sent given w e
-  sends_on_veil plain (events.Ask ms fabric node cats opcode payload) = plain given w.state (events.Ask ms fabric node cats opcode payload) valid.node
-  sends_on_veil plain (events.Datagram ms from bytes) = sends_datagram ms from bytes (session_named bytes)
-  sends_on_veil plain (events.Tick ms) = refl
-  sends_on_veil plain (events.Report ms fabric subscription) = refl
-  sends_on_veil plain (events.Resend ms session) = sends_again ms (Some session)
-  sends_on_veil plain (events.Stop calls fate) = refl
+  -- A line of a plain actor.
+  module _ (asks_there : laws.LinesAskOnTheVeil) (line_replies : history_laws.LineRepliesOnTheVeil) where
+    line_as : (fabric : ℕ) (actor : Actor) (ms : ℕ) (asked : Result Request ImFault) (found : Option Actor) → asker s actor ≡ found → asker (machine.veil fabric s) actor ≡ found
+        → ((asking : Actor) → asker s actor ≡ Some asking → asking.fabric ≡ fabric)
+        → sent_line given (veil fabric w).state (veil fabric w).history actor ms asked found ≡ sent_line given w.state h actor ms asked found
+    line_as fabric actor ms asked None is there its = refl
+    line_as fabric actor ms asked (Some asking) is there its =
+        let same : asking.fabric ≡ fabric = its asking is in
+        let at_its : full_line_reply given (veil asking.fabric w).state (veil asking.fabric w).history actor asking ms asked ≡ full_line_reply given w.state h actor asking ms asked =
+        line_replies given w.state h actor asking ms asked valid.node valid.history is (ap (λ (n : ℕ). asker (machine.veil n s) actor) same ∙ there) in
+        ap (sent_as ms asking.fabric) (ap (λ (n : ℕ). full_line_reply given (veil n w).state (veil n w).history actor asking ms asked) (sym same) ∙ at_its)
+
+    sends_line : (ms fabric node : ℕ) (cats : List ℕ) (asked : Result Request ImFault)
+        → sent_asked given (veil (if fabric == 0 then unwrap_or s.plain 0 else fabric) w).state (veil (if fabric == 0 then unwrap_or s.plain 0 else fabric) w).history (line_actor fabric node cats) ms asked
+        ≡ sent_asked given w.state h (line_actor fabric node cats) ms asked
+    sends_line ms fabric node cats asked =
+        let f = if fabric == 0 then unwrap_or s.plain 0 else fabric in
+        let actor = line_actor fabric node cats in
+        let asks = asks_there s fabric node cats valid.node in
+        ap (sent_line given (veil f w).state (veil f w).history actor ms asked) asks.0
+        ∙ line_as f actor ms asked (asker s actor) refl asks.0 asks.1
+
+    pub sends_on_veil : (e : Event) → sent given (veil (fabric_of s e) w) e ≡ sent given w e
+    sends_on_veil (events.Ask ms fabric node cats opcode payload) = sends_line ms fabric node cats (request_in opcode payload)
+    sends_on_veil (events.Datagram ms from bytes) = sends_datagram ms from bytes (session_named bytes)
+    sends_on_veil (events.Tick ms) = refl
+    sends_on_veil (events.Report ms fabric subscription) = refl
+    sends_on_veil (events.Resend ms session) = sends_again ms (Some session)
+    sends_on_veil (events.Stop calls fate) = refl

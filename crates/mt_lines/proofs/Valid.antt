@@ -23,7 +23,10 @@ use Rattle.mt_machine.specs.State.{IsValid}
 use Rattle.mt_machine.specs.Step.{asker}
 use Rattle.mt_lines.specs.Datagrams.{session_named}
 use Rattle.mt_lines.specs.Isolation.{IsValidWhole, have_one_id}
-use Rattle.mt_lines.specs.Lines.{action_named, next, state_behind}
+use Rattle.mt_history.specs.History.{IsHistory}
+use Rattle.mt_history.specs.Laws as history_laws
+use Rattle.mt_opcreds.specs.Judged.{judged_by}
+use Rattle.mt_lines.specs.Lines.{action_asked, action_named, history_after, next, state_behind}
 use Rattle.mt_lines.specs.Whole.{Whole, talk_of, whole_with}
 use Rattle.mt_lines.proofs.Ids.{differ_still, ids_of, not_false, or_parts}
 
@@ -59,11 +62,12 @@ rows_differ fabrics (row ∷ rows) apart =
       | inr later ↦ rw later (rows_differ fabrics rows both.1)
     ]
 
-pub opens : machine.OpensValid → (fabrics : List Fabric) (entries : List AclEntry) (sessions : List SessionRow) → are_fabrics fabrics ≡ true → are_entries fabrics entries ≡ true → are_sessions sessions ≡ true
+pub opens : machine.OpensValid → history_laws.OpensHistory → (fabrics : List Fabric) (entries : List AclEntry) (sessions : List SessionRow) → are_fabrics fabrics ≡ true → are_entries fabrics entries ≡ true → are_sessions sessions ≡ true
     → IsValidWhole (whole_with fabrics entries sessions)
 unfolding are_sessions
-opens opens_valid fabrics entries sessions fabrics_fit entries_fit sessions_fit = record {
+opens opens_valid opens_history fabrics entries sessions fabrics_fit entries_fit sessions_fit = record {
   node = opens_valid fabrics entries sessions fabrics_fit entries_fit;
+  history = opens_history;
   sessions_differ = rows_differ fabrics sessions (third sessions_fit);
 }
   where
@@ -95,8 +99,25 @@ node_stays stays given w (events.Report ms fabric subscription) keeps valid = va
 node_stays stays given w (events.Resend ms session) keeps valid = stays given w.state.node actions.Nothing ms keeps valid
 node_stays stays given w (events.Stop calls fate) keeps valid = valid
 
-pub stays : machine.StaysValid → machine.SessionsKeepTheirIds → (given : Given) (w : Whole) (e : Event) → KeepsRules given.judged → IsValidWhole w → IsValidWhole (next given w e)
-stays node kept given w e keeps valid = record {
+history_stays : history_laws.StaysHistory → (given : Given) (w : Whole) (e : Event) → KeepsRules given.judged → IsValid w.state.node → IsHistory w.history → IsHistory (history_after given w e)
+history_stays stays given w (events.Ask ms fabric node cats opcode payload) keeps valid is = stays given w.state.node (action_asked w.state (line_actor fabric node cats) (request_in opcode payload)) ms w.history keeps valid is
+history_stays stays given w (events.Datagram ms from bytes) keeps valid is = stays given w.state.node (action_named w.state.node bytes (talk_of (session_named bytes) w.talks)) ms w.history keeps valid is
+history_stays stays given w (events.Tick ms) keeps valid is = stays given w.state.node actions.Expire ms w.history keeps valid is
+history_stays stays given w (events.Report ms fabric subscription) keeps valid is = is
+history_stays stays given w (events.Resend ms session) keeps valid is = stays given w.state.node actions.Nothing ms w.history keeps valid is
+history_stays stays given w (events.Stop calls fate) keeps valid is = is
+
+-- What is given where nobody asks: no verdicts, which keep all rules.
+
+abbrev pub bare : Given → Given
+bare given = record { judged = judged_by [] [] []; reachable = given.reachable }
+
+pub bare_keeps : (given : Given) → KeepsRules (bare given).judged
+bare_keeps given = record { roots = refl; csrs = refl; joins = refl }
+
+pub stays : machine.StaysValid → history_laws.StaysHistory → machine.SessionsKeepTheirIds → (given : Given) (w : Whole) (e : Event) → KeepsRules given.judged → IsValidWhole w → IsValidWhole (next given w e)
+stays node history kept given w e keeps valid = record {
   node = node_stays node given w e keeps valid.node;
+  history = history_stays history given w e keeps valid.node valid.history;
   sessions_differ = differ_still w.state.node.sessions (state_behind given w e).node.sessions (ids_behind kept given w e) valid.sessions_differ;
 }

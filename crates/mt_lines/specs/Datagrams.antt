@@ -24,7 +24,9 @@ use Rattle.mt_talk.specs.Hearing.{Said, after_datagram, answers, asks, confirms,
 use Rattle.mt_talk.specs.Talks.{Talk, after_answer, after_resend, answer_in, resent_in, sent_by}
 use Rattle.mt_machine.specs.Given.{Given}
 use Rattle.mt_machine.specs.Lines.{action_of, fault_reply, is_built_payload, later_by}
-use Rattle.mt_machine.specs.Step.{is_late, reply_of}
+use Rattle.mt_machine.specs.Step.{is_late}
+use Rattle.mt_history.specs.Asking.{full_reply}
+use Rattle.mt_history.specs.History.{History}
 use Rattle.mt_lines.specs.Whole.{SessionTalk, is_live}
 
 -- Which session a datagram names in its message header. What has more than 65,535 bytes is no datagram, and names none.
@@ -55,9 +57,9 @@ action_said id (asks key acknowledge opcode payload timed) = action_of (actor_on
 action_said id said = actions.Nothing
 
 -- What is replied to what is asked over a session. The deadline of a request is that of its exchange.
-abbrev pub reply_over : Given → NodeState → ℕ → Option ℕ → ℕ → Result Request ImFault → Reply
-reply_over given s id timed ms (Ok request) = reply_of given s (actions.Ask (actor_on id) request timed) ms
-reply_over given s id timed ms (Err fault) = fault_reply fault
+abbrev pub reply_over : Given → NodeState → History → ℕ → Option ℕ → ℕ → Result Request ImFault → Reply
+reply_over given s h id timed ms (Ok request) = full_reply given s h (actions.Ask (actor_on id) request timed) ms
+reply_over given s h id timed ms (Err fault) = fault_reply fault
 
 -- the answer to what sets a time, in time, carries until when the next request of the exchange must come
 abbrev pub deadline_set : Option ℕ → ℕ → Result Request ImFault → Option ℕ
@@ -68,8 +70,8 @@ abbrev pub dated : Option ℕ → List Payload → List Payload
 dated None payloads = payloads
 dated until payloads = map (λ (payload : Payload). record payload { deadline = until }) payloads
 
-abbrev pub payloads_over : Given → NodeState → ℕ → Option ℕ → ℕ → Result Request ImFault → List Payload
-payloads_over given s id timed ms asked = dated (deadline_set timed ms asked) (chunks_of (reply_over given s id timed ms asked))
+abbrev pub payloads_over : Given → NodeState → History → ℕ → Option ℕ → ℕ → Result Request ImFault → List Payload
+payloads_over given s h id timed ms asked = dated (deadline_set timed ms asked) (chunks_of (reply_over given s h id timed ms asked))
 
 -- The answer: on this exchange, with this acknowledgement, these payloads. Confirmations and ends are of reports, of
 -- which there are none without subscriptions, and of the rest of a reply.
@@ -78,13 +80,13 @@ pub record Answer : Type 0 where
   pub acknowledge : Option ℕ
   pub payloads : List Payload
 
-abbrev pub answer_to : Given → NodeState → ℕ → ℕ → Said → Option Answer
-answer_to given s id ms nothing = None
-answer_to given s id ms (asks key acknowledge opcode payload timed) =
-    Some (record { key = key; acknowledge = acknowledge; payloads = payloads_over given s id timed ms (request_in opcode payload) })
-answer_to given s id ms (confirms key acknowledge subscription) = Some (record { key = key; acknowledge = acknowledge; payloads = [] })
-answer_to given s id ms (ends key acknowledge subscription) = Some (record { key = key; acknowledge = acknowledge; payloads = [] })
-answer_to given s id ms (answers key acknowledge payloads) = Some (record { key = key; acknowledge = acknowledge; payloads = payloads })
+abbrev pub answer_to : Given → NodeState → History → ℕ → ℕ → Said → Option Answer
+answer_to given s h id ms nothing = None
+answer_to given s h id ms (asks key acknowledge opcode payload timed) =
+    Some (record { key = key; acknowledge = acknowledge; payloads = payloads_over given s h id timed ms (request_in opcode payload) })
+answer_to given s h id ms (confirms key acknowledge subscription) = Some (record { key = key; acknowledge = acknowledge; payloads = [] })
+answer_to given s h id ms (ends key acknowledge subscription) = Some (record { key = key; acknowledge = acknowledge; payloads = [] })
+answer_to given s h id ms (answers key acknowledge payloads) = Some (record { key = key; acknowledge = acknowledge; payloads = payloads })
 
 -- the datagram that it sends, and the talk behind it
 
@@ -111,14 +113,14 @@ if_any (Some bytes) = bytes ∷ []
 
 -- WHAT A DATAGRAM SENDS over the session of this talk, and the talk behind that.
 
-abbrev pub its_answer : Given → NodeState → ℕ → List ℕ → SessionTalk → Option Answer
-its_answer given s ms bytes t = answer_to given s t.row.session ms (said_to s bytes t)
+abbrev pub its_answer : Given → NodeState → History → ℕ → List ℕ → SessionTalk → Option Answer
+its_answer given s h ms bytes t = answer_to given s h t.row.session ms (said_to s bytes t)
 
-abbrev pub sent_over : Given → NodeState → ℕ → Peer → List ℕ → SessionTalk → List Sent
-sent_over given s ms from bytes t = all_sent ms t.row.session (heard s from bytes t).latest (if_any (datagram_of t.row (heard s from bytes t) (its_answer given s ms bytes t)))
+abbrev pub sent_over : Given → NodeState → History → ℕ → Peer → List ℕ → SessionTalk → List Sent
+sent_over given s h ms from bytes t = all_sent ms t.row.session (heard s from bytes t).latest (if_any (datagram_of t.row (heard s from bytes t) (its_answer given s h ms bytes t)))
 
-abbrev pub talked : Given → NodeState → ℕ → Peer → List ℕ → SessionTalk → Talk
-talked given s ms from bytes t = behind_answer t.row ms (heard s from bytes t) (its_answer given s ms bytes t)
+abbrev pub talked : Given → NodeState → History → ℕ → Peer → List ℕ → SessionTalk → Talk
+talked given s h ms from bytes t = behind_answer t.row ms (heard s from bytes t) (its_answer given s h ms bytes t)
 
 -- What is sent again, over a session that is live, and the talk behind that.
 abbrev pub resent_over : NodeState → ℕ → SessionTalk → List Sent

@@ -10,10 +10,9 @@ use Rattle.mt_model.specs.declared.texts.recording.Event.{Event}
 use Rattle.mt_model.specs.declared.texts.recording.Event.TheVariants.{Tick}
 use Rattle.mt_opcreds.specs.Laws.{KeepsRules}
 use Rattle.mt_machine.specs.Given.{Given}
-use Rattle.mt_machine.specs.Isolation.{public_view}
 use Rattle.mt_machine.specs.Lines.{is_tick}
 use Rattle.mt_machine.specs.Touching.{StaysThere}
-use Rattle.mt_lines.specs.Isolation.{IsValidWhole, own_part, veil}
+use Rattle.mt_lines.specs.Isolation.{IsValidWhole, own_part, public_part, veil}
 use Rattle.mt_lines.specs.Lines.{fabric_of, next, sent}
 use Rattle.mt_lines.specs.Whole.{Whole, whole_with}
 
@@ -39,7 +38,7 @@ abbrev pub SeesItsViewAlone : Type 0
 SeesItsViewAlone = (given : Given) (w v : Whole) (e : Event) → IsValidWhole w → IsValidWhole v
     → fabric_of w.state.node e ≡ fabric_of v.state.node e
     → own_part (fabric_of w.state.node e) w ≡ own_part (fabric_of v.state.node e) v
-    → public_view (fabric_of w.state.node e) w.state.node ≡ public_view (fabric_of v.state.node e) v.state.node
+    → public_part (fabric_of w.state.node e) w ≡ public_part (fabric_of v.state.node e) v
     → sent given w e ≡ sent given v e
 
 -- On the veil of its fabric an event leaves the same own part as on the whole.
@@ -52,7 +51,7 @@ abbrev pub LeavesItsOwnByItsView : Type 0
 LeavesItsOwnByItsView = (given : Given) (w v : Whole) (e : Event) → KeepsRules given.judged → IsValidWhole w → IsValidWhole v
     → fabric_of w.state.node e ≡ fabric_of v.state.node e
     → own_part (fabric_of w.state.node e) w ≡ own_part (fabric_of v.state.node e) v
-    → public_view (fabric_of w.state.node e) w.state.node ≡ public_view (fabric_of v.state.node e) v.state.node
+    → public_part (fabric_of w.state.node e) w ≡ public_part (fabric_of v.state.node e) v
     → own_part (fabric_of w.state.node e) (next given w e) ≡ own_part (fabric_of v.state.node e) (next given v e)
 
 -- An event changes nothing that is the own of another fabric, unless that enters the table or leaves it: another's datagrams, what is sent
@@ -74,5 +73,5 @@ TicksOnTheVeil = (given : Given) (fabric : ℕ) (w : Whole) (ms : ℕ) → IsVal
 
 abbrev pub TicksSeeTheMarkAlone : Type 0
 TicksSeeTheMarkAlone = (given : Given) (fabric : ℕ) (w v : Whole) (ms : ℕ) → IsValidWhole w → IsValidWhole v
-    → own_part fabric w ≡ own_part fabric v → public_view fabric w.state.node ≡ public_view fabric v.state.node
+    → own_part fabric w ≡ own_part fabric v → public_part fabric w ≡ public_part fabric v
     → own_part fabric (next given w (Tick ms)) ≡ own_part fabric (next given v (Tick ms))

@@ -1,4 +1,4 @@
--- The whole as it is written: the node, the deadlines of plain actors, and what is said over each session of this boot.
+-- The whole as it is written: the node, the deadlines of plain actors, the events, and what is said over each session of this boot.
 use Rattle.std.specs.Prelude.{ℕ, ◌==◌, Bool, List, [], ◌∷◌, Option, Some, None, filter, is_some, map, if◌then◌else◌}
 use Rattle.std.specs.List.{find, list_any}
 use Rattle.std.specs.Option.{option_and_then, option_map}
@@ -9,6 +9,8 @@ use Rattle.mt_model.specs.declared.tables.fabric.Fabric.{Fabric}
 use Rattle.mt_model.specs.declared.texts.config.Config.{Config}
 use Rattle.mt_model.specs.declared.texts.config.SessionRow.{SessionRow}
 use Rattle.mt_talk.specs.Talks.{Talk, after_drop, begun_talk}
+use Rattle.mt_history.specs.History as histories
+use Rattle.mt_history.specs.History.{History}
 use Rattle.mt_machine.specs.Opened as machine
 use Rattle.mt_machine.specs.State.{State}
 use Rattle.mt_machine.specs.Step.{closed_between, session_actor}
@@ -20,6 +22,7 @@ pub record SessionTalk : Type 0 where
 
 pub record Whole : Type 0 where
   pub state : State
+  pub history : History
   pub talks : List SessionTalk
 
 -- nothing has been said
@@ -30,6 +33,7 @@ begun row = record { row = row; talk = begun_talk }
 abbrev pub whole_with : List Fabric → List AclEntry → List SessionRow → Whole
 whole_with fabrics entries sessions = record {
   state = machine.whole_with fabrics entries sessions;
+  history = histories.opened;
   talks = map begun (filter (λ (row : SessionRow). row.boot == 1) sessions);
 }
 

@@ -11,10 +11,14 @@
 
 ghost use Rattle.mt_lines.specs.Laws.{KeepsItsOwnPart, KeepsTheOwn, LeavesItsOwnByItsView, LeavesTheOwnOnTheVeil, OpensValid, SeesItsViewAlone, SendsOnTheVeil, StaysValid, TicksOnTheVeil, TicksSeeTheMarkAlone, TicksSpareOthers};
 
+use mt_history::{
+    events_are_left_on_the_veil, histories_stay_histories, others_events_are_kept,
+    replies_are_the_same_on_the_veil, veils_keep_events,
+};
 use mt_machine::{
     keeps_the_own as the_own_is_kept, leaves_the_own_on_the_veil as the_own_is_left_on_the_veil,
-    sees_the_veil, sends_on_the_veil as it_is_sent_on_the_veil, sessions_keep_their_ids,
-    states_are_valid, ticks_let_the_failsafe_expire, veil_keeps_both_parts,
+    sessions_keep_their_ids, states_are_valid, ticks_let_the_failsafe_expire,
+    veil_keeps_both_parts, what_is_asked_is_the_same_on_the_veil,
 };
 
 /// The whole that a configuration begins is valid, and a line leaves it so: its node is valid, and the ids of sessions
@@ -24,6 +28,7 @@ pub fn wholes_are_valid()
     ensures stays { StaysValid }
 {
     states_are_valid();
+    histories_stay_histories();
     sessions_keep_their_ids();
 }
 
@@ -32,6 +37,7 @@ pub fn veil_keeps_the_own()
     ensures { KeepsItsOwnPart }
 {
     veil_keeps_both_parts();
+    veils_keep_events();
 }
 
 /// What an event sends on the veil of its fabric is what it sends on the whole. So it is determined by the own part of
@@ -40,8 +46,8 @@ pub fn sends_on_the_veil()
     ensures veil { SendsOnTheVeil }
     ensures view { SeesItsViewAlone }
 {
-    it_is_sent_on_the_veil();
-    sees_the_veil();
+    replies_are_the_same_on_the_veil();
+    what_is_asked_is_the_same_on_the_veil();
 }
 
 /// On the veil of its fabric an event leaves the same own part as on the whole. So that is determined by the own part of
@@ -52,8 +58,12 @@ pub fn leaves_the_own_on_the_veil()
 {
     the_own_is_left_on_the_veil();
     the_own_is_kept();
-    sees_the_veil();
     veil_keeps_both_parts();
+    veils_keep_events();
+    replies_are_the_same_on_the_veil();
+    events_are_left_on_the_veil();
+    others_events_are_kept();
+    what_is_asked_is_the_same_on_the_veil();
     sessions_keep_their_ids();
 }
 
@@ -63,6 +73,8 @@ pub fn keeps_the_own()
     ensures { KeepsTheOwn }
 {
     the_own_is_kept();
+    others_events_are_kept();
+    what_is_asked_is_the_same_on_the_veil();
     sessions_keep_their_ids();
 }
 
@@ -74,6 +86,7 @@ pub fn ticks_see_the_mark_alone()
     ensures mark { TicksSeeTheMarkAlone }
 {
     ticks_let_the_failsafe_expire();
-    veil_keeps_both_parts();
+    events_are_left_on_the_veil();
+    others_events_are_kept();
     sessions_keep_their_ids();
 }

@@ -17,7 +17,8 @@ use Rattle.mt_model.specs.declared.tables.fabric.Fabric.{Fabric}
 use Rattle.mt_model.specs.declared.tables.network.Armed.{Armed}
 use Rattle.mt_machine.specs.Effects.{armed_behind, completed, plain_without, session_completed, standing_completed, trusting, with_request, with_root}
 use Rattle.mt_machine.specs.Rollback.{roots_behind}
-use Rattle.mt_machine.specs.State.{IsValid, follows, is_added, is_among, is_given_root, is_plain_of, is_root_of, is_session, is_updated, is_used, keeps_facts, plain_follows, stands_rightly}
+use Rattle.mt_machine.specs.State.{IsValid, follows, is_added, is_among, is_given_root, is_plain_of, is_session, is_updated, is_used, keeps_facts, plain_follows, stands_rightly}
+use Rattle.mt_model.specs.tables.Holding.{is_root_of}
 use Rattle.mt_machine.proofs.Opening.{same_bytes, with_root_differ, with_root_used}
 use Rattle.mt_machine.proofs.Rolled.{all-passed, none-filter}
 use Rattle.mt_machine.proofs.ValidParts.{ArmedHolds, PlainHolds, RootsHold, SessionsHold, its_armed, its_entries, its_fabrics, its_networks, its_plain, its_roots, its_rows, its_sessions, with-parts}

@@ -17,7 +17,8 @@ use Rattle.mt_model.specs.declared.tables.fabric.Fabric.{Fabric}
 use Rattle.mt_model.specs.declared.tables.network.Armed.{Armed}
 use Rattle.mt_machine.specs.Effects.{is_renewed_by, labelled_in, may_update, updated_in, with_saved_credentials}
 use Rattle.mt_opcreds.specs.Laws.{are_credentials_if}
-use Rattle.mt_machine.specs.State.{IsValid, are_networks, has_entries_up_to, is_added, is_among, is_awaited_root, is_owned, is_root_of, is_row, is_session, is_updated, is_used, saves_identity}
+use Rattle.mt_machine.specs.State.{IsValid, are_networks, has_entries_up_to, is_added, is_among, is_awaited_root, is_row, is_session, is_updated, is_used}
+use Rattle.mt_model.specs.tables.Holding.{is_owned, is_root_of, saves_identity}
 use Rattle.mt_machine.proofs.OtherFabrics.{entry-among, facts-still, is_its, none-is, plain-still, row-among, same_number, stands-still}
 use Rattle.mt_machine.proofs.Rolled.{all-true, only-one}
 use Rattle.mt_machine.proofs.ValidParts.{ArmedHolds, EntriesHold, FabricsHold, PlainHolds, RootsHold, RowsHold, SessionsHold, fabrics_of, its_armed, its_entries, its_fabrics, its_networks, its_plain, its_roots, its_rows, its_sessions, table_of, with-parts}

@@ -21,7 +21,8 @@ use Rattle.mt_model.specs.declared.tables.access.Auth.TheVariants.{Pase, Case, G
 use Rattle.mt_model.specs.declared.tables.fabric.Fabric.{Fabric}
 use Rattle.mt_model.specs.declared.tables.network.Armed.{Armed}
 use Rattle.mt_machine.specs.Effects.{is_on, is_pase, is_plain, joined, joined_as, may_join, plain_joined, session_joined, standing_joined}
-use Rattle.mt_machine.specs.State.{IsValid, follows, has_entries_up_to, is_added, is_among, is_awaited_root, is_owned, is_plain_of, is_root_of, is_row, is_session, is_updated, is_used, plain_follows, stands_rightly}
+use Rattle.mt_machine.specs.State.{IsValid, follows, has_entries_up_to, is_added, is_among, is_awaited_root, is_plain_of, is_row, is_session, is_updated, is_used, plain_follows, stands_rightly}
+use Rattle.mt_model.specs.tables.Holding.{is_owned, is_root_of}
 use Rattle.mt_machine.proofs.OtherFabrics.{either-among, entry-among, is_its, none-is, owned_among, plain-still, row-among, same_number}
 use Rattle.mt_machine.proofs.ValidParts.{ArmedHolds, EntriesHold, FabricsHold, PlainHolds, RootsHold, RowsHold, SessionsHold, fabrics_of, its_armed, its_fabrics, its_networks, its_plain, its_roots, its_sessions, table_of, with-parts}
 use Rattle.mt_machine.proofs.Writes.{all-weaker, impossible}

@@ -26,7 +26,8 @@ use Rattle.mt_model.specs.declared.tables.fabric.Fabric.{Fabric}
 use Rattle.mt_model.specs.declared.tables.network.Armed.{Armed}
 use Rattle.mt_machine.specs.Effects.{may_leave, plain_without, session_without, without_fabric}
 use Rattle.mt_machine.specs.Isolation.{is_live_for}
-use Rattle.mt_machine.specs.State.{IsValid, follows, has_entries_up_to, has_one_row, is_among, is_owned, is_plain_of, is_row, is_row_at, is_session, is_unscoped, plain_follows, stands_once, stands_rightly}
+use Rattle.mt_machine.specs.State.{IsValid, follows, has_entries_up_to, has_one_row, is_among, is_plain_of, is_row, is_row_at, is_session, is_unscoped, plain_follows, stands_once, stands_rightly}
+use Rattle.mt_model.specs.tables.Holding.{is_owned}
 use Rattle.mt_machine.specs.State as states
 use Rattle.mt_machine.proofs.NetworksValid.{all-passing, length-kept}
 use Rattle.mt_machine.proofs.OtherFabrics.{entry-among, eq-turned, facts-still, is_its, plain-still, row-among, stands-still}

@@ -21,6 +21,7 @@ pub mod Settled
 pub mod Spared
 pub mod Sparing
 pub mod Steps
+pub mod Tells
 pub mod Times
 pub mod Veiled
 pub mod Writes

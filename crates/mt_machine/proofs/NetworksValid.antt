@@ -10,7 +10,8 @@ use Rattle.mt_model.specs.declared.node.state.NodeState.{NodeState}
 use Rattle.mt_model.specs.declared.tables.network.Network.{Network}
 use Rattle.mt_commission.specs.NetworkCommissioning.{has_id}
 use Rattle.mt_machine.specs.Effects.{connected_to, moved_to, others_than, with_network, with_new, with_secret}
-use Rattle.mt_machine.specs.State.{IsValid, are_networks, have_one_id, is_network}
+use Rattle.mt_machine.specs.State.{IsValid, are_networks}
+use Rattle.mt_model.specs.tables.Holding.{have_one_id, is_network}
 use Rattle.mt_machine.proofs.Rolled.{none-filter, none-map}
 use Rattle.mt_machine.proofs.ValidParts.{its_armed, its_entries, its_fabrics, its_plain, its_roots, its_rows, its_sessions, with-parts}
 use Rattle.mt_machine.proofs.Writes.{all-filter, all-weaker}

@@ -21,7 +21,8 @@ use Rattle.mt_model.specs.declared.tables.fabric.Fabric.{Fabric}
 use Rattle.mt_machine.specs.Opened.{live_or_waits, opened_with, session_of, sessions_of, standing_of, unchanged, with_roots_of}
 use Rattle.mt_machine.specs.Effects.{with_root}
 use Rattle.mt_model.specs.declared.node.state.NodeSession.{NodeSession}
-use Rattle.mt_machine.specs.State.{IsValid, follows, has_one_row, is_change_up_to, is_owned, is_root_of, is_row, is_session, is_used, stands_once, stands_rightly}
+use Rattle.mt_machine.specs.State.{IsValid, follows, has_one_row, is_change_up_to, is_row, is_session, is_used, stands_once, stands_rightly}
+use Rattle.mt_model.specs.tables.Holding.{is_owned, is_root_of}
 
 -- Fabrics.
 

@@ -21,7 +21,8 @@ use Rattle.mt_model.specs.declared.tables.fabric.Credentials.{Credentials}
 use Rattle.mt_model.specs.declared.tables.fabric.Fabric.{Fabric}
 use Rattle.mt_model.specs.declared.tables.network.Armed.{Armed}
 use Rattle.mt_machine.specs.Isolation.{is_live_for}
-use Rattle.mt_machine.specs.State.{is_added, is_among, is_owned, is_plain_of, is_row, is_row_at, is_row_of, is_updated, keeps_facts, saves_identity, stands_rightly}
+use Rattle.mt_machine.specs.State.{is_added, is_among, is_plain_of, is_row, is_row_at, is_row_of, is_updated, keeps_facts, stands_rightly}
+use Rattle.mt_model.specs.tables.Holding.{is_owned, saves_identity}
 use Rattle.mt_machine.proofs.Writes.{impossible}
 
 pub none-is : {X : Type 0} (o : Option X) → is_none o ≡ true → o ≡ None

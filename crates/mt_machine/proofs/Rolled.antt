@@ -35,7 +35,8 @@ use Rattle.mt_model.specs.declared.tables.fabric.Fabric.{Fabric}
 use Rattle.mt_model.specs.declared.tables.network.Armed.{Armed}
 use Rattle.mt_machine.specs.Rollback.{breadcrumb, ends, fabrics_behind, given_back, rolled_back, session_behind, undone}
 use Rattle.mt_opcreds.specs.Laws.{are_credentials_if}
-use Rattle.mt_machine.specs.State.{IsValid, are_networks, follows, has_entries_up_to, has_one_row, have_one_id, is_added, is_among, is_network, is_owned, is_root_of, is_row, is_row_at, is_row_of, is_session, is_unscoped, is_updated, is_used, keeps_facts, saves_identity, saves_rightly, stands_once, stands_rightly}
+use Rattle.mt_machine.specs.State.{IsValid, are_networks, follows, has_entries_up_to, has_one_row, is_added, is_among, is_row, is_row_at, is_row_of, is_session, is_unscoped, is_updated, is_used, keeps_facts, saves_rightly, stands_once, stands_rightly}
+use Rattle.mt_model.specs.tables.Holding.{have_one_id, is_network, is_owned, is_root_of, saves_identity}
 use Rattle.mt_machine.proofs.Writes.{all-filter, all-kept, all-weaker, after_step, impossible, members_are_positive, nobodys, place-same}
 use Rattle.mt_machine.specs.Taking.{fits}
 

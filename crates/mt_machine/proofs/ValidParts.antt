@@ -13,7 +13,8 @@ use Rattle.mt_model.specs.declared.tables.access.AclEntry.{AclEntry}
 use Rattle.mt_model.specs.declared.tables.fabric.Fabric.{Fabric}
 use Rattle.mt_model.specs.declared.tables.network.Armed.{Armed}
 use Rattle.mt_model.specs.declared.tables.network.Network.{Network}
-use Rattle.mt_machine.specs.State.{IsValid, are_networks, follows, has_entries_up_to, has_one_row, have_one_id, is_network, is_owned, is_plain_of, is_row, is_session, is_used, keeps_facts, plain_follows, saves_rightly, stands_once}
+use Rattle.mt_machine.specs.State.{IsValid, are_networks, follows, has_entries_up_to, has_one_row, is_plain_of, is_row, is_session, is_used, keeps_facts, plain_follows, saves_rightly, stands_once}
+use Rattle.mt_model.specs.tables.Holding.{have_one_id, is_network, is_owned}
 
 pub record FabricsHold (fabrics : List Fabric) : Type 0 where
   pub few : nat_le (length fabrics) 16 ≡ true

@@ -79,6 +79,31 @@ left_of_kept fabric s u same ds =
     own_left fabric s u ds
     ∙ ap (λ (b : Bool). if b then [] else own_deadlines fabric ds) (ap (λ (b : Bool). is_member fabric s && not b) (member_alike fabric u s same) ∙ and_not (is_member fabric s))
 
+same_number : (n : ℕ) → (n == n) ≡ true
+same_number n = grind arith
+
+-- A line's actor is taken as the same one on the veil of its fabric as on the state, or as nobody on both.
+module _ (s : NodeState) (valid : IsValid s) (P : ℕ → Actor → Type 0)
+    (one : (actor asking : Actor) → asker (veil asking.fabric s) actor ≡ Some asking → asker s actor ≡ Some asking → P asking.fabric actor)
+    (nobody : (fabric : ℕ) (actor : Actor) → asker (veil fabric s) actor ≡ None → asker s actor ≡ None → P fabric actor) where
+  over_pase : (plain : Option ℕ) → s.plain ≡ plain → P (unwrap_or plain 0) (pase_actor 0)
+  over_pase None is = nobody 0 (pase_actor 0) (rw is refl) (rw is refl)
+  over_pase (Some p) is = one (pase_actor 0) (pase_actor p) (rw (is, same_number p) refl) (rw is refl)
+
+  over_case : (fabric node : ℕ) (cats : List ℕ) (member : Bool) → is_member fabric s ≡ member → P fabric (case_actor fabric node cats)
+  over_case fabric node cats true is =
+      one (case_actor fabric node cats) (case_actor fabric node cats)
+      (ap (λ (there : Bool). if there then Some (case_actor fabric node cats) else None) (members-veil fabric s valid.fabrics_rise ∙ is))
+      (ap (λ (there : Bool). if there then Some (case_actor fabric node cats) else None) is)
+  over_case fabric node cats false is =
+      nobody fabric (case_actor fabric node cats)
+      (ap (λ (there : Bool). if there then Some (case_actor fabric node cats) else None) (members-veil fabric s valid.fabrics_rise ∙ is))
+      (ap (λ (there : Bool). if there then Some (case_actor fabric node cats) else None) is)
+
+  pub by_line : (fabric node : ℕ) (cats : List ℕ) (none : Bool) → P (if none then unwrap_or s.plain 0 else fabric) (if none then pase_actor 0 else case_actor fabric node cats)
+  by_line fabric node cats true = over_pase s.plain refl
+  by_line fabric node cats false = over_case fabric node cats (is_member fabric s) refl
+
 module _ (given : Given) where
   -- The steps of a request leave the same own part on the veil of whoever asks as on the state.
   abbrev pub AlikeOn : NodeState → Type 0
@@ -97,7 +122,7 @@ module _ (given : Given) where
         ∙ ap (λ (o : Observation). if is_late deadline ms then refusal (code_of Timeout) else reply_to given o asking (is_some deadline) request) (sees-veil asking.fabric s.node valid)
         ∙ sym (ap (asked_reply given s.node request deadline ms) on_state)
 
-    reply_same : (ms : ℕ) (asked : Result Request ImFault) → line_reply given veiled actor asking ms asked ≡ line_reply given s actor asking ms asked
+    pub reply_same : (ms : ℕ) (asked : Result Request ImFault) → line_reply given veiled actor asking ms asked ≡ line_reply given s actor asking ms asked
     reply_same ms (Ok request) =
         (λ i. if is_timed request && (not (room-own asking s.deadlines i) && not (is_late (deadline-own asking s.deadlines i) ms)) then refusal (code_of Busy)
         else asked_reply given veiled.node request (deadline-own asking s.deadlines i) ms (asker veiled.node actor))
@@ -112,7 +137,7 @@ module _ (given : Given) where
 
     -- What it leaves of the own part.
 
-    steps_same : (request : Request) (deadline : Option ℕ) (ms : ℕ) → asked_steps given veiled.node request deadline ms (asker veiled.node actor) ≡ asked_steps given s.node request deadline ms (asker s.node actor)
+    pub steps_same : (request : Request) (deadline : Option ℕ) (ms : ℕ) → asked_steps given veiled.node request deadline ms (asker veiled.node actor) ≡ asked_steps given s.node request deadline ms (asker s.node actor)
     steps_same request deadline ms =
         ap (asked_steps given veiled.node request deadline ms) on_veil
         ∙ ap (λ (o : Observation). if is_late deadline ms then [] else steps_to given o asking (is_some deadline) request) (sees-veil asking.fabric s.node valid)
@@ -184,34 +209,9 @@ module _ (given : Given) where
   whole-again : (fabric : ℕ) (s : State) → IsValid s.node → own_of_whole fabric (veil_of_whole fabric s) ≡ own_of_whole fabric s
   whole-again fabric s valid = λ i. record { node = own-again fabric s.node valid.fabrics_rise i; deadlines = own_twice fabric s.deadlines i }
 
-  same_number : (n : ℕ) → (n == n) ≡ true
-  same_number n = grind arith
-
-  -- A line's actor is taken as the same one on the veil of its fabric as on the state, or as nobody on both.
-  module _ (s : State) (valid : IsValid s.node) (P : ℕ → Actor → Type 0)
-      (one : (actor asking : Actor) → asker (veil asking.fabric s.node) actor ≡ Some asking → asker s.node actor ≡ Some asking → P asking.fabric actor)
-      (nobody : (fabric : ℕ) (actor : Actor) → asker (veil fabric s.node) actor ≡ None → asker s.node actor ≡ None → P fabric actor) where
-    over_pase : (plain : Option ℕ) → s.node.plain ≡ plain → P (unwrap_or plain 0) (pase_actor 0)
-    over_pase None is = nobody 0 (pase_actor 0) (rw is refl) (rw is refl)
-    over_pase (Some p) is = one (pase_actor 0) (pase_actor p) (rw (is, same_number p) refl) (rw is refl)
-
-    over_case : (fabric node : ℕ) (cats : List ℕ) (member : Bool) → is_member fabric s.node ≡ member → P fabric (case_actor fabric node cats)
-    over_case fabric node cats true is =
-        one (case_actor fabric node cats) (case_actor fabric node cats)
-        (ap (λ (there : Bool). if there then Some (case_actor fabric node cats) else None) (members-veil fabric s.node valid.fabrics_rise ∙ is))
-        (ap (λ (there : Bool). if there then Some (case_actor fabric node cats) else None) is)
-    over_case fabric node cats false is =
-        nobody fabric (case_actor fabric node cats)
-        (ap (λ (there : Bool). if there then Some (case_actor fabric node cats) else None) (members-veil fabric s.node valid.fabrics_rise ∙ is))
-        (ap (λ (there : Bool). if there then Some (case_actor fabric node cats) else None) is)
-
-    by_line : (fabric node : ℕ) (cats : List ℕ) (none : Bool) → P (if none then unwrap_or s.node.plain 0 else fabric) (if none then pase_actor 0 else case_actor fabric node cats)
-    by_line fabric node cats true = over_pase s.node.plain refl
-    by_line fabric node cats false = over_case fabric node cats (is_member fabric s.node) refl
-
   pub sends_on_veil : (s : State) (e : Event) → IsValid s.node → sent given (veil_of_whole (fabric_of s.node e) s) e ≡ sent given s e
   sends_on_veil s (events.Ask ms fabric node cats opcode payload) valid =
-      by_line s valid (λ f actor. sent_for given (veil_of_whole f s) actor ms (request_in opcode payload) ≡ sent_for given s actor ms (request_in opcode payload))
+      by_line s.node valid (λ f actor. sent_for given (veil_of_whole f s) actor ms (request_in opcode payload) ≡ sent_for given s actor ms (request_in opcode payload))
       (λ actor asking on_veil on_state. sends_same s valid actor asking on_veil on_state ms (request_in opcode payload))
       (λ f actor on_veil on_state. sends_none (veil_of_whole f s) s actor ms (request_in opcode payload) on_veil on_state)
       fabric node cats (fabric == 0)
@@ -223,7 +223,7 @@ module _ (given : Given) where
 
   pub leaves_on_veil : (s : State) (e : Event) → IsValid s.node → AlikeOn s.node → own_of_whole (fabric_of s.node e) (next given (veil_of_whole (fabric_of s.node e) s) e) ≡ own_of_whole (fabric_of s.node e) (next given s e)
   leaves_on_veil s (events.Ask ms fabric node cats opcode payload) valid alike =
-      by_line s valid (λ f actor. own_of_whole f (next_for given (veil_of_whole f s) actor ms (request_in opcode payload)) ≡ own_of_whole f (next_for given s actor ms (request_in opcode payload)))
+      by_line s.node valid (λ f actor. own_of_whole f (next_for given (veil_of_whole f s) actor ms (request_in opcode payload)) ≡ own_of_whole f (next_for given s actor ms (request_in opcode payload)))
       (λ actor asking on_veil on_state. leaves_same s valid actor asking on_veil on_state alike ms (request_in opcode payload))
       (λ f actor on_veil on_state. own_stays f (veil_of_whole f s) actor ms (request_in opcode payload) on_veil ∙ whole-again f s valid ∙ sym (own_stays f s actor ms (request_in opcode payload) on_state))
       fabric node cats (fabric == 0)
@@ -269,7 +269,7 @@ module _ (given : Given) where
 
     pub keeps_own : (e : Event) → is_tick e ≡ false → fabric ≢ fabric_of s.node e → StaysThere fabric s.node (next given s e).node → own_of_whole fabric (next given s e) ≡ own_of_whole fabric s
     keeps_own (events.Ask ms other node cats opcode payload) no_tick differ there =
-        by_line s valid (λ f actor. fabric ≢ f → StaysThere fabric s.node (next_for given s actor ms (request_in opcode payload)).node → own_of_whole fabric (next_for given s actor ms (request_in opcode payload)) ≡ own_of_whole fabric s)
+        by_line s.node valid (λ f actor. fabric ≢ f → StaysThere fabric s.node (next_for given s actor ms (request_in opcode payload)).node → own_of_whole fabric (next_for given s actor ms (request_in opcode payload)) ≡ own_of_whole fabric s)
         (λ actor asking on_veil on_state apart stay. kept_whole actor asking ms (request_in opcode payload) on_state (not_equal fabric asking.fabric apart) stay)
         (λ f actor on_veil on_state apart stay. own_stays fabric s actor ms (request_in opcode payload) on_state)
         other node cats (other == 0) differ there

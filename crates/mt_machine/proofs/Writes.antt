@@ -33,7 +33,8 @@ use Rattle.mt_write.specs.Laws.{are_entries_of, is_entry_of, is_sound_row}
 use Rattle.mt_machine.specs.Changes.{change_after, changed_at, count_after, next_change, version_after}
 use Rattle.mt_machine.specs.Effects.{after}
 use Rattle.mt_machine.specs.Taking.{fits, fits_row}
-use Rattle.mt_machine.specs.State.{IsValid, has_entries_up_to, has_one_row, is_among, is_change_up_to, is_owned, is_row, is_row_at, is_row_of, is_unscoped, stands_once}
+use Rattle.mt_machine.specs.State.{IsValid, has_entries_up_to, has_one_row, is_among, is_change_up_to, is_row, is_row_at, is_row_of, is_unscoped, stands_once}
+use Rattle.mt_model.specs.tables.Holding.{is_owned}
 
 -- Lists.
 

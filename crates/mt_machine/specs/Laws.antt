@@ -1,5 +1,5 @@
 -- Laws of the written machine.
-use Rattle.std.specs.Prelude.{◌≡◌, ◌≢◌, ℕ, List, [], ◌∷◌, None, Option, Result, Some, false, map, true, if◌then◌else◌}
+use Rattle.std.specs.Prelude.{◌≡◌, ◌≢◌, ℕ, ◌==◌, ◌||◌, List, [], ◌∷◌, None, Option, Result, Some, false, map, true, unwrap_or, if◌then◌else◌}
 use Rattle.std.specs.List.{list_all}
 use Rattle.mt_failsafe.specs.Notes.{was_added, was_updated}
 use Rattle.mt_model.specs.Optional.{is_that}
@@ -19,7 +19,7 @@ use Rattle.mt_fabrics.specs.Table.{credentials_at}
 use Rattle.mt_model.specs.declared.node.action.NodeStep.{NodeStep}
 use Rattle.mt_model.specs.declared.node.action.NodeStep.TheVariants.{RemoveFabric, UpdateFabric}
 use Rattle.mt_model.specs.declared.tables.access.Actor.{Actor}
-use Rattle.mt_machine.specs.Effects.{after, after_all, is_setting_step, is_sound_step, may_update, sets_values}
+use Rattle.mt_machine.specs.Effects.{after, after_all, events_in, is_setting_step, is_sound_step, may_update, sets_values}
 use Rattle.mt_machine.specs.Taking.{may_take, may_take_all}
 use Rattle.mt_machine.specs.Touching.{StaysThere, is_its_step, may_touch}
 use Rattle.mt_machine.specs.Given.{Given}
@@ -27,7 +27,7 @@ use Rattle.mt_machine.specs.Isolation.{own, own_of_whole, public_view, veil, vei
 use Rattle.mt_model.specs.declared.node.action.NodeStep.TheVariants as steps
 use Rattle.mt_machine.specs.Leaving.{has_left}
 use Rattle.mt_model.specs.declared.texts.recording.Event.TheVariants.{Tick}
-use Rattle.mt_machine.specs.Lines.{action_of, behind_action, fabric_of, is_tick, next, sent}
+use Rattle.mt_machine.specs.Lines.{action_of, behind_action, deadline_of, fabric_of, is_tick, line_actor, line_reply, next, sent}
 use Rattle.mt_machine.specs.Observation.{observation}
 use Rattle.mt_machine.specs.Opened.{opened_with}
 use Rattle.mt_machine.specs.Rollback.{added_in, deadlines_left, is_due, rollback}
@@ -35,7 +35,8 @@ use Rattle.mt_model.specs.declared.node.action.Action.TheVariants.{Expire, Nothi
 use Rattle.mt_im.specs.declared.fault.ImFault.{ImFault}
 use Rattle.mt_model.specs.declared.messages.message.Request.{Request}
 use Rattle.mt_model.specs.declared.node.state.NodeSession.{NodeSession}
-use Rattle.mt_machine.specs.State.{IsValid, State, rows_of}
+use Rattle.mt_machine.specs.State.{IsValid, State, is_member, rows_of}
+use Rattle.mt_machine.specs.Telling.{is_told_as, told_between}
 use Rattle.mt_opcreds.specs.Laws.{KeepsRules}
 use Rattle.mt_machine.specs.Step.{after_action, after_steps, asker, aside_between, aside_of, asker_of, at_time, gone_between, steps_of}
 
@@ -228,6 +229,47 @@ EndsNothing = (session : Option ℕ) (asker : Option Actor) (steps : List NodeSt
 abbrev pub OneLeaves : Type 0
 OneLeaves = (given : Given) (s : NodeState) (action : Action) (now fabric : ℕ) → KeepsRules given.judged → IsValid s
     → has_left s (after_action given s action now) fabric ≡ is_that fabric (aside_of given s action now).gone
+
+-- So it is on the veil of whoever asks, whether or not that is valid.
+abbrev pub OneLeavesOnTheVeil : Type 0
+OneLeavesOnTheVeil = (given : Given) (s : NodeState) (actor asking : Actor) (asked : Result Request ImFault) (deadline : Option ℕ) (now fabric : ℕ) → KeepsRules given.judged → IsValid s
+    → asker s actor ≡ Some asking → asker (veil asking.fabric s) actor ≡ Some asking
+    → has_left (veil asking.fabric s) (after_action given (veil asking.fabric s) (action_of actor deadline asked) now) fabric
+    ≡ is_that fabric (aside_of given (veil asking.fabric s) (action_of actor deadline asked) now).gone
+
+-- Each event among an action's steps is told to the asker's fabric alone, or to all; where nobody asks, to all.
+abbrev pub TellsItsOwn : Type 0
+TellsItsOwn = (given : Given) (s : NodeState) (action : Action) (now : ℕ) → KeepsRules given.judged → IsValid s → list_all (is_told_as (asker_of s action)) (steps_of given s action now) ≡ true
+
+-- Steps that set values tell the events among them, and nothing besides.
+abbrev pub SettingStepsTell : Type 0
+SettingStepsTell = (asker : Option Actor) (steps : List NodeStep) (s : NodeState) (now : ℕ) → list_all is_setting_step steps ≡ true
+    → told_between asker steps s (after_steps asker steps (at_time now s)) ≡ events_in steps
+
+-- The actor of a line is taken as the same one on the veil of the fabric for which the line acts, or as nobody on both; whoever it is taken
+-- as is of that fabric.
+abbrev pub LinesAskOnTheVeil : Type 0
+LinesAskOnTheVeil = (s : NodeState) (fabric node : ℕ) (cats : List ℕ) → IsValid s
+    → (asker (veil (if fabric == 0 then unwrap_or s.plain 0 else fabric) s) (line_actor fabric node cats) ≡ asker s (line_actor fabric node cats))
+    × ((asking : Actor) → asker s (line_actor fabric node cats) ≡ Some asking → asking.fabric ≡ (if fabric == 0 then unwrap_or s.plain 0 else fabric))
+
+-- Whoever is taken as asking is of a fabric of the table, or of none.
+abbrev pub AskersAreKnown : Type 0
+AskersAreKnown = (s : NodeState) (actor asking : Actor) → IsValid s → asker s actor ≡ Some asking → (asking.fabric == 0 || is_member asking.fabric s) ≡ true
+
+-- Where an actor is taken as the same one on the veil of its fabric, a line of it is replied the same there, its deadline is the same, and
+-- the steps of what it asks are.
+
+abbrev pub LinesReplyOnTheVeil : Type 0
+LinesReplyOnTheVeil = (given : Given) (s : State) (actor asking : Actor) (ms : ℕ) (asked : Result Request ImFault) → IsValid s.node → asker s.node actor ≡ Some asking → asker (veil asking.fabric s.node) actor ≡ Some asking
+    → line_reply given (veil_of_whole asking.fabric s) actor asking ms asked ≡ line_reply given s actor asking ms asked
+
+abbrev pub DeadlinesOnTheVeil : Type 0
+DeadlinesOnTheVeil = (s : State) (asking : Actor) → deadline_of asking (veil_of_whole asking.fabric s).deadlines ≡ deadline_of asking s.deadlines
+
+abbrev pub StepsOnTheVeil : Type 0
+StepsOnTheVeil = (given : Given) (s : NodeState) (actor asking : Actor) (asked : Result Request ImFault) (deadline : Option ℕ) (ms : ℕ) → IsValid s → asker s actor ≡ Some asking → asker (veil asking.fabric s) actor ≡ Some asking
+    → steps_of given (veil asking.fabric s) (action_of actor deadline asked) ms ≡ steps_of given s (action_of actor deadline asked) ms
 
 -- The rows of each place stand in the order in which a fabric sees them.
 abbrev pub StandsInOrder : Type 0

@@ -16,4 +16,5 @@ pub mod Settings
 pub mod State
 pub mod Step
 pub mod Taking
+pub mod Telling
 pub mod Touching

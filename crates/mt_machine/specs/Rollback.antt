@@ -18,7 +18,7 @@ use Rattle.mt_model.specs.declared.tables.access.Auth.TheVariants.{Pase}
 use Rattle.mt_model.specs.declared.tables.fabric.Credentials.{Credentials}
 use Rattle.mt_model.specs.declared.tables.fabric.Fabric.{Fabric}
 use Rattle.mt_model.specs.declared.tables.network.Armed.{Armed}
-use Rattle.mt_machine.specs.State.{is_root_of}
+use Rattle.mt_model.specs.tables.Holding.{is_root_of}
 
 -- The fabric that was updated has the credentials that it had; its label and its vendor stay as they are now.
 abbrev pub given_back : Option ℕ → Option Credentials → Fabric → Fabric

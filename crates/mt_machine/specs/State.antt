@@ -10,9 +10,10 @@ use Rattle.mt_meta.specs.Forms.{has_form}
 use Rattle.mt_meta.specs.Places.{all_places}
 use Rattle.mt_meta.specs.Stored.{is_stored}
 use Rattle.mt_meta.specs.declared.meta.Meta.{Meta}
-use Rattle.mt_model.specs.texts.Config.{ascend_from, has_identity, has_up_to, have_one_identity, have_one_label, is_entry, is_fabric, is_of, none_alike}
+use Rattle.mt_model.specs.texts.Config.{ascend_from, has_identity, have_one_identity, have_one_label, is_entry, is_fabric, is_of, none_alike}
 use Rattle.mt_model.specs.rows.Order.{are_ascending, fabrics_ascend}
 use Rattle.mt_model.specs.rows.Sight.{stands_at}
+use Rattle.mt_model.specs.tables.Holding.{have_one_id, is_network, is_owned, is_root_of, saves_identity}
 use Rattle.mt_model.specs.declared.tables.access.AclEntry.{AclEntry}
 use Rattle.mt_model.specs.declared.tables.access.Auth.{Auth}
 use Rattle.mt_model.specs.declared.tables.access.Auth.TheVariants.{Pase}
@@ -56,10 +57,6 @@ is_member fabric s = is_among s.fabrics fabric
 
 -- What holds of a state's parts.
 
--- an entry is of a fabric of the table
-abbrev pub is_owned : List Fabric → AclEntry → Bool
-is_owned fabrics entry = list_any (λ fabric. is_of fabric entry) fabrics
-
 abbrev pub has_entries_up_to : ℕ → List AclEntry → Fabric → Bool
 has_entries_up_to most entries fabric = nat_le (count_by (is_of fabric) entries) most
 
@@ -86,9 +83,6 @@ has_one_row place = is_stored place && is_unscoped (find_of place)
 abbrev pub stands_once : List Row → Place → Bool
 stands_once rows place = count_by (stands_at place) rows == 1
 
-abbrev pub is_root_of : List ℕ → Fabric → Bool
-is_root_of root fabric = bytes_eq fabric.credentials.root root
-
 -- the root certificate that was given under the fail-safe
 abbrev pub is_given_root : List ℕ → Option (List ℕ) → Bool
 is_given_root root None = false
@@ -101,12 +95,6 @@ is_awaited_root root (Some armed) = is_given_root root armed.root
 -- a fabric uses a root, or commissioning does
 abbrev pub is_used : List Fabric → Option Armed → List ℕ → Bool
 is_used fabrics armed root = list_any (is_root_of root) fabrics || is_awaited_root root armed
-
-abbrev pub is_network : Network → Bool
-is_network network = has_up_to 32 network.id && nat_le (length network.secret) 64
-
-abbrev pub have_one_id : Network → Network → Bool
-have_one_id a b = bytes_eq a.id b.id
 
 -- A session that is live over CASE has the identity of its fabric, which is in the table, and the identity of one that
 -- waits is in no table. Over PASE a session has no fabric, or one of the table.
@@ -133,10 +121,6 @@ is_change_up_to changed change = nat_le change.number changed
 
 abbrev pub is_added : List Fabric → Armed → Option ℕ → Bool
 is_added fabrics armed added = is_added_to (is_among fabrics) armed added
-
-abbrev pub saves_identity : List Fabric → ℕ → Option Credentials → Bool
-saves_identity fabrics fabric None = false
-saves_identity fabrics fabric (Some saved) = list_any (λ (f : Fabric). f.index == fabric && has_identity saved.root_key saved.fabric_id f) fabrics
 
 abbrev pub is_updated : List Fabric → Armed → Option ℕ → Option ℕ → Bool
 is_updated fabrics armed added updated = is_updated_in (saves_identity fabrics) armed added updated

@@ -119,8 +119,8 @@ invoke_reply given o actor stood suppress timed command fields =
 abbrev pub invoke_steps : Given → Observation → Actor → Bool → Bool → Place → Value → List NodeStep
 invoke_steps given o actor stood timed command fields = if is_untimely stood timed then [] else (command_effect given o actor timed command fields).steps
 
--- The reply to a request, made of what the asker's fabric observes and of whether a deadline stood for the request. A
--- status is no request; what sets a time is answered with success. Subscriptions are not built.
+-- The reply to a request but for the events that it asks for, made of what the asker's fabric observes and of whether a deadline stood
+-- for the request. A status is no request; what sets a time is answered with success. Subscriptions are not built.
 abbrev pub reply_to : Given → Observation → Actor → Bool → Request → Reply
 reply_to given o actor stood (requests.Status code) = refusal (code_of InvalidAction)
 reply_to given o actor stood (requests.Read paths wanted minimum filtered versions) = read_reply o actor paths filtered versions
@@ -233,15 +233,11 @@ aside_between session before now = record {
 abbrev pub aside_of : Given → NodeState → Action → ℕ → Aside
 aside_of given s action now = aside_between (session_asking s action) s (after_action given s action now)
 
--- Which actions are built: statuses, reads without event paths, writes, commands, and what sets a time.
-
-abbrev pub is_nil : List Path → Bool
-is_nil [] = true
-is_nil (path ∷ paths) = false
+-- Which actions are built: all requests but subscriptions.
 
 abbrev pub is_built_request : Request → Bool
 is_built_request (requests.Status code) = true
-is_built_request (requests.Read paths wanted minimum filtered versions) = is_nil wanted
+is_built_request (requests.Read paths wanted minimum filtered versions) = true
 is_built_request (requests.Subscribe keep floor ceiling paths wanted minimum filtered versions) = false
 is_built_request (requests.Write suppress timed items) = true
 is_built_request (requests.Invoke suppress timed command fields) = true

@@ -15,6 +15,7 @@
 //! - `Taking`: which steps a state takes, so that it stays valid;
 //! - `Touching`: which steps of commissioning may change what is a fabric's own, and which a fabric makes;
 //! - `Leaving`: which fabrics leave the table between two states;
+//! - `Telling`: which events an action tells;
 //! - `Settings`: of what kinds the steps are that set values;
 //! - `Joins`: what steps of commissioning and an expiry make of a bench node;
 //! - `Laws`: the laws.
@@ -26,7 +27,7 @@ ghost use Rattle.mt_model.specs.declared.node.state.Standing.TheVariants.{Live, 
 ghost use Rattle.mt_machine.specs.Bench.{bench_entries};
 ghost use Rattle.mt_machine.specs.Effects.{after_all};
 ghost use Rattle.mt_machine.specs.Joins.{end_of, first_administrator, indexes, joined_again, joined_by, labels, left_by_owner, nocs, node_label, number_row, owner_and_context, plain_pase, renewed_late, rows_at, session_pase, standings, ticked, updated_node};
-ghost use Rattle.mt_machine.specs.Laws.{ActionsKeepTheOwn, ActionsLeaveTheOwnOnTheVeil, AllStayValid, ChangesNowhere, EndsNothing, ExpiresWhereDue, HidesWhatIsSaved, KeepsItsOwnPart, KeepsItsPublicView, KeepsTheOwn, LeavesItsOwnByItsView, LeavesTheOwnOnTheVeil, LeftIsGone, LeftIsGoneBehindAnExpiry, OneLeaves, OpensValid, PassesOtherwise, RemovalsSeeTheVeil, RollsBackValid, SavesWhatItHad, SeesItsViewAlone, SeesTheVeil, SendsOnTheVeil, SessionsKeepTheirIds, SetsTheTime, SparesOthers, StandsInOrder, StaysSettled, StaysValid, StepsSeeTheVeil, StepsSpareOthers, StepsStayValid, TakenValuesFit, TakesItsSteps, TakesTheAddedAway, TicksOnTheVeil, TicksSeeTheMarkAlone, TicksSpareOthers, TimeKeepsTheOwn, TimesStayValid};
+ghost use Rattle.mt_machine.specs.Laws.{ActionsKeepTheOwn, ActionsLeaveTheOwnOnTheVeil, AllStayValid, AskersAreKnown, ChangesNowhere, DeadlinesOnTheVeil, EndsNothing, ExpiresWhereDue, HidesWhatIsSaved, KeepsItsOwnPart, KeepsItsPublicView, KeepsTheOwn, LeavesItsOwnByItsView, LeavesTheOwnOnTheVeil, LeftIsGone, LeftIsGoneBehindAnExpiry, LinesAskOnTheVeil, LinesReplyOnTheVeil, OneLeaves, OneLeavesOnTheVeil, OpensValid, PassesOtherwise, RemovalsSeeTheVeil, RollsBackValid, SavesWhatItHad, SeesItsViewAlone, SeesTheVeil, SendsOnTheVeil, SessionsKeepTheirIds, SetsTheTime, SettingStepsTell, SparesOthers, StandsInOrder, StaysSettled, StaysValid, StepsSeeTheVeil, StepsSpareOthers, StepsOnTheVeil, StepsStayValid, TakenValuesFit, TakesItsSteps, TakesTheAddedAway, TellsItsOwn, TicksOnTheVeil, TicksSeeTheMarkAlone, TicksSpareOthers, TimeKeepsTheOwn, TimesStayValid};
 ghost use Rattle.mt_machine.specs.Rollback.{breadcrumb};
 ghost use Rattle.mt_machine.specs.Samples.{acl_report, data_report, denial_report, empty_report, hidden_report, invalid_action, no_cluster_report, no_endpoint_report, read_acl, read_acl_anywhere, read_cluster_99, read_endpoint_7, read_on_off, sent_to_reader, too_deep};
 
@@ -207,11 +208,12 @@ pub fn steps_see_the_veil()
 {}
 
 /// By a step at most one fabric leaves the table: the first that is not there any more. So it is with a removal
-/// behind an expiry that takes no fabric away, and so with every action.
+/// behind an expiry that takes no fabric away, and so with every action, also on the veil of whoever asks.
 pub fn one_leaves()
     ensures each { LeftIsGone }
     ensures removal { LeftIsGoneBehindAnExpiry }
     ensures action { OneLeaves }
+    ensures veil { OneLeavesOnTheVeil }
 {
     writes_touch_their_own();
     writes_keep_forms();
@@ -238,6 +240,33 @@ pub fn actions_set_values()
     what_is_told_the_same_is();
     stored_places_are_those_of_the_model();
 }
+
+/// Each event among an action's steps is told to the asker's fabric alone, or to all. Steps that set values tell the events
+/// among them, and nothing besides.
+pub fn actions_tell_their_own()
+    ensures own { TellsItsOwn }
+    ensures setting { SettingStepsTell }
+{
+    writes_touch_their_own();
+    writes_keep_forms();
+    nobody_writes_scoped();
+    steps_are_sound();
+    steps_stand_first();
+    steps_are_well_formed();
+    steps_fit();
+    steps_are_moves();
+}
+
+/// The actor of a line is taken as the same one on the veil of the fabric for which the line acts, or as nobody on both.
+/// Where an actor is, a line of it is replied the same there, its deadline is the same, and the steps of what it asks are.
+/// Whoever is taken as asking is of a fabric of the table, or of none.
+pub fn what_is_asked_is_the_same_on_the_veil()
+    ensures asker { LinesAskOnTheVeil }
+    ensures reply { LinesReplyOnTheVeil }
+    ensures deadline { DeadlinesOnTheVeil }
+    ensures steps { StepsOnTheVeil }
+    ensures known { AskersAreKnown }
+{}
 
 /// No action takes a session from its place or gives it another id.
 pub fn sessions_keep_their_ids()

@@ -15,7 +15,7 @@ use Rattle.mt_machine.specs.State.{IsValid}
 use Rattle.mt_machine.specs.Observation.{observation}
 use Rattle.mt_machine.specs.Step.{Aside, after_action, after_steps, aside_between, aside_of, asked_reply, asked_steps, asker, asker_of, at_time, reply_of, reply_to, steps_of, steps_to}
 use Rattle.mt_node.specs.Answered.{IsAnswer}
-use Rattle.mt_machine.specs.Effects.{events_in}
+use Rattle.mt_machine.specs.Telling.{told_between}
 use Rattle.mt_node.specs.Plan.{IsMade, IsPlan}
 use Rattle.mt_model.specs.declared.node.action.Effect.{Effect}
 use Rattle.mt_node.specs.declared.outcome.Outcome.{Outcome}
@@ -29,7 +29,7 @@ plan_of given s action now asking answered outcome asks replies steps valid one 
     let aside = made.aside ∙ (λ i. aside_between (option_and_then (λ (actor : Actor). actor.session) (asks i)) s (behind i)) in
     record {
       reply = made.reply ∙ replies;
-      told = made.told ∙ ap events_in steps;
+      told = made.told ∙ (λ i. told_between (asks i) (steps i) s (behind i));
       aside = aside;
       state = made.state ∙ behind;
       ready = made.ready;
@@ -45,7 +45,7 @@ nobody_asks given s actor request timed now outcome nobody planned =
     let behind : after_action given s Nothing now ≡ after_action given s (Ask actor request timed) now = λ i. after_steps (sym nobody i) (asked_steps given s request timed now (sym nobody i)) (at_time now s) in
     record {
       reply = planned.reply ∙ (λ i. asked_reply given s request timed now (sym nobody i));
-      told = planned.told ∙ (λ i. events_in (asked_steps given s request timed now (sym nobody i)));
+      told = planned.told ∙ (λ i. told_between (sym nobody i) (asked_steps given s request timed now (sym nobody i)) s (behind i));
       aside = planned.aside ∙ (λ i. aside_between (option_and_then (λ (a : Actor). a.session) (sym nobody i)) s (behind i));
       state = planned.state ∙ behind;
       ready = planned.ready;

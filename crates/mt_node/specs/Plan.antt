@@ -14,11 +14,12 @@ use Rattle.mt_model.specs.declared.rows.place.Place.{Place}
 use Rattle.mt_model.specs.declared.rows.place.Row.{Row}
 use Rattle.mt_model.specs.declared.node.state.NodeState.{NodeState}
 use Rattle.mt_machine.specs.Changes.{changed_at}
-use Rattle.mt_machine.specs.Effects.{after_all, events_in, is_setting_step}
+use Rattle.mt_machine.specs.Effects.{after_all, is_setting_step}
 use Rattle.mt_machine.specs.Given.{Given}
 use Rattle.mt_machine.specs.Leaving.{has_left}
 use Rattle.mt_machine.specs.State.{IsValid}
-use Rattle.mt_machine.specs.Step.{Aside, after_action, after_steps, aside_between, aside_of, at_time, reply_of, steps_of}
+use Rattle.mt_machine.specs.Step.{Aside, after_action, after_steps, aside_between, aside_of, at_time, reply_of}
+use Rattle.mt_machine.specs.Telling.{told, told_between}
 use Rattle.mt_model.specs.declared.node.action.Effect.{Effect}
 use Rattle.mt_node.specs.declared.outcome.Outcome.{Outcome}
 
@@ -34,14 +35,6 @@ applied_as (Some behind) outcome s = behind.value
 
 abbrev pub applied : Outcome → NodeState → NodeState
 applied outcome s = applied_as outcome.behind outcome s
-
--- the events that an outcome tells; one that brings a state keeps them alone of its steps
-abbrev pub told_as : Option (Box NodeState) → List NodeStep → List NodeStep
-told_as None steps = events_in steps
-told_as (Some behind) steps = steps
-
-abbrev pub told_by : Outcome → List NodeStep
-told_by outcome = told_as outcome.behind outcome.steps
 
 -- on whose session it was asked, which sessions end, which fabric goes
 abbrev pub aside_in : Outcome → Aside
@@ -102,10 +95,10 @@ IsReadyAs (Some behind) s outcome = ⊤
 abbrev pub IsReady : NodeState → Outcome → Type 0
 IsReady s outcome = IsReadyAs outcome.behind s outcome
 
--- The outcome is that of an answer to whoever is taken as asking, at this time, whose steps it makes. It tells the same events.
+-- The outcome is that of an answer to whoever is taken as asking, at this time, whose steps it makes, and it tells what these tell.
 pub record IsMade (s : NodeState) (asking : Option Actor) (answered : Effect) (now : ℕ) (outcome : Outcome) : Type 0 where
   pub reply : outcome.reply ≡ answered.reply
-  pub told : told_by outcome ≡ events_in answered.steps
+  pub told : outcome.told ≡ told_between asking answered.steps s (after_steps asking answered.steps (at_time now s))
   pub aside : aside_in outcome ≡ aside_between (option_and_then (λ (actor : Actor). actor.session) asking) s (after_steps asking answered.steps (at_time now s))
   pub state : applied outcome s ≡ after_steps asking answered.steps (at_time now s)
   pub ready : IsReady s outcome
@@ -114,7 +107,7 @@ pub record IsMade (s : NodeState) (asking : Option Actor) (answered : Effect) (n
 -- behind it is valid, and the fabric that leaves the table, where one does, is the one that is gone.
 pub record IsPlan (given : Given) (s : NodeState) (action : Action) (now : ℕ) (outcome : Outcome) : Type 0 where
   pub reply : outcome.reply ≡ reply_of given s action now
-  pub told : told_by outcome ≡ events_in (steps_of given s action now)
+  pub told : outcome.told ≡ told given s action now
   pub aside : aside_in outcome ≡ aside_of given s action now
   pub state : applied outcome s ≡ after_action given s action now
   pub ready : IsReady s outcome

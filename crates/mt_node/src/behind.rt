@@ -1,8 +1,8 @@
 //! The state behind steps that do more than set values. It is made whole, beside the one that stands, so that putting it
 //! in place takes no memory.
 
-ghost use Rattle.std.specs.Prelude.{◌≡◌, true, IfOk};
-ghost use Rattle.mt_machine.specs.Effects.{events_in};
+ghost use Rattle.std.specs.Prelude.{◌≡◌, true, IfOk, IsTrue};
+ghost use Rattle.mt_model.specs.texts.Config.{ascend_from};
 ghost use Rattle.mt_machine.specs.Step.{after_steps, at_time};
 ghost use Rattle.mt_machine.specs.Taking.{may_take_all};
 ghost use Rattle.mt_node.specs.Plan.{IsMade};
@@ -11,8 +11,9 @@ use crate::between::{closed_between, differing_between, gone_between};
 use crate::effects::{session_of, settle};
 use crate::node::Node;
 use crate::outcome::Outcome;
+use crate::telling::{events_in, told_with};
 use mt_machine::{states_are_valid, steps_leave_states_valid};
-use mt_model::{Actor, Effect, ExactCopy, NodeState, NodeStep, Places, Steps};
+use mt_model::{Actor, Effect, ExactCopy, NodeState, Places, Steps};
 use mt_steps::make_all;
 use std::alloc::{AllocError, Global};
 
@@ -28,9 +29,10 @@ pub(crate) fn made_whole(
 {
     let alloc = node.alloc;
     let Effect { reply, steps } = answered;
-    let told = events_in(alloc, steps.as_slice())?;
+    let events = events_in(alloc, steps.as_slice())?;
     let behind = state_behind(node, asking, steps, now)?;
     let before = &node.state;
+    let told = told_with(alloc, asking, events, before, &behind)?;
     let closed = closed_between(
         alloc,
         before.sessions.as_slice(),
@@ -42,38 +44,15 @@ pub(crate) fn made_whole(
         session: session_of(asking),
         closed,
         gone,
+        told,
         asking,
         behind: Some(Box::new(alloc, behind)?),
-        steps: told,
+        steps: Steps::new(alloc),
         places: Places::new(alloc),
         rows_rooms: Vec::new(alloc),
         entries_room: Vec::new(alloc),
         clock: now,
     })
-}
-
-// The events among steps.
-fn events_in(alloc: Global, steps: &[NodeStep]) -> Result<Steps, AllocError>
-    ensures { IfOk result (λ told. told ≡ events_in steps.now) }
-{
-    let mut told = Steps::new(alloc);
-    for step in steps {
-        if let NodeStep::Emit {
-            place,
-            priority,
-            fabric,
-            value,
-        } = step
-        {
-            told.push(NodeStep::Emit {
-                place: *place,
-                priority: *priority,
-                fabric: *fabric,
-                value: value.copy()?,
-            })?;
-        }
-    }
-    Ok(told)
 }
 
 // The state behind the steps, with the versions and change numbers that follow.
@@ -84,7 +63,8 @@ fn state_behind(
     now: u64,
 ) -> Result<NodeState, AllocError>
     requires { may_take_all asking steps (at_time now node.now.state) ≡ true }
-    ensures { IfOk result (λ behind. behind ≡ after_steps asking steps (at_time now node.now.state)) }
+    ensures made { IfOk result (λ behind. behind ≡ after_steps asking steps (at_time now node.now.state)) }
+    ensures entries { IfOk result (λ behind. IsTrue (ascend_from 1 behind.entries)) }
 {
     states_are_valid();
     steps_leave_states_valid();

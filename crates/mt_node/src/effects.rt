@@ -19,7 +19,8 @@ use crate::differences::differing;
 use crate::node::Node;
 use crate::outcome::Outcome;
 use crate::rooms::rooms;
-use mt_machine::actions_set_values;
+use crate::telling::events_in;
+use mt_machine::{actions_set_values, actions_tell_their_own};
 use mt_model::{
     AclEntries, AclEntry, Actor, ChangeNumber, ChangeNumbers, Effect, NodeState, NodeStep, Place,
     Places, Row, SessionIds, Steps, StoredRows, Version, Versions, set_entries,
@@ -80,7 +81,9 @@ fn made_in_place(
     ensures { IfOk result (IsMade node.now.state asking answered now) }
 {
     actions_set_values();
+    actions_tell_their_own();
     let steps = answered.steps.as_slice();
+    let told = events_in(alloc, steps)?;
     let places = differing(alloc, node, steps)?;
     let rows_rooms = rooms(alloc, &node.state.rows, steps)?;
     let Some(entries) = entries_needed(&node.state.entries, steps) else {
@@ -91,6 +94,7 @@ fn made_in_place(
         session: session_of(asking),
         closed: SessionIds::new(alloc),
         gone: None,
+        told,
         asking,
         behind: None,
         steps: answered.steps,
@@ -107,11 +111,13 @@ pub(crate) fn unchanged(alloc: Global, asking: Option<Actor>, answered: Effect, 
     ensures { (s : NodeState) → IsMade s asking answered now result }
 {
     actions_set_values();
+    actions_tell_their_own();
     Outcome {
         reply: answered.reply,
         session: session_of(asking),
         closed: SessionIds::new(alloc),
         gone: None,
+        told: Steps::new(alloc),
         asking,
         behind: None,
         steps: answered.steps,
@@ -151,13 +157,15 @@ fn entries_in(step: &NodeStep) -> usize
     }
 }
 
-/// Makes of the state what an outcome makes of it. It takes no memory, and cannot fail.
-pub(crate) fn apply(alloc: Global, state: &mut NodeState, outcome: Outcome)
+/// Makes of the state what an outcome makes of it, and gives the events that this tells. It takes no memory, and cannot fail.
+pub(crate) fn apply(alloc: Global, state: &mut NodeState, outcome: Outcome) -> Steps
     requires ready { IsReady state.old outcome }
     requires ascending { IsTrue (ascend_from 0 state.old.entries) }
-    ensures { state.new ≡ applied outcome state.old }
+    ensures state { state.new ≡ applied outcome state.old }
+    ensures told { result ≡ outcome.told }
 {
     let Outcome {
+        told,
         behind,
         steps,
         places,
@@ -174,6 +182,7 @@ pub(crate) fn apply(alloc: Global, state: &mut NodeState, outcome: Outcome)
             settle(alloc, state, places.as_slice());
         },
     }
+    told
 }
 
 // Makes the steps, of which those on entries want these in the room that is there for them. Where there is no step, nothing is moved.

@@ -10,6 +10,7 @@
 //! - `behind`: the state behind steps that do more than set values;
 //! - `between`: what differs between two states;
 //! - `effects`: what the steps of an answer make of the state;
+//! - `telling`: which events an action tells;
 //! - `rooms`: the room for the rows that the steps set;
 //! - `sight`: what of the node answers are made of;
 //! - `opening`: the state in which a new node begins.
@@ -28,6 +29,7 @@ mod reads;
 mod requests;
 mod rooms;
 mod sight;
+mod telling;
 mod writes;
 
 pub use mt_model::{Action, SessionIds};

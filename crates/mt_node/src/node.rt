@@ -156,12 +156,14 @@ impl Node {
         unchanged(self.alloc, None, nothing(self.alloc), now)
     }
 
-    /// Makes of the node what a planned action makes of it. It takes no memory, and cannot fail.
-    pub fn apply(&mut self, outcome: Outcome)
+    /// Makes of the node what a planned action makes of it, and gives the events that are told. It takes no memory, and
+    /// cannot fail.
+    pub fn apply(&mut self, outcome: Outcome) -> Steps
         requires { IsPlanned self.old.state outcome }
-        ensures { self.new ≡ in_state (applied outcome self.old.state) self.old }
+        ensures state { self.new ≡ in_state (applied outcome self.old.state) self.old }
+        ensures told { result ≡ outcome.told }
     {
-        effects::apply(self.alloc, &mut self.state, outcome);
+        effects::apply(self.alloc, &mut self.state, outcome)
     }
 
     // The ids of the networks that are within reach.

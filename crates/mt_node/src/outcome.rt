@@ -13,12 +13,14 @@ pub struct Outcome {
     pub closed: SessionIds,
     /// The fabric that is removed, where one is.
     pub gone: Option<u8>,
+    /// The events that are told, in their order.
+    pub told: Steps,
     /// Who is taken as asking.
     pub(crate) asking: Option<Actor>,
     /// The state behind the action, where that is made whole; None where the steps make it. It is apart, since an outcome is
     /// handed on often and seldom has one.
     pub(crate) behind: Option<Box<NodeState>>,
-    /// What is made of the state, step by step; where the state is made whole, the events alone.
+    /// What is made of the state, step by step; where the state is made whole, none.
     pub(crate) steps: Steps,
     /// The attributes that differ behind the steps.
     pub(crate) places: Places,

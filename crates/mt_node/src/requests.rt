@@ -12,14 +12,14 @@ use crate::{commands, reads, writes};
 use mt_model::{Actor, Effect, Reply, Request, Status, Steps, Verdicts};
 use std::alloc::{AllocError, Global};
 
-/// Whether a request is one of those that are built so far: statuses, reads that ask for no events, writes,
-/// commands, and requests that set a time.
+/// Whether a request is one of those that are built so far: statuses, reads, writes, commands, and
+/// requests that set a time.
 pub fn is_built_request(request: &Request) -> bool
     ensures { result ≡ is_built_request request.now }
 {
     match request {
         Request::Status { .. } => true,
-        Request::Read { events, .. } => events.as_slice().is_empty(),
+        Request::Read { .. } => true,
         Request::Subscribe { .. } => false,
         Request::Write { .. } => true,
         Request::Invoke { .. } => true,

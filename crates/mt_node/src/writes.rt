@@ -1,6 +1,6 @@
 //! Writes.
 
-ghost use Rattle.std.specs.Prelude.{◌≡◌, ◌++◌, IfOk, OnOk};
+ghost use Rattle.std.specs.Prelude.{◌≡◌, IfOk, OnOk};
 ghost use Rattle.mt_apps.specs.EntryEvents.{entry_events};
 ghost use Rattle.mt_model.specs.rows.Seen.{own_entries};
 ghost use Rattle.mt_machine.specs.Observation.{observation};
@@ -9,6 +9,7 @@ ghost use Rattle.mt_write.specs.Writing.{write_answer};
 
 use crate::node::Node;
 use crate::requests::{is_untimely, refused, unless_suppressed};
+use crate::telling::followed_by;
 use mt_apps::entry_events;
 use mt_machine::rows_stand_in_order;
 use mt_model::{Actor, Effect, Reply, Sight, Status, Steps, Writes};
@@ -51,15 +52,5 @@ fn with_events(node: &Node, asking: &Actor, steps: Steps) -> Result<Steps, Alloc
 {
     let entries = node.entries(asking.fabric);
     let events = entry_events(node.alloc, asking, entries, steps.as_slice())?;
-    behind(steps, events)
-}
-
-// These steps and the others behind them.
-fn behind(steps: Steps, others: Steps) -> Result<Steps, AllocError>
-    ensures { IfOk result (λ all. all ≡ steps ++ others) }
-{
-    let mut all = steps.into_vec();
-    let mut others = others.into_vec();
-    all.append(&mut others)?;
-    Ok(Steps::from_vec(all))
+    followed_by(steps, events)
 }

@@ -24,9 +24,13 @@ index_in fields = number_of 0 fields
 abbrev pub leave : Place
 leave = record { endpoint = 0; cluster = 0x28; leaf = 2 }
 
--- the fabric goes, and all are told its index; the event's priority is that of information
+-- all are told the index of a fabric that leaves; the event's priority is that of information
+abbrev pub leave_event : ℕ → NodeStep
+leave_event index = Emit leave 1 0 (values.Struct (more (Context 0) (uint index) none))
+
+-- the fabric goes, and all are told
 abbrev pub leaving : ℕ → List NodeStep
-leaving index = RemoveFabric index ∷ Emit leave 1 0 (values.Struct (more (Context 0) (uint index) none)) ∷ []
+leaving index = RemoveFabric index ∷ leave_event index ∷ []
 
 -- The fail-safe expires first where commissioning goes on for the fabric. The fabric goes by that already where it was added
 -- under it.

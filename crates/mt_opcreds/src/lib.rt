@@ -28,3 +28,4 @@ mod update_noc;
 pub use commands::invoke;
 pub use fault::CertificateFault;
 pub use laws::{steps_are_moves, steps_are_well_formed, steps_fit};
+pub use remove_fabric::leave_event;

@@ -2,7 +2,7 @@
 
 ghost use Rattle.std.specs.Prelude.{◌≡◌, ◌++◌, IfOk, OnOk, option_copied};
 ghost use Rattle.mt_model.specs.tables.Known.{known_in};
-ghost use Rattle.mt_opcreds.specs.RemoveFabric.{leaving, removal_steps, remove_effect};
+ghost use Rattle.mt_opcreds.specs.RemoveFabric.{leave_event, leaving, removal_steps, remove_effect};
 
 use crate::fault::CertificateFault;
 use crate::finding::used_index;
@@ -48,13 +48,21 @@ fn removal_steps(alloc: Global, view: &View, index: u8) -> Result<Steps, AllocEr
     Ok(steps)
 }
 
-// The fabric goes, and all are told its index.
+// The fabric goes, and all are told.
 fn push_leaving(alloc: Global, index: u8, steps: &mut Steps) -> Result<(), AllocError>
     ensures { OnOk result (steps.new ≡ steps.old ++ leaving index) }
 {
-    let fields = vec![in alloc; (Tag::Context(0), Value::Uint(index as u64))]?;
+    let told = leave_event(alloc, index)?;
     steps.push(NodeStep::RemoveFabric { index })?;
-    steps.push(NodeStep::Emit {
+    steps.push(told)
+}
+
+/// All are told the index of a fabric that leaves (Matter Core Specification, section 11.1, event Leave).
+pub fn leave_event(alloc: Global, index: u8) -> Result<NodeStep, AllocError>
+    ensures { IfOk result (λ event. event ≡ leave_event index) }
+{
+    let fields = vec![in alloc; (Tag::Context(0), Value::Uint(index as u64))]?;
+    Ok(NodeStep::Emit {
         place: Place {
             endpoint: 0,
             cluster: BASIC_INFORMATION,

@@ -1,15 +1,22 @@
 use Rattle.std.proofs.Common.{sym, ◌∙◌}
+use Rattle.mt_opcreds.specs.Laws.{KeepsRules}
+use Rattle.mt_model.specs.declared.texts.recording.Event.{Event}
+use Rattle.mt_machine.specs.Given.{Given}
 use Rattle.mt_lines.specs.Isolation.{own_part, seen_whole}
+use Rattle.mt_lines.specs.Laws.{LeavesTheOwnOnTheVeil}
 use Rattle.mt_lines.specs.Lines.{next}
 use Rattle.mt_lines.proofs.Leaving.{leaves_on_veil}
 use Rattle.mt_lines.proofs.leaves_the_own_on_the_veil.Goals as goal
 
 pub returns-clause-veil : goal.returns-clause-veil
 returns-clause-veil c = λ given w e rules valid.
-    leaves_on_veil c.sessions_keep_their_ids.ensures given w valid c.sees_the_veil.ensures c.veil_keeps_both_parts.ensures.own c.leaves_the_own_on_the_veil.ensures.action c.keeps_the_own.ensures.time rules c.leaves_the_own_on_the_veil.ensures.event e
+    leaves_on_veil c.sessions_keep_their_ids.ensures given w valid c.replies_are_the_same_on_the_veil.ensures.action c.veil_keeps_both_parts.ensures.own c.veils_keep_events.ensures.own c.leaves_the_own_on_the_veil.ensures.action c.keeps_the_own.ensures.time
+    c.events_are_left_on_the_veil.ensures.action c.others_events_are_kept.ensures.time c.others_events_are_kept.ensures.nobody rules
+    c.leaves_the_own_on_the_veil.ensures.event c.what_is_asked_is_the_same_on_the_veil.ensures.asker c.what_is_asked_is_the_same_on_the_veil.ensures.deadline c.events_are_left_on_the_veil.ensures.tick e
 
 pub returns-clause-view : goal.returns-clause-view
 returns-clause-view c = λ given w v e rules valid_w valid_v fabric own public.
-    sym (leaves_on_veil c.sessions_keep_their_ids.ensures given w valid_w c.sees_the_veil.ensures c.veil_keeps_both_parts.ensures.own c.leaves_the_own_on_the_veil.ensures.action c.keeps_the_own.ensures.time rules c.leaves_the_own_on_the_veil.ensures.event e)
+    let on_veil : LeavesTheOwnOnTheVeil = returns-clause-veil c in
+    sym (on_veil given w e rules valid_w)
     ∙ (λ i. own_part (fabric i) (next given (seen_whole (fabric i) (own i) (public i)) e))
-    ∙ leaves_on_veil c.sessions_keep_their_ids.ensures given v valid_v c.sees_the_veil.ensures c.veil_keeps_both_parts.ensures.own c.leaves_the_own_on_the_veil.ensures.action c.keeps_the_own.ensures.time rules c.leaves_the_own_on_the_veil.ensures.event e
+    ∙ on_veil given v e rules valid_v

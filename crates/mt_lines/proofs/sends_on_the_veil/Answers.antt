@@ -1,14 +1,17 @@
 use Rattle.std.proofs.Common.{sym, ◌∙◌}
-use Rattle.mt_lines.specs.Isolation.{IsValidWhole, seen_whole}
+use Rattle.mt_lines.specs.Isolation.{seen_whole}
+use Rattle.mt_lines.specs.Laws.{SendsOnTheVeil}
 use Rattle.mt_lines.specs.Lines.{sent}
 use Rattle.mt_lines.proofs.Sending.{sends_on_veil}
 use Rattle.mt_lines.proofs.sends_on_the_veil.Goals as goal
 
 pub returns-clause-veil : goal.returns-clause-veil
-returns-clause-veil c = λ given w e valid. sends_on_veil c.sees_the_veil.ensures given w valid c.sends_on_the_veil.ensures e
+returns-clause-veil c = λ given w e valid.
+    sends_on_veil c.replies_are_the_same_on_the_veil.ensures.action given w valid c.what_is_asked_is_the_same_on_the_veil.ensures.asker c.replies_are_the_same_on_the_veil.ensures.line e
 
 pub returns-clause-view : goal.returns-clause-view
 returns-clause-view c = λ given w v e valid_w valid_v fabric own public.
-    sym (sends_on_veil c.sees_the_veil.ensures given w valid_w c.sends_on_the_veil.ensures e)
+    let on_veil : SendsOnTheVeil = returns-clause-veil c in
+    sym (on_veil given w e valid_w)
     ∙ (λ i. sent given (seen_whole (fabric i) (own i) (public i)) e)
-    ∙ sends_on_veil c.sees_the_veil.ensures given v valid_v c.sends_on_the_veil.ensures e
+    ∙ on_veil given v e valid_v

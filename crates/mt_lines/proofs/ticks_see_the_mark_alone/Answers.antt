@@ -1,6 +1,7 @@
 use Rattle.std.proofs.Common.{sym, ◌∙◌}
 use Rattle.mt_model.specs.declared.texts.recording.Event.TheVariants.{Tick}
 use Rattle.mt_lines.specs.Isolation.{own_part, seen_whole}
+use Rattle.mt_lines.specs.Laws.{TicksOnTheVeil}
 use Rattle.mt_lines.specs.Lines.{next}
 use Rattle.mt_lines.proofs.Keeping.{ticks_spare}
 use Rattle.mt_lines.proofs.Leaving.{ticks_on_veil}
@@ -8,13 +9,15 @@ use Rattle.mt_lines.proofs.ticks_see_the_mark_alone.Goals as goal
 
 pub returns-clause-others : goal.returns-clause-others
 returns-clause-others c = λ given fabric w ms valid some added updated.
-    ticks_spare c.sessions_keep_their_ids.ensures given fabric w valid c.ticks_let_the_failsafe_expire.ensures.others ms some added updated
+    ticks_spare c.sessions_keep_their_ids.ensures given fabric w valid c.ticks_let_the_failsafe_expire.ensures.others c.others_events_are_kept.ensures.tick ms some added updated
 
 pub returns-clause-veil : goal.returns-clause-veil
-returns-clause-veil c = λ given fabric w ms valid. ticks_on_veil c.sessions_keep_their_ids.ensures given w valid c.ticks_let_the_failsafe_expire.ensures.veil fabric ms
+returns-clause-veil c = λ given fabric w ms valid.
+    ticks_on_veil c.sessions_keep_their_ids.ensures given w valid c.ticks_let_the_failsafe_expire.ensures.veil c.events_are_left_on_the_veil.ensures.tick fabric ms
 
 pub returns-clause-mark : goal.returns-clause-mark
 returns-clause-mark c = λ given fabric w v ms valid_w valid_v own public.
-    sym (ticks_on_veil c.sessions_keep_their_ids.ensures given w valid_w c.ticks_let_the_failsafe_expire.ensures.veil fabric ms)
+    let on_veil : TicksOnTheVeil = returns-clause-veil c in
+    sym (on_veil given fabric w ms valid_w)
     ∙ (λ i. own_part fabric (next given (seen_whole fabric (own i) (public i)) (Tick ms)))
-    ∙ ticks_on_veil c.sessions_keep_their_ids.ensures given v valid_v c.ticks_let_the_failsafe_expire.ensures.veil fabric ms
+    ∙ on_veil given fabric v ms valid_v

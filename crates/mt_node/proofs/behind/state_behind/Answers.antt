@@ -7,8 +7,8 @@ use Rattle.mt_node.specs.Kept.{Kept}
 use Rattle.mt_node.proofs.Counts.{settled_is}
 use Rattle.mt_node.proofs.behind.state_behind.Goals as goal
 
-pub returns : goal.returns
-returns c =
+pub returns-clause-made : goal.returns-clause-made
+returns-clause-made c =
     let s = c.args.node.now.state in
     let now = c.args.now in
     let t = c.make_all.new.state in

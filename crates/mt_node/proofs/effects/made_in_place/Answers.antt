@@ -6,7 +6,7 @@ use Rattle.mt_model.specs.declared.rows.place.Place.{Place}
 use Rattle.mt_model.specs.declared.rows.place.Row.{Row}
 use Rattle.mt_model.specs.declared.tables.access.Actor.{Actor}
 use Rattle.mt_machine.specs.Changes.{changed_at, differing}
-use Rattle.mt_machine.specs.Effects.{after_all, is_setting_step}
+use Rattle.mt_machine.specs.Effects.{after_all, events_in, is_setting_step}
 use Rattle.mt_machine.specs.Step.{at_time}
 use Rattle.mt_node.specs.Kept.{Kept}
 use Rattle.mt_node.specs.Plan.{HaveRoom, entries_in}
@@ -25,7 +25,7 @@ returns c =
     let session = option_and_then (λ (actor : Actor). actor.session) asking in
     record {
       reply = refl;
-      told = refl;
+      told = c.told.view_is ∙ c.in_ok-told.ensures ∙ ap events_in same ∙ sym (c.actions_tell_their_own.ensures.setting asking steps s c.args.now c.requires);
       aside = (λ i. record { session = c.session_of.ensures i; closed = c.new.ensures i; gone = None }) ∙ sym (c.actions_set_values.ensures.nothing_ends session asking steps s c.args.now c.requires);
       state =
           let differ = c.in_ok-places.ensures asking c.args.now (subst (λ (l : List NodeStep). list_all is_setting_step l ≡ true) (sym same) c.requires) in

@@ -1,0 +1,5 @@
+pub mod Asking
+pub mod Behind
+pub mod History
+pub mod Isolation
+pub mod Laws
