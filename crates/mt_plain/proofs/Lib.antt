@@ -1,2 +1,4 @@
 pub mod Planned
 pub mod Dated
+pub mod Recorded
+pub mod Reported

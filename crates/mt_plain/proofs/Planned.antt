@@ -14,9 +14,9 @@ use Rattle.mt_model.specs.declared.messages.message.Reply.{Reply}
 use Rattle.mt_model.specs.declared.messages.message.Reply.TheVariants as replies
 use Rattle.mt_model.specs.declared.messages.message.Request.{Request}
 use Rattle.mt_model.specs.declared.messages.status.Status.TheVariants.{Busy}
-use Rattle.mt_machine.specs.Lines.{action_of, deadline_for, deadline_of, deadlines_after, deadlines_of_those_left, fault_reply, is_deadline_of, is_refused, line_actor, next_for, sent_as, sent_for, sent_to, with_deadline, without}
+use Rattle.mt_machine.specs.Lines.{action_of, deadline_for, deadline_of, deadlines_after, deadlines_of_those_left, fault_reply, is_deadline_of, is_refused, line_actor, next_for, sent_as, with_deadline, without}
 use Rattle.mt_machine.specs.State.{State, is_among}
-use Rattle.mt_machine.specs.Step.{after_action, after_steps, asked_reply, asked_steps, asker, at_time, refusal, reply_of}
+use Rattle.mt_machine.specs.Step.{after_action, after_steps, asked_reply, asked_steps, asker, at_time, gone_between, refusal, reply_of}
 use Rattle.mt_machine.specs.Rollback.{added_in, deadlines_left, is_due}
 use Rattle.mt_machine.specs.Laws.{TakesTheAddedAway}
 use Rattle.mt_model.specs.declared.tables.network.Armed.{Armed}
@@ -28,7 +28,15 @@ use Rattle.mt_model.specs.declared.node.state.NodeState.{NodeState}
 use Rattle.mt_model.specs.declared.tables.fabric.Fabric.{Fabric}
 use Rattle.std.proofs.lemmas.Bool.{cases_Bool}
 use Rattle.mt_model.specs.declared.texts.recording.Event.TheVariants as events
-use Rattle.mt_plain.specs.Plan.{IsActionPlan, IsLine, IsLineIf, IsPlanIf, IsQuiet, IsTick, is_want_of_memory, left_without}
+use Rattle.mt_plain.specs.Plan.{IsActionPlan, IsLine, IsLineIf, IsPlanIf, IsQuiet, IsTick, applied_history, is_want_of_memory, left_without}
+use Rattle.mt_plain.specs.Recording.{may_record}
+use Rattle.mt_history.specs.Asking.{events_asked, with_events}
+use Rattle.mt_history.specs.Behind.{history_behind}
+use Rattle.mt_history.specs.History.{History, recorded_all, without_left}
+use Rattle.mt_lines.specs.Lines.{action_asked, sent_asked, sent_line}
+use Rattle.mt_machine.specs.Telling.{told_between}
+use Rattle.mt_model.specs.declared.node.action.Action.{Action}
+use Rattle.mt_model.specs.declared.node.action.NodeStep.{NodeStep}
 use Rattle.mt_machine.specs.Step.{Aside}
 use Rattle.mt_plain.specs.declared.outcome.PlainOutcome.{PlainOutcome}
 
@@ -75,13 +83,28 @@ none_left s t same fabric = ap (λ (fs : List Fabric). is_among s.fabrics fabric
 all_left : (s t : NodeState) → t.fabrics ≡ s.fabrics → (ds : List PlainDeadline) → ds ≡ deadlines_of_those_left s t ds
 all_left s t same ds = left_is_gone s t None (none_left s t same) ds
 
+-- The history behind an outcome is that behind the action.
+tells : (given : Given) (s : State) (h : History) (action : Action) (ms : ℕ) (outcome : PlainOutcome) → outcome.ms ≡ ms → IsPlan given s.node action ms outcome.node → applied_history outcome h ≡ history_behind given s.node action ms h
+tells given s h action ms outcome time plan = λ i. recorded_all (time i) (plan.told i) (without_left (plan.aside i).gone h)
+
+-- Where nobody is taken as asking, it is that of an action that does nothing.
+nobody_tells : (given : Given) (s : State) (h : History) (actor : Actor) (ms : ℕ) (asked : Result Request ImFault) (deadline : Option ℕ) → asker s.node actor ≡ None
+    → history_behind given s.node Nothing ms h ≡ history_behind given s.node (action_of actor deadline asked) ms h
+nobody_tells given s h actor ms (Ok request) deadline none = λ i.
+    let a : Option Actor = sym none i in
+    let steps : List NodeStep = asked_steps given s.node request deadline ms a in
+    let behind : NodeState = after_steps a steps (at_time ms s.node) in
+    recorded_all ms (told_between a steps s.node behind) (without_left (gone_between s.node.fabrics behind.fabrics) h)
+nobody_tells given s h actor ms (Err fault) deadline none = refl
+
 -- a request of whoever is taken as asking
-pub request_line : (given : Given) (s : State) (ms : ℕ) (actor asking : Actor) (request : Request) (outcome : PlainOutcome) → asker s.node actor ≡ Some asking
+pub request_line : (given : Given) (s : State) (h : History) (ms : ℕ) (actor asking : Actor) (request : Request) (outcome : PlainOutcome) → asker s.node actor ≡ Some asking
     → IsPlan given s.node (Ask actor request (deadline_of asking s.deadlines)) ms outcome.node
-    → outcome.sent ≡ sent_as ms asking.fabric (if is_refused asking s.deadlines ms request then refusal (code_of Busy) else outcome.node.reply)
+    → outcome.ms ≡ ms → may_record outcome.node.told h ≡ true
+    → outcome.sent ≡ sent_as ms asking.fabric (with_events (events_asked s.node.entries h.rings asking request) (if is_refused asking s.deadlines ms request then refusal (code_of Busy) else outcome.node.reply))
     → unwrap_or outcome.deadlines s.deadlines ≡ left_without outcome.node.gone (with_deadline asking s.deadlines ms (Ok request))
-    → IsLine given s ms actor (Ok request) outcome
-request_line given s ms actor asking request outcome asks p sends next =
+    → IsLine given s h ms actor (Ok request) outcome
+request_line given s h ms actor asking request outcome asks p time may sends next =
     let behind : NodeState = after_action given s.node (action_of actor (deadline_for s (asker s.node actor)) (Ok request)) ms in
     let node : applied outcome.node s.node ≡ behind = p.state ∙ ap (λ (a : Option Actor). after_action given s.node (action_of actor (deadline_for s a) (Ok request)) ms) (sym asks) in
     let deadlines : unwrap_or outcome.deadlines s.deadlines ≡ deadlines_of_those_left s.node behind (deadlines_after (asker s.node actor) s.deadlines ms (Ok request)) =
@@ -89,26 +112,30 @@ request_line given s ms actor asking request outcome asks p sends next =
     ∙ (λ i. deadlines_of_those_left s.node (node i) (deadlines_after (sym asks i) s.deadlines ms (Ok request))) in
     record {
       sent = sends
-          ∙ ap (λ (reply : Reply). sent_as ms asking.fabric (if is_refused asking s.deadlines ms request then refusal (code_of Busy) else reply)) p.reply
-          ∙ sym (ap (sent_to given s actor ms (Ok request)) asks);
+          ∙ ap (λ (reply : Reply). sent_as ms asking.fabric (with_events (events_asked s.node.entries h.rings asking request) (if is_refused asking s.deadlines ms request then refusal (code_of Busy) else reply))) p.reply
+          ∙ sym (ap (sent_line given s h actor ms (Ok request)) asks);
       state = λ i. record { node = node i; deadlines = deadlines i };
-      planned = (given, (Ask actor request (deadline_of asking s.deadlines), (ms, p)));
+      history = tells given s h (Ask actor request (deadline_of asking s.deadlines)) ms outcome time p
+          ∙ ap (λ (a : Option Actor). history_behind given s.node (action_of actor (deadline_for s a) (Ok request)) ms h) (sym asks);
+      planned = record { node = (given, (Ask actor request (deadline_of asking s.deadlines), (ms, p))); recordable = may };
     }
 
 -- a payload that is no request, of whoever is taken as asking
-pub refused_line : (given : Given) (s : State) (ms : ℕ) (actor asking : Actor) (fault : ImFault) (outcome : PlainOutcome) → asker s.node actor ≡ Some asking
+pub refused_line : (given : Given) (s : State) (h : History) (ms : ℕ) (actor asking : Actor) (fault : ImFault) (outcome : PlainOutcome) → asker s.node actor ≡ Some asking
     → IsPlan given s.node Nothing ms outcome.node
+    → outcome.ms ≡ ms → may_record outcome.node.told h ≡ true
     → outcome.sent ≡ sent_as ms asking.fabric (fault_reply fault)
     → unwrap_or outcome.deadlines s.deadlines ≡ with_deadline asking s.deadlines ms (Err fault)
-    → IsLine given s ms actor (Err fault) outcome
-refused_line given s ms actor asking fault outcome asks p sends next =
+    → IsLine given s h ms actor (Err fault) outcome
+refused_line given s h ms actor asking fault outcome asks p time may sends next =
     let deadlines : unwrap_or outcome.deadlines s.deadlines ≡ deadlines_of_those_left s.node (after_action given s.node Nothing ms) (deadlines_after (asker s.node actor) s.deadlines ms (Err fault)) =
     next ∙ ap (λ (a : Option Actor). deadlines_after a s.deadlines ms (Err fault)) (sym asks)
     ∙ all_left s.node (after_action given s.node Nothing ms) refl (deadlines_after (asker s.node actor) s.deadlines ms (Err fault)) in
     record {
-      sent = sends ∙ sym (ap (sent_to given s actor ms (Err fault)) asks);
+      sent = sends ∙ sym (ap (sent_line given s h actor ms (Err fault)) asks);
       state = λ i. record { node = p.state i; deadlines = deadlines i };
-      planned = (given, (Nothing, (ms, p)));
+      history = tells given s h Nothing ms outcome time p;
+      planned = record { node = (given, (Nothing, (ms, p))); recordable = may };
     }
 
 -- what an answer of memory gives, where it gives anything
@@ -116,13 +143,17 @@ pub if_ok : {T E : Type 0} (r : Result T E) (P Q : T → Type 0) → ((x : T) �
 if_ok (Ok x) P Q follows holds = follows x holds
 if_ok (Err e) P Q follows holds = holds
 
+pub if_both : {T E : Type 0} (r : Result T E) (P Q R : T → Type 0) → ((x : T) → P x → Q x → R x) → IfOk r P → IfOk r Q → IfOk r R
+if_both (Ok x) P Q R follows holds also = follows x holds also
+if_both (Err e) P Q R follows holds also = holds
+
 -- nobody is taken as asking
 nobody_steps : (given : Given) (s : State) (actor : Actor) (ms : ℕ) (asked : Result Request ImFault) (deadline : Option ℕ) → asker s.node actor ≡ None → after_action given s.node Nothing ms ≡ after_action given s.node (action_of actor deadline asked) ms
 nobody_steps given s actor ms (Ok request) deadline none = sym (ap (λ (a : Option Actor). after_steps a (asked_steps given s.node request deadline ms a) (at_time ms s.node)) none)
 nobody_steps given s actor ms (Err fault) deadline none = refl
 
-pub quiet_line : (given : Given) (s : State) (ms : ℕ) (actor : Actor) (asked : Result Request ImFault) (outcome : PlainOutcome) → asker s.node actor ≡ None → IsQuiet given s ms outcome → IsLine given s ms actor asked outcome
-quiet_line given s ms actor asked outcome none quiet =
+pub quiet_line : (given : Given) (s : State) (h : History) (ms : ℕ) (actor : Actor) (asked : Result Request ImFault) (outcome : PlainOutcome) → asker s.node actor ≡ None → IsQuiet given s h ms outcome → IsLine given s h ms actor asked outcome
+quiet_line given s h ms actor asked outcome none quiet =
     let same = nobody_steps given s actor ms asked (deadline_for s (asker s.node actor)) none in
     let node : applied outcome.node s.node ≡ after_action given s.node (action_of actor (deadline_for s (asker s.node actor)) asked) ms = quiet.node.state ∙ same in
     let deadlines : unwrap_or outcome.deadlines s.deadlines
@@ -131,9 +162,10 @@ quiet_line given s ms actor asked outcome none quiet =
     ∙ all_left s.node (after_action given s.node Nothing ms) refl s.deadlines
     ∙ (λ i. deadlines_of_those_left s.node (same i) (deadlines_after (sym none i) s.deadlines ms asked)) in
     record {
-      sent = quiet.sent ∙ sym (ap (sent_to given s actor ms asked) none);
+      sent = quiet.sent ∙ sym (ap (sent_line given s h actor ms asked) none);
       state = λ i. record { node = node i; deadlines = deadlines i };
-      planned = (given, (Nothing, (ms, quiet.node)));
+      history = tells given s h Nothing ms outcome quiet.time quiet.node ∙ nobody_tells given s h actor ms asked (deadline_for s (asker s.node actor)) none;
+      planned = record { node = (given, (Nothing, (ms, quiet.node))); recordable = quiet.recordable };
     }
 
 -- what was decoded, but for want of memory
@@ -147,14 +179,15 @@ comes_to (Err faults.Opcode) read gives sure = gives (λ e. absurd (cc))
 comes_to (Err faults.TooManyPaths) read gives sure = gives (λ e. absurd (cc))
 
 -- An event is a line of an actor, whose payload comes to this.
-pub event_of : (given : Given) (s : State) (ms fabric node : ℕ) (cats : List ℕ) (opcode : ℕ) (payload : List ℕ) (actor : Actor) → actor ≡ line_actor fabric node cats → (planned : Option PlainOutcome)
-    → IsLineIf given s ms actor (request_in opcode payload) planned → IsPlanIf given s (events.Ask ms fabric node cats opcode payload) planned
-event_of given s ms fabric node cats opcode payload actor by None line = line
-event_of given s ms fabric node cats opcode payload actor by (Some outcome) line = (
+pub event_of : (given : Given) (s : State) (h : History) (ms fabric node : ℕ) (cats : List ℕ) (opcode : ℕ) (payload : List ℕ) (actor : Actor) → actor ≡ line_actor fabric node cats → (planned : Option PlainOutcome)
+    → IsLineIf given s h ms actor (request_in opcode payload) planned → IsPlanIf given s h (events.Ask ms fabric node cats opcode payload) planned
+event_of given s h ms fabric node cats opcode payload actor by None line = line
+event_of given s h ms fabric node cats opcode payload actor by (Some outcome) line = (
   line.0,
   record {
-    sent = line.1.sent ∙ ap (λ (a : Actor). sent_for given s a ms (request_in opcode payload)) by;
+    sent = line.1.sent ∙ ap (λ (a : Actor). sent_asked given s h a ms (request_in opcode payload)) by;
     state = line.1.state ∙ ap (λ (a : Actor). next_for given s a ms (request_in opcode payload)) by;
+    history = line.1.history ∙ ap (λ (a : Actor). history_behind given s.node (action_asked s a (request_in opcode payload)) ms h) by;
     planned = line.1.planned;
   },
 )
@@ -177,49 +210,53 @@ left_due : (due : Bool) (armed : Option Armed) (ds : List PlainDeadline) → lef
 left_due true armed ds = left_armed armed ds
 left_due false armed ds = refl
 
-pub tick_of : TakesTheAddedAway → (given : Given) (s : State) (ms : ℕ) (outcome : PlainOutcome) → IsValid s.node → outcome.sent ≡ [] → IsPlan given s.node Expire ms outcome.node
-    → unwrap_or outcome.deadlines s.deadlines ≡ left_without outcome.node.gone s.deadlines → IsTick given s ms outcome
-tick_of takes given s ms outcome valid sends plan left =
+pub tick_of : TakesTheAddedAway → (given : Given) (s : State) (h : History) (ms : ℕ) (outcome : PlainOutcome) → IsValid s.node → outcome.sent ≡ [] → outcome.ms ≡ ms → may_record outcome.node.told h ≡ true → IsPlan given s.node Expire ms outcome.node
+    → unwrap_or outcome.deadlines s.deadlines ≡ left_without outcome.node.gone s.deadlines → IsTick given s h ms outcome
+tick_of takes given s h ms outcome valid sends time may plan left =
     let gone : outcome.node.gone ≡ (if is_due s.node.armed ms then added_in s.node.armed else None) = ap (λ (aside : Aside). aside.gone) plan.aside ∙ takes given s.node ms valid in
     let deadlines : unwrap_or outcome.deadlines s.deadlines ≡ (if is_due s.node.armed ms then deadlines_left s.node.armed s.deadlines else s.deadlines) =
     left ∙ ap (λ (g : Option ℕ). left_without g s.deadlines) gone ∙ left_due (is_due s.node.armed ms) s.node.armed s.deadlines in
     record {
       sent = sends;
       state = λ i. record { node = plan.state i; deadlines = deadlines i };
-      planned = (given, (Expire, (ms, plan)));
+      history = tells given s h Expire ms outcome time plan;
+      planned = record { node = (given, (Expire, (ms, plan))); recordable = may };
     }
 
 -- What no line of a plain actor makes.
 
 -- time passes
-pub passes : (given : Given) (s : State) (ms : ℕ) (outcome : PlainOutcome) → outcome.deadlines ≡ None → IsPlan given s.node Nothing ms outcome.node → IsActionPlan given s Nothing ms outcome
-passes given s ms outcome none plan =
+pub passes : (given : Given) (s : State) (h : History) (ms : ℕ) (outcome : PlainOutcome) → outcome.deadlines ≡ None → outcome.ms ≡ ms → may_record outcome.node.told h ≡ true → IsPlan given s.node Nothing ms outcome.node → IsActionPlan given s h Nothing ms outcome
+passes given s h ms outcome none time may plan =
     let deadlines : unwrap_or outcome.deadlines s.deadlines ≡ deadlines_of_those_left s.node (after_action given s.node Nothing ms) s.deadlines =
     ap (λ (d : Option (List PlainDeadline)). unwrap_or d s.deadlines) none ∙ all_left s.node (after_action given s.node Nothing ms) refl s.deadlines in
     record {
       state = λ i. record { node = plan.state i; deadlines = deadlines i };
-      planned = (given, (Nothing, (ms, plan)));
+      history = tells given s h Nothing ms outcome time plan;
+      planned = record { node = (given, (Nothing, (ms, plan))); recordable = may };
     }
 
 -- what is asked over a session
-pub asked_over : (given : Given) (s : State) (ms : ℕ) (actor : Actor) (request : Request) (timed : Option ℕ) (outcome : PlainOutcome) → IsPlan given s.node (Ask actor request timed) ms outcome.node
-    → unwrap_or outcome.deadlines s.deadlines ≡ left_without outcome.node.gone s.deadlines → IsActionPlan given s (Ask actor request timed) ms outcome
-asked_over given s ms actor request timed outcome plan left =
+pub asked_over : (given : Given) (s : State) (h : History) (ms : ℕ) (actor : Actor) (request : Request) (timed : Option ℕ) (outcome : PlainOutcome) → outcome.ms ≡ ms → may_record outcome.node.told h ≡ true → IsPlan given s.node (Ask actor request timed) ms outcome.node
+    → unwrap_or outcome.deadlines s.deadlines ≡ left_without outcome.node.gone s.deadlines → IsActionPlan given s h (Ask actor request timed) ms outcome
+asked_over given s h ms actor request timed outcome time may plan left =
     let behind : NodeState = after_action given s.node (Ask actor request timed) ms in
     let deadlines : unwrap_or outcome.deadlines s.deadlines ≡ deadlines_of_those_left s.node behind s.deadlines =
     left ∙ left_is_gone s.node (applied outcome.node s.node) outcome.node.gone plan.leaves s.deadlines ∙ ap (λ (now : NodeState). deadlines_of_those_left s.node now s.deadlines) plan.state in
     record {
       state = λ i. record { node = plan.state i; deadlines = deadlines i };
-      planned = (given, (Ask actor request timed, (ms, plan)));
+      history = tells given s h (Ask actor request timed) ms outcome time plan;
+      planned = record { node = (given, (Ask actor request timed, (ms, plan))); recordable = may };
     }
 
 -- and where nobody is taken as asking
-pub nobody_over : (given : Given) (s : State) (ms : ℕ) (actor : Actor) (request : Request) (timed : Option ℕ) (outcome : PlainOutcome) → asker s.node actor ≡ None
-    → IsActionPlan given s Nothing ms outcome → IsActionPlan given s (Ask actor request timed) ms outcome
-nobody_over given s ms actor request timed outcome none quiet =
+pub nobody_over : (given : Given) (s : State) (h : History) (ms : ℕ) (actor : Actor) (request : Request) (timed : Option ℕ) (outcome : PlainOutcome) → asker s.node actor ≡ None
+    → IsActionPlan given s h Nothing ms outcome → IsActionPlan given s h (Ask actor request timed) ms outcome
+nobody_over given s h ms actor request timed outcome none quiet =
     let same = nobody_steps given s actor ms (Ok request) timed none in
     record {
       state = quiet.state ∙ (λ i. record { node = same i; deadlines = deadlines_of_those_left s.node (same i) s.deadlines });
+      history = quiet.history ∙ nobody_tells given s h actor ms (Ok request) timed none;
       planned = quiet.planned;
     }
 

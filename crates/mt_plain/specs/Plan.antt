@@ -9,11 +9,15 @@ use Rattle.mt_model.specs.declared.messages.message.Request.{Request}
 use Rattle.mt_model.specs.declared.texts.recording.Event.{Event}
 use Rattle.mt_node.specs.Plan.{IsPlan, IsPlanned, applied}
 use Rattle.mt_model.specs.declared.node.action.Action.{Action}
-use Rattle.mt_model.specs.declared.node.action.Action.TheVariants.{Nothing}
+use Rattle.mt_model.specs.declared.node.action.Action.TheVariants.{Expire, Nothing}
 use Rattle.mt_machine.specs.Given.{Given}
 use Rattle.mt_machine.specs.Isolation.{is_deadline_in}
-use Rattle.mt_machine.specs.Lines.{behind_action, is_built, is_built_payload, next, next_for, next_tick, sent, sent_for, without}
+use Rattle.mt_machine.specs.Lines.{behind_action, is_built, is_built_payload, next, next_for, next_tick, without}
 use Rattle.mt_machine.specs.State.{State}
+use Rattle.mt_history.specs.Behind.{history_behind}
+use Rattle.mt_history.specs.History.{History, recorded_all, without_left}
+use Rattle.mt_lines.specs.Lines.{action_asked, history_plainly, sent_asked, sent_plainly}
+use Rattle.mt_plain.specs.Recording.{may_record}
 use Rattle.mt_plain.specs.declared.outcome.PlainOutcome.{PlainOutcome}
 
 -- how many other actors of an actor's fabric have a deadline
@@ -40,48 +44,59 @@ abbrev pub left_without : Option ℕ → List PlainDeadline → List PlainDeadli
 left_without None deadlines = deadlines
 left_without (Some fabric) deadlines = filter (λ (deadline : PlainDeadline). stays (Some fabric) deadline.fabric) deadlines
 
+-- The history behind an outcome: what is private to the fabric that goes is forgotten, and all that is told is recorded.
+abbrev pub applied_history : PlainOutcome → History → History
+applied_history outcome h = recorded_all outcome.ms outcome.node.told (without_left outcome.node.gone h)
+
+-- The outcome was made on this state, where this was the history, in which all that it tells can be recorded.
+pub record IsPlainPlanned (s : State) (h : History) (outcome : PlainOutcome) : Type 0 where
+  pub node : IsPlanned s.node outcome.node
+  pub recordable : may_record outcome.node.told h ≡ true
+
 -- The outcome is that of a line of this actor, whose payload was decoded to this.
-pub record IsLine (given : Given) (s : State) (ms : ℕ) (actor : Actor) (asked : Result Request ImFault) (outcome : PlainOutcome) : Type 0 where
-  pub sent : outcome.sent ≡ sent_for given s actor ms asked
+pub record IsLine (given : Given) (s : State) (h : History) (ms : ℕ) (actor : Actor) (asked : Result Request ImFault) (outcome : PlainOutcome) : Type 0 where
+  pub sent : outcome.sent ≡ sent_asked given s h actor ms asked
   pub state : applied_plain outcome s ≡ next_for given s actor ms asked
-  pub planned : IsPlanned s.node outcome.node
+  pub history : applied_history outcome h ≡ history_behind given s.node (action_asked s actor asked) ms h
+  pub planned : IsPlainPlanned s h outcome
 
 -- there is an outcome exactly where what was decoded is built
-abbrev pub IsLineIf : Given → State → ℕ → Actor → Result Request ImFault → Option PlainOutcome → Type 0
-IsLineIf given s ms actor asked None = is_built_payload asked ≡ false
-IsLineIf given s ms actor asked (Some outcome) = (is_built_payload asked ≡ true) × IsLine given s ms actor asked outcome
+abbrev pub IsLineIf : Given → State → History → ℕ → Actor → Result Request ImFault → Option PlainOutcome → Type 0
+IsLineIf given s h ms actor asked None = is_built_payload asked ≡ false
+IsLineIf given s h ms actor asked (Some outcome) = (is_built_payload asked ≡ true) × IsLine given s h ms actor asked outcome
 
 -- nothing is sent, and time passes
-pub record IsQuiet (given : Given) (s : State) (ms : ℕ) (outcome : PlainOutcome) : Type 0 where
+pub record IsQuiet (given : Given) (s : State) (h : History) (ms : ℕ) (outcome : PlainOutcome) : Type 0 where
   pub sent : outcome.sent ≡ []
+  pub time : outcome.ms ≡ ms
   pub deadlines : outcome.deadlines ≡ None
   pub node : IsPlan given s.node Nothing ms outcome.node
+  pub recordable : may_record outcome.node.told h ≡ true
 
 -- The outcome is that of a time step.
-pub record IsTick (given : Given) (s : State) (ms : ℕ) (outcome : PlainOutcome) : Type 0 where
+pub record IsTick (given : Given) (s : State) (h : History) (ms : ℕ) (outcome : PlainOutcome) : Type 0 where
   pub sent : outcome.sent ≡ []
   pub state : applied_plain outcome s ≡ next_tick given s ms
-  pub planned : IsPlanned s.node outcome.node
+  pub history : applied_history outcome h ≡ history_behind given s.node Expire ms h
+  pub planned : IsPlainPlanned s h outcome
 
 -- The outcome is that of this action, which no line of a plain actor makes.
-pub record IsActionPlan (given : Given) (s : State) (action : Action) (ms : ℕ) (outcome : PlainOutcome) : Type 0 where
+pub record IsActionPlan (given : Given) (s : State) (h : History) (action : Action) (ms : ℕ) (outcome : PlainOutcome) : Type 0 where
   pub state : applied_plain outcome s ≡ behind_action given s action ms
-  pub planned : IsPlanned s.node outcome.node
+  pub history : applied_history outcome h ≡ history_behind given s.node action ms h
+  pub planned : IsPlainPlanned s h outcome
 
 -- The outcome is that of this event.
-pub record IsPlainPlan (given : Given) (s : State) (event : Event) (outcome : PlainOutcome) : Type 0 where
-  pub sent : outcome.sent ≡ sent given s event
+pub record IsPlainPlan (given : Given) (s : State) (h : History) (event : Event) (outcome : PlainOutcome) : Type 0 where
+  pub sent : outcome.sent ≡ sent_plainly given s h event
   pub state : applied_plain outcome s ≡ next given s event
-  pub planned : IsPlanned s.node outcome.node
+  pub history : applied_history outcome h ≡ history_plainly given s event h
+  pub planned : IsPlainPlanned s h outcome
 
 -- there is an outcome exactly where the event is built
-abbrev pub IsPlanIf : Given → State → Event → Option PlainOutcome → Type 0
-IsPlanIf given s event None = is_built event ≡ false
-IsPlanIf given s event (Some outcome) = (is_built event ≡ true) × IsPlainPlan given s event outcome
-
--- the outcome was made on this state
-abbrev pub IsPlainPlanned : State → PlainOutcome → Type 0
-IsPlainPlanned s outcome = IsPlanned s.node outcome.node
+abbrev pub IsPlanIf : Given → State → History → Event → Option PlainOutcome → Type 0
+IsPlanIf given s h event None = is_built event ≡ false
+IsPlanIf given s h event (Some outcome) = (is_built event ≡ true) × IsPlainPlan given s h event outcome
 
 -- the sessions that end with an outcome are those that are live before it and not behind it
 abbrev pub closed_by : PlainOutcome → List ℕ

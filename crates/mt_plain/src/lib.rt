@@ -6,14 +6,18 @@
 //! - `lines`: a line of a plain actor, from its payload to what is sent;
 //! - `sessions`: what is asked over a session;
 //! - `ticks`: a time step;
+//! - `history`: what the node remembers of events;
+//! - `reporting`: the events among what is replied;
 //! - `deadlines`: until when the next requests of plain actors must come;
 //! - `sending`: the messages of a reply.
 #![tactic(auto)]
 
 mod deadlines;
+mod history;
 mod lines;
 mod outcome;
 mod plain;
+mod reporting;
 mod sending;
 mod sessions;
 mod ticks;

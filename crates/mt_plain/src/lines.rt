@@ -5,12 +5,15 @@ ghost use Rattle.mt_machine.specs.Lines.{fault_reply, is_built_payload, is_refus
 ghost use Rattle.mt_machine.specs.Step.{asker, is_built_request, refusal};
 ghost use Rattle.mt_model.specs.messages.Status.{code_of};
 ghost use Rattle.mt_model.specs.declared.messages.status.Status.TheVariants.{Busy};
+ghost use Rattle.mt_history.specs.Asking.{events_asked, with_events};
+ghost use Rattle.mt_im.specs.Limits.{IsWithinLimits};
 ghost use Rattle.mt_plain.specs.Kept.{given_to};
 ghost use Rattle.mt_plain.specs.Plan.{IsLine, IsQuiet};
 
 use crate::deadlines::{deadline_of, is_refused, left_without, next_deadlines};
 use crate::outcome::PlainOutcome;
 use crate::plain::Plain;
+use crate::reporting::with_events;
 use crate::sending::sent_as;
 use mt_im::ImFault;
 use mt_model::{Action, Actor, Auth, PlainDeadlines, Reply, Request, SentList, Status, Verdicts};
@@ -46,9 +49,10 @@ pub(crate) fn planned_line<V: Verdicts>(
     asked: &Result<Request, ImFault>,
     verdicts: &V,
 ) -> Result<PlainOutcome, AllocError>
-    requires { is_built_payload asked.now ≡ true }
+    requires built { is_built_payload asked.now ≡ true }
+    requires within { IfOk asked.now IsWithinLimits }
     ensures { let given = given_to plain.now (V.roots verdicts.now) (V.csrs verdicts.now) (V.joins verdicts.now) in
-        IfOk result (IsLine given plain.now.state ms actor.now asked.now) }
+        IfOk result (IsLine given plain.now.state plain.now.history ms actor.now asked.now) }
 {
     match plain.node.asker(actor) {
         Some(asking) => planned_for(plain, ms, actor, &asking, asked, verdicts),
@@ -59,14 +63,10 @@ pub(crate) fn planned_line<V: Verdicts>(
 // Nothing is sent where nobody is taken as asking.
 fn quiet<V: Verdicts>(plain: &Plain, ms: u64, verdicts: &V) -> Result<PlainOutcome, AllocError>
     ensures { let given = given_to plain.now (V.roots verdicts.now) (V.csrs verdicts.now) (V.joins verdicts.now) in
-        IfOk result (IsQuiet given plain.now.state ms) }
+        IfOk result (IsQuiet given plain.now.state plain.now.history ms) }
 {
     let node = plain.node.plan(&Action::Nothing, ms, verdicts)?;
-    Ok(PlainOutcome {
-        sent: SentList::new(plain.alloc),
-        node,
-        deadlines: None,
-    })
+    plain.outcome(SentList::new(plain.alloc), ms, node, None)
 }
 
 fn planned_for<V: Verdicts>(
@@ -79,8 +79,9 @@ fn planned_for<V: Verdicts>(
 ) -> Result<PlainOutcome, AllocError>
     requires asks { asker plain.now.state.node actor.now ≡ Some asking.now }
     requires built { is_built_payload asked.now ≡ true }
+    requires within { IfOk asked.now IsWithinLimits }
     ensures { let given = given_to plain.now (V.roots verdicts.now) (V.csrs verdicts.now) (V.joins verdicts.now) in
-        IfOk result (IsLine given plain.now.state ms actor.now asked.now) }
+        IfOk result (IsLine given plain.now.state plain.now.history ms actor.now asked.now) }
 {
     let deadlines = next_deadlines(plain.alloc, plain.deadlines.as_slice(), asking, ms, asked)?;
     match asked {
@@ -101,9 +102,10 @@ fn answered<V: Verdicts>(
 ) -> Result<PlainOutcome, AllocError>
     requires asks { asker plain.now.state.node actor.now ≡ Some asking.now }
     requires built { is_built_request request.now ≡ true }
+    requires within { IsWithinLimits request.now }
     requires next { unwrap_or deadlines plain.now.state.deadlines ≡ with_deadline asking.now plain.now.state.deadlines ms (Ok request.now) }
     ensures { let given = given_to plain.now (V.roots verdicts.now) (V.csrs verdicts.now) (V.joins verdicts.now) in
-        IfOk result (IsLine given plain.now.state ms actor.now (Ok request.now)) }
+        IfOk result (IsLine given plain.now.state plain.now.history ms actor.now (Ok request.now)) }
 {
     let timed = deadline_of(plain.deadlines.as_slice(), asking);
     let node = plain
@@ -116,14 +118,10 @@ fn answered<V: Verdicts>(
         deadlines,
         node.gone,
     )?;
-    Ok(PlainOutcome {
-        sent,
-        node,
-        deadlines,
-    })
+    plain.outcome(sent, ms, node, deadlines)
 }
 
-// The messages of a reply, or those that refuse a time for which there is no room.
+// The messages of a reply and of the events that the request asks for, or those that refuse a time for which there is no room.
 fn if_not_refused(
     plain: &Plain,
     ms: u64,
@@ -131,8 +129,9 @@ fn if_not_refused(
     request: &Request,
     reply: &Reply,
 ) -> Result<SentList, AllocError>
-    ensures { IfOk result (λ sent. sent ≡ sent_as ms asking.now.fabric
-        (if is_refused asking.now plain.now.state.deadlines ms request.now then refusal (code_of Busy) else reply.now)) }
+    requires { IsWithinLimits request.now }
+    ensures { IfOk result (λ sent. sent ≡ sent_as ms asking.now.fabric (with_events (events_asked plain.now.state.node.entries plain.now.history.rings asking.now request.now)
+        (if is_refused asking.now plain.now.state.deadlines ms request.now then refusal (code_of Busy) else reply.now))) }
 {
     if is_refused(plain.deadlines.as_slice(), asking, ms, request) {
         let busy = Reply::Status {
@@ -140,7 +139,10 @@ fn if_not_refused(
         };
         return sent_as(plain.alloc, ms, asking.fabric, &busy);
     }
-    sent_as(plain.alloc, ms, asking.fabric, reply)
+    match with_events(plain, asking, request, reply)? {
+        Some(full) => sent_as(plain.alloc, ms, asking.fabric, &full),
+        None => sent_as(plain.alloc, ms, asking.fabric, reply),
+    }
 }
 
 // What is no request is refused, and time passes.
@@ -156,15 +158,11 @@ fn refused<V: Verdicts>(
     requires asks { asker plain.now.state.node actor.now ≡ Some asking.now }
     requires next { unwrap_or deadlines plain.now.state.deadlines ≡ with_deadline asking.now plain.now.state.deadlines ms (Err fault) }
     ensures { let given = given_to plain.now (V.roots verdicts.now) (V.csrs verdicts.now) (V.joins verdicts.now) in
-        IfOk result (IsLine given plain.now.state ms actor.now (Err fault)) }
+        IfOk result (IsLine given plain.now.state plain.now.history ms actor.now (Err fault)) }
 {
     let node = plain.node.plan(&Action::Nothing, ms, verdicts)?;
     let sent = sent_as(plain.alloc, ms, asking.fabric, &fault_reply(fault))?;
-    Ok(PlainOutcome {
-        sent,
-        node,
-        deadlines,
-    })
+    plain.outcome(sent, ms, node, deadlines)
 }
 
 /// The reply to a payload that is no request.

@@ -1,15 +1,20 @@
 //! What comes of a line.
 
-ghost use Rattle.std.specs.Prelude.{◌≡◌};
+ghost use Rattle.std.specs.Prelude.{◌≡◌, IfOk, true};
+ghost use Rattle.mt_plain.specs.Recording.{may_record};
 
+use crate::plain::Plain;
 use mt_model::{PlainDeadlines, SentList};
 use mt_node::Outcome;
+use std::alloc::AllocError;
 
 /// What a planned event sends, and what it makes of the plain.
 #[derive(Drop)]
 pub struct PlainOutcome {
     /// The messages, in the order of sending.
     pub sent: SentList,
+    // the time, in ms
+    pub(crate) ms: u64,
     pub(crate) node: Outcome,
     // the deadlines of plain actors, None where they stay
     pub(crate) deadlines: Option<PlainDeadlines>,
@@ -21,5 +26,30 @@ impl PlainOutcome {
         ensures { result.now ≡ self.now.node.closed }
     {
         self.node.closed.as_slice()
+    }
+}
+
+impl Plain {
+    /// The outcome of what was planned at this time, in ms. Want of memory is told where what it tells can't be recorded, to which no
+    /// node comes: its numbers would be near their end.
+    pub(crate) fn outcome(
+        &self,
+        sent: SentList,
+        ms: u64,
+        node: Outcome,
+        deadlines: Option<PlainDeadlines>,
+    ) -> Result<PlainOutcome, AllocError>
+        ensures made { IfOk result (λ outcome. outcome ≡ record { sent = sent; ms = ms; node = node; deadlines = deadlines }) }
+        ensures recordable { IfOk result (λ outcome. may_record node.told self.now.history ≡ true) }
+    {
+        if !self.history.may_record(node.told.as_slice()) {
+            return Err(AllocError);
+        }
+        Ok(PlainOutcome {
+            sent,
+            ms,
+            node,
+            deadlines,
+        })
     }
 }

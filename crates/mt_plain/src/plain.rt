@@ -1,11 +1,13 @@
 //! The node with its plain actors.
 
-ghost use Rattle.std.specs.Prelude.{◌≡◌, IfOk, option_copied};
+ghost use Rattle.std.specs.Prelude.{◌≡◌, IfOk, IfSome, option_copied};
 ghost use Rattle.mt_machine.specs.Lines.{is_built_payload};
+ghost use Rattle.mt_im.specs.Limits.{IsWithinLimits};
 ghost use Rattle.mt_im.specs.Reading.{request_in};
-ghost use Rattle.mt_plain.specs.Kept.{given_to, in_state, started};
-ghost use Rattle.mt_plain.specs.Plan.{AsksIf, IsLineIf, IsPlanIf, IsPlainPlanned, applied_plain, is_want_of_memory};
+ghost use Rattle.mt_plain.specs.Kept.{behind, given_to, started};
+ghost use Rattle.mt_plain.specs.Plan.{AsksIf, IsLineIf, IsPlanIf, IsPlainPlanned, applied_history, applied_plain, is_want_of_memory};
 
+use crate::history::History;
 use crate::lines::{line_actor, planned_line};
 use crate::outcome::PlainOutcome;
 use crate::ticks::planned_tick;
@@ -16,12 +18,13 @@ use mt_tlv::Bytes;
 use std::alloc::{AllocError, Global};
 use std::marker::Model;
 
-/// The node, and the deadlines of plain actors around it. Contracts see the state of both, and the configuration
-/// with which it was started.
+/// The node, and around it what it remembers of events and the deadlines of plain actors. Contracts see the state of the node
+/// and the deadlines, the history, and the configuration with which it was started.
 #[derive(Drop)]
 pub struct Plain {
     pub(crate) alloc: Global,
     pub(crate) node: Node,
+    pub(crate) history: History,
     pub(crate) deadlines: PlainDeadlines,
 }
 
@@ -34,11 +37,11 @@ impl Model for Plain {
 
     ghost coded = { Prim.hlevel (codes, values.the_row.coded) };
 
-    ghost view = { λ plain. record { state = record { node = plain.node.state; deadlines = plain.deadlines }; config = plain.node.config } };
+    ghost view = { λ plain. record { state = record { node = plain.node.state; deadlines = plain.deadlines }; history = plain.history; config = plain.node.config } };
 }
 
 impl Plain {
-    /// A new node with this configuration, in its first boot; nobody has a deadline.
+    /// A new node with this configuration, in its first boot, of which its start is told; nobody has a deadline.
     pub fn start(alloc: Global, config: &Config) -> Result<Plain, AllocError>
         ensures { IfOk result (λ plain. plain ≡ started config.now) }
     {
@@ -46,6 +49,7 @@ impl Plain {
         Ok(Plain {
             alloc,
             node,
+            history: History::begun(alloc)?,
             deadlines: PlainDeadlines::new(alloc),
         })
     }
@@ -58,7 +62,7 @@ impl Plain {
         verdicts: &V,
     ) -> Result<Option<PlainOutcome>, AllocError>
         ensures { let given = given_to self.now (V.roots verdicts.now) (V.csrs verdicts.now) (V.joins verdicts.now) in
-            IfOk result (IsPlanIf given self.now.state event.now) }
+            IfOk result (IsPlanIf given self.now.state self.now.history event.now) }
     {
         match event {
             Event::Ask {
@@ -100,7 +104,7 @@ impl Plain {
         verdicts: &V,
     ) -> Result<Option<PlainOutcome>, AllocError>
         ensures { let given = given_to self.now (V.roots verdicts.now) (V.csrs verdicts.now) (V.joins verdicts.now) in
-            IfOk result (IsLineIf given self.now.state ms actor.now (request_in opcode payload.now)) }
+            IfOk result (IsLineIf given self.now.state self.now.history ms actor.now (request_in opcode payload.now)) }
     {
         let Some(asked) = asked(self.alloc, opcode, payload.as_slice())? else {
             return Ok(None);
@@ -111,15 +115,18 @@ impl Plain {
 
     /// Makes of it what a planned event makes of it. It takes no memory, and cannot fail.
     pub fn apply(&mut self, outcome: PlainOutcome)
-        requires { IsPlainPlanned self.old.state outcome }
-        ensures { self.new ≡ in_state (applied_plain outcome self.old.state) self.old }
+        requires { IsPlainPlanned self.old.state self.old.history outcome }
+        ensures { self.new ≡ behind (applied_plain outcome self.old.state) (applied_history outcome self.old.history) self.old }
     {
         let PlainOutcome {
             sent: _,
+            ms,
             node,
             deadlines,
         } = outcome;
-        self.node.apply(node);
+        let gone = node.gone;
+        let told = self.node.apply(node);
+        self.history.pass_on(gone, ms, told);
         if let Some(deadlines) = deadlines {
             self.deadlines = deadlines;
         }
@@ -132,7 +139,9 @@ pub fn asked(
     opcode: u8,
     payload: &[u8],
 ) -> Result<Option<Result<Request, ImFault>>, AllocError>
-    ensures { IfOk result (AsksIf (request_in opcode payload.now)) }
+    ensures asks { IfOk result (AsksIf (request_in opcode payload.now)) }
+    // What is asked is within the limits of a request.
+    ensures within { IfOk result (λ asked. IfSome asked (λ read. IfOk read IsWithinLimits)) }
 {
     let asked = decode(alloc, opcode, payload);
     if is_want_of_memory(&asked) {

@@ -19,15 +19,11 @@ pub(crate) fn planned_tick<V: Verdicts>(
     verdicts: &V,
 ) -> Result<PlainOutcome, AllocError>
     ensures { let given = given_to plain.now (V.roots verdicts.now) (V.csrs verdicts.now) (V.joins verdicts.now) in
-        IfOk result (IsTick given plain.now.state ms) }
+        IfOk result (IsTick given plain.now.state plain.now.history ms) }
 {
     ticks_let_the_failsafe_expire();
     plain.node.state_is_valid();
     let node = plain.node.plan(&Action::Expire, ms, verdicts)?;
     let deadlines = left_without(plain.alloc, plain.deadlines.as_slice(), None, node.gone)?;
-    Ok(PlainOutcome {
-        sent: SentList::new(plain.alloc),
-        node,
-        deadlines,
-    })
+    plain.outcome(SentList::new(plain.alloc), ms, node, deadlines)
 }

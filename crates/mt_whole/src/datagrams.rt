@@ -41,7 +41,7 @@ pub(crate) fn planned_datagram<V: Verdicts>(
     bytes: &Bytes,
     verdicts: &V,
 ) -> Result<Option<WholeOutcome>, AllocError>
-    ensures planned { IfOk result (IsPlannedIf whole.now.plain.state) }
+    ensures planned { IfOk result (IsPlannedIf whole.now.plain.state whole.now.plain.history) }
     ensures plan { let given = given_to whole.now (V.roots verdicts.now) (V.csrs verdicts.now) (V.joins verdicts.now) in
         (w : Told) → IsWholeOf whole.now w → IfOk result (IsPlanIf given w (Datagram ms from bytes.now)) }
 {
@@ -78,9 +78,9 @@ fn planned_heard<V: Verdicts>(
     verdicts: &V,
 ) -> Result<Option<WholeOutcome>, AllocError>
     requires { length bytes.now < 2 ^ 16 }
-    ensures planned { IfOk result (IsPlannedIf whole.now.plain.state) }
+    ensures planned { IfOk result (IsPlannedIf whole.now.plain.state whole.now.plain.history) }
     ensures heard { let given = given_to whole.now (V.roots verdicts.now) (V.csrs verdicts.now) (V.joins verdicts.now) in
-        (t : ToldTalk) → IsTalkAt talk.now t → IfOk result (IsHeardIf given whole.now.plain.state ms from bytes.now t) }
+        (t : ToldTalk) → IsTalkAt talk.now t → IfOk result (IsHeardIf given whole.now.plain.state whole.now.plain.history ms from bytes.now t) }
 {
     let id = talk.id;
     let live = whole.plain.actor(id).is_some();
@@ -126,7 +126,7 @@ fn answered<V: Verdicts>(
     verdicts: &V,
 ) -> Result<Option<(Option<Answering>, PlainOutcome)>, AllocError>
     ensures { let given = given_to whole.now (V.roots verdicts.now) (V.csrs verdicts.now) (V.joins verdicts.now) in
-        IfOk result (IsAnsweredIf given whole.now.plain.state id ms (said_by heard.entry)) }
+        IfOk result (IsAnsweredIf given whole.now.plain.state whole.now.plain.history id ms (said_by heard.entry)) }
 {
     match heard {
         Heard::Nothing => Ok(Some((None, whole.plain.pass(ms, verdicts)?))),
@@ -177,7 +177,7 @@ fn acknowledged<V: Verdicts>(
     verdicts: &V,
 ) -> Result<Option<(Option<Answering>, PlainOutcome)>, AllocError>
     ensures { let given = given_to whole.now (V.roots verdicts.now) (V.csrs verdicts.now) (V.joins verdicts.now) in
-        (id : ℕ) → IfOk result (IsAnsweredIf given whole.now.plain.state id ms (answers key acknowledge [])) }
+        (id : ℕ) → IfOk result (IsAnsweredIf given whole.now.plain.state whole.now.plain.history id ms (answers key acknowledge [])) }
 {
     let none = Payloads::new(whole.alloc);
     told_at_once(whole, key, acknowledge, none, ms, verdicts)
@@ -193,7 +193,7 @@ fn told_at_once<V: Verdicts>(
     verdicts: &V,
 ) -> Result<Option<(Option<Answering>, PlainOutcome)>, AllocError>
     ensures { let given = given_to whole.now (V.roots verdicts.now) (V.csrs verdicts.now) (V.joins verdicts.now) in
-        (id : ℕ) → IfOk result (IsAnsweredIf given whole.now.plain.state id ms (answers key acknowledge payloads)) }
+        (id : ℕ) → IfOk result (IsAnsweredIf given whole.now.plain.state whole.now.plain.history id ms (answers key acknowledge payloads)) }
 {
     let plain = whole.plain.pass(ms, verdicts)?;
     Ok(Some((

@@ -21,7 +21,7 @@ pub(crate) fn planned_resend<V: Verdicts>(
     session: u16,
     verdicts: &V,
 ) -> Result<WholeOutcome, AllocError>
-    ensures planned { IfOk result (λ outcome. IsPlainPlanned whole.now.plain.state outcome.plain) }
+    ensures planned { IfOk result (λ outcome. IsPlainPlanned whole.now.plain.state whole.now.plain.history outcome.plain) }
     ensures plan { let given = given_to whole.now (V.roots verdicts.now) (V.csrs verdicts.now) (V.joins verdicts.now) in
         (w : Told) → IsWholeOf whole.now w → IfOk result (IsWholePlan given w (Resend ms session)) }
 {
@@ -38,7 +38,7 @@ pub(crate) fn quiet<V: Verdicts>(
     verdicts: &V,
 ) -> Result<WholeOutcome, AllocError>
     ensures { let given = given_to whole.now (V.roots verdicts.now) (V.csrs verdicts.now) (V.joins verdicts.now) in
-        IfOk result (IsQuiet given whole.now.plain.state ms) }
+        IfOk result (IsQuiet given whole.now.plain.state whole.now.plain.history ms) }
 {
     Ok(WholeOutcome {
         sent: SentList::new(whole.alloc),
@@ -55,9 +55,9 @@ fn planned_again<V: Verdicts>(
     talk: &SessionTalk,
     verdicts: &V,
 ) -> Result<WholeOutcome, AllocError>
-    ensures planned { IfOk result (λ outcome. IsPlainPlanned whole.now.plain.state outcome.plain) }
+    ensures planned { IfOk result (λ outcome. IsPlainPlanned whole.now.plain.state whole.now.plain.history outcome.plain) }
     ensures again { let given = given_to whole.now (V.roots verdicts.now) (V.csrs verdicts.now) (V.joins verdicts.now) in
-        (t : ToldTalk) → IsTalkAt talk.now t → IfOk result (IsAgain given whole.now.plain.state ms t) }
+        (t : ToldTalk) → IsTalkAt talk.now t → IfOk result (IsAgain given whole.now.plain.state whole.now.plain.history ms t) }
 {
     let id = talk.id;
     if whole.plain.actor(id).is_none() {

@@ -46,7 +46,7 @@ impl Whole {
         event: &Event,
         verdicts: &V,
     ) -> Result<Option<WholeOutcome>, AllocError>
-        ensures planned { IfOk result (IsPlannedIf self.now.plain.state) }
+        ensures planned { IfOk result (IsPlannedIf self.now.plain.state self.now.plain.history) }
         ensures plan { let given = given_to self.now (V.roots verdicts.now) (V.csrs verdicts.now) (V.joins verdicts.now) in
             (w : Told) → IsWholeOf self.now w → IfOk result (IsPlanIf given w event.now) }
     {
@@ -68,7 +68,7 @@ impl Whole {
         verdicts: &V,
     ) -> Result<Option<WholeOutcome>, AllocError>
         ensures { let given = given_to self.now (V.roots verdicts.now) (V.csrs verdicts.now) (V.joins verdicts.now) in
-            IfOk result (IsPlainLineIf given self.now.plain.state event.now) }
+            IfOk result (IsPlainLineIf given self.now.plain.state self.now.plain.history event.now) }
     {
         let Some(mut plain) = self.plain.plan(event, verdicts)? else {
             return Ok(None);
@@ -99,7 +99,7 @@ impl Whole {
     /// Makes of the whole what a planned event makes of it. Sessions that end let go of their exchanges. It takes no
     /// memory, and cannot fail.
     pub fn apply(&mut self, outcome: WholeOutcome)
-        requires { IsPlainPlanned self.old.plain.state outcome.plain }
+        requires { IsPlainPlanned self.old.plain.state self.old.plain.history outcome.plain }
         ensures config { self.new.plain.config ≡ self.old.plain.config }
         ensures stands { (given : Given) (w : Told) (event : Line) → IsWholeOf self.old w → IsWholePlan given w event outcome → IsWholeOf self.new (next given w event) }
     {

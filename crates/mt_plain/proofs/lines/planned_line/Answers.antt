@@ -14,6 +14,6 @@ returns-in-None g c =
     let kept : Kept = c.args.plain.now in
     let given = given_to kept roots csrs rows in
     let actor = c.args.actor.now in
-    if_ok c.quiet.result (IsQuiet given kept.state c.args.ms) (IsLine given kept.state c.args.ms actor c.args.asked.now)
-    (λ outcome quiet. quiet_line given kept.state c.args.ms actor c.args.asked.now outcome (ap (λ (k : Kept). asker k.state.node actor) (sym c.plain.view_is) ∙ sym c.asker.ensures ∙ c.in-None.is) quiet)
+    if_ok c.quiet.result (IsQuiet given kept.state kept.history c.args.ms) (IsLine given kept.state kept.history c.args.ms actor c.args.asked.now)
+    (λ outcome quiet. quiet_line given kept.state kept.history c.args.ms actor c.args.asked.now outcome (ap (λ (k : Kept). asker k.state.node actor) (sym c.plain.view_is) ∙ sym c.asker.ensures ∙ c.in-None.is) quiet)
     c.quiet.ensures

@@ -1,9 +1,12 @@
-use Rattle.std.proofs.Common.{ap, subst, ◌∙◌}
+use Rattle.std.proofs.Common.{◌≡◌, Err, ap, refl, subst, sym, true, ◌∙◌}
 use Rattle.mt_model.specs.declared.node.action.Action.TheVariants.{Nothing}
 use Rattle.mt_machine.specs.Lines.{sent_as}
 use Rattle.mt_node.specs.Plan.{IsPlan}
 use Rattle.mt_plain.specs.Kept.{Kept, given_to}
-use Rattle.mt_plain.proofs.Planned.{refused_line}
+use Rattle.mt_plain.specs.Plan.{IsLine}
+use Rattle.mt_plain.specs.Recording.{may_record}
+use Rattle.mt_plain.specs.declared.outcome.PlainOutcome.{PlainOutcome}
+use Rattle.mt_plain.proofs.Planned.{if_both, refused_line}
 use Rattle.mt_plain.proofs.lines.refused.Goals as goal
 
 pub returns : goal.returns
@@ -13,7 +16,15 @@ returns g c =
     let csrs = g.V.Verdicts.csrs verdicts in
     let rows = g.V.Verdicts.joins verdicts in
     let kept : Kept = c.args.plain.now in
-    refused_line (given_to kept roots csrs rows) kept.state c.args.ms c.args.actor.now c.args.asking.now c.args.fault (record { sent = c.in_ok-sent.sent; node = c.in_ok-node.node; deadlines = c.args.deadlines }) c.requires.asks
-    (subst (λ (k : Kept). IsPlan (given_to k roots csrs rows) k.state.node Nothing c.args.ms c.in_ok-node.node) c.plain.view_is c.in_ok-node.ensures)
-    (c.in_ok-sent.ensures ∙ ap (sent_as c.args.ms c.args.asking.now.fabric) c.fault_reply.ensures)
-    c.requires.next
+    let given = given_to kept roots csrs rows in
+    let ms = c.args.ms in
+    let actor = c.args.actor.now in
+    let node = c.in_ok-node.node in
+    let made : PlainOutcome = record { sent = c.in_ok-sent.sent; ms = ms; node = node; deadlines = c.args.deadlines } in
+    if_both c.outcome.result (λ o. o ≡ made) (λ o. may_record node.told kept.history ≡ true) (IsLine given kept.state kept.history ms actor (Err c.args.fault))
+    (λ o is may. subst (λ (x : PlainOutcome). IsLine given kept.state kept.history ms actor (Err c.args.fault) x) (sym is)
+    (refused_line given kept.state kept.history ms actor c.args.asking.now c.args.fault made c.requires.asks
+    (subst (λ (k : Kept). IsPlan (given_to k roots csrs rows) k.state.node Nothing ms node) c.plain.view_is c.in_ok-node.ensures)
+    refl may (c.in_ok-sent.ensures ∙ ap (sent_as ms c.args.asking.now.fabric) c.fault_reply.ensures)
+    c.requires.next))
+    c.outcome.ensures.made c.outcome.ensures.recordable

@@ -1,5 +1,4 @@
-use Rattle.std.proofs.Common.{◌≡◌, ℕ, arith, length, ap}
-use Rattle.mt_model.specs.declared.messages.message.Payload.{Payload}
+use Rattle.std.proofs.Common.{◌≡◌, arith, length, ap}
 use Rattle.mt_plain.proofs.Dated.{one_more_dated}
 use Rattle.mt_plain.proofs.sessions.all_dated.Goals as goal
 

@@ -1,11 +1,13 @@
-use Rattle.std.proofs.Common.{◌≡◌, List, None, ap, subst, unwrap_or, ◌∙◌}
+use Rattle.std.proofs.Common.{◌≡◌, List, None, ap, refl, subst, sym, true, unwrap_or, ◌∙◌}
 use Rattle.mt_model.specs.declared.node.action.Action.TheVariants.{Expire}
 use Rattle.mt_model.specs.declared.node.action.PlainDeadline.{PlainDeadline}
 use Rattle.mt_machine.specs.State.{IsValid}
 use Rattle.mt_node.specs.Plan.{IsPlan}
 use Rattle.mt_plain.specs.Kept.{Kept, given_to}
-use Rattle.mt_plain.specs.Plan.{left_without}
-use Rattle.mt_plain.proofs.Planned.{tick_of}
+use Rattle.mt_plain.specs.Plan.{IsTick, left_without}
+use Rattle.mt_plain.specs.Recording.{may_record}
+use Rattle.mt_plain.specs.declared.outcome.PlainOutcome.{PlainOutcome}
+use Rattle.mt_plain.proofs.Planned.{if_both, tick_of}
 use Rattle.mt_plain.proofs.ticks.planned_tick.Goals as goal
 
 pub returns : goal.returns
@@ -17,7 +19,13 @@ returns g c =
     let kept : Kept = c.args.plain.now in
     let node = c.in_ok-node.node in
     let ds : c.as_slice.result.now ≡ kept.state.deadlines = c.as_slice.ensures ∙ ap (λ (k : Kept). k.state.deadlines) c.plain.view_is in
-    tick_of c.ticks_let_the_failsafe_expire.ensures.gone (given_to kept roots csrs rows) kept.state c.args.ms (record { sent = c.new.result; node = node; deadlines = c.in_ok-deadlines.deadlines })
-    (subst (λ (k : Kept). IsValid k.state.node) c.plain.view_is c.state_is_valid.ensures) c.new.ensures
+    let given = given_to kept roots csrs rows in
+    let ms = c.args.ms in
+    let made : PlainOutcome = record { sent = c.new.result; ms = ms; node = node; deadlines = c.in_ok-deadlines.deadlines } in
+    if_both c.outcome.result (λ o. o ≡ made) (λ o. may_record node.told kept.history ≡ true) (IsTick given kept.state kept.history ms)
+    (λ o is may. subst (λ (x : PlainOutcome). IsTick given kept.state kept.history ms x) (sym is)
+    (tick_of c.ticks_let_the_failsafe_expire.ensures.gone given kept.state kept.history ms made
+    (subst (λ (k : Kept). IsValid k.state.node) c.plain.view_is c.state_is_valid.ensures) c.new.ensures refl may
     (subst (λ (k : Kept). IsPlan (given_to k roots csrs rows) k.state.node Expire c.args.ms node) c.plain.view_is c.in_ok-node.ensures)
-    (subst (λ (l : List PlainDeadline). unwrap_or c.in_ok-deadlines.deadlines l ≡ left_without node.gone (unwrap_or None l)) ds c.in_ok-deadlines.ensures)
+    (subst (λ (l : List PlainDeadline). unwrap_or c.in_ok-deadlines.deadlines l ≡ left_without node.gone (unwrap_or None l)) ds c.in_ok-deadlines.ensures)))
+    c.outcome.ensures.made c.outcome.ensures.recordable

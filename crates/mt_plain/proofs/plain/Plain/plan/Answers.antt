@@ -12,5 +12,5 @@ returns-in-Ask g c =
     let given = given_to kept (g.V.Verdicts.roots verdicts) (g.V.Verdicts.csrs verdicts) (g.V.Verdicts.joins verdicts) in
     let a = c.in-Ask in
     let actor = c.line_actor-actor.result in
-    rw c.in-Ask.is (if_ok c.plan_line.result (IsLineIf given kept.state a.ms actor (request_in a.opcode a.payload)) (IsPlanIf given kept.state (Ask a.ms a.fabric a.node a.cats a.opcode a.payload))
-    (λ planned line. event_of given kept.state a.ms a.fabric a.node a.cats a.opcode a.payload actor c.line_actor-actor.ensures planned line) c.plan_line.ensures)
+    rw c.in-Ask.is (if_ok c.plan_line.result (IsLineIf given kept.state kept.history a.ms actor (request_in a.opcode a.payload)) (IsPlanIf given kept.state kept.history (Ask a.ms a.fabric a.node a.cats a.opcode a.payload))
+    (λ planned line. event_of given kept.state kept.history a.ms a.fabric a.node a.cats a.opcode a.payload actor c.line_actor-actor.ensures planned line) c.plan_line.ensures)

@@ -1,0 +1,25 @@
+use Rattle.std.proofs.Common.{◌≡◌, ap, List, [], length, rules, sym, ◌++◌, ◌∙◌}
+use Rattle.std.proofs.lemmas.List.{nil_from_length}
+use Rattle.mt_events.specs.Reading.{asking}
+use Rattle.mt_events.specs.Telling.{answered}
+use Rattle.mt_history.specs.Asking.{with_events}
+use Rattle.mt_model.specs.declared.messages.message.Item.{Item}
+use Rattle.mt_model.specs.declared.messages.message.Path.{Path}
+use Rattle.mt_model.specs.declared.messages.message.Reply.TheVariants as replies
+use Rattle.mt_plain.specs.Kept.{Kept}
+use Rattle.mt_plain.proofs.Reported.{none_asked, with_none}
+use Rattle.mt_plain.proofs.reporting.with_told.Goals as goal
+
+pub returns-then-is_empty : goal.returns-then-is_empty
+returns-then-is_empty c =
+    let kept : Kept = c.args.plain.now in
+    let zero : length c.args.paths.now ≡ 0 = search rules in
+    let none : c.args.paths.now ≡ [] = nil_from_length c.args.paths.now zero in
+    sym (ap (λ (paths : List Path). with_events (answered (asking kept.state.node.entries c.args.actor.now c.args.minimum paths) kept.history.rings) c.args.reply.now) none
+    ∙ ap (λ (events : List Item). with_events events c.args.reply.now) (none_asked kept.state.node.entries c.args.actor.now c.args.minimum kept.history.rings)
+    ∙ with_none c.args.reply.now)
+
+pub returns : goal.returns
+returns c =
+    let told = c.in_ok-told.ensures ∙ ap (λ (k : Kept). answered (asking k.state.node.entries c.args.actor.now c.args.minimum c.args.paths.now) k.history.rings) c.plain.view_is in
+    rw c.in-Report.is (ap (λ (all : List Item). replies.Report c.in-Report.subscription all c.in-Report.suppress) (c.in_ok-with_items.ensures ∙ ap (λ (events : List Item). c.in-Report.items ++ events) told))

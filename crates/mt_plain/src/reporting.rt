@@ -1,0 +1,73 @@
+//! The events among what is replied.
+
+ghost use Rattle.std.specs.Prelude.{◌≡◌, ◌≤◌, ◌++◌, IfOk, length, unwrap_or};
+ghost use Rattle.mt_events.specs.Reading.{asking};
+ghost use Rattle.mt_events.specs.Telling.{answered};
+ghost use Rattle.mt_history.specs.Asking.{events_asked, with_events};
+ghost use Rattle.mt_im.specs.Limits.{IsWithinLimits};
+
+use crate::plain::Plain;
+use mt_model::{Actor, ExactCopy, Items, Paths, Reply, Request};
+use std::alloc::AllocError;
+
+/// The reply with the events that a request of an actor asks for behind its attributes. None where it stays as it is.
+pub(crate) fn with_events(
+    plain: &Plain,
+    actor: &Actor,
+    request: &Request,
+    reply: &Reply,
+) -> Result<Option<Reply>, AllocError>
+    requires { IsWithinLimits request.now }
+    ensures { IfOk result (λ full. unwrap_or full reply.now ≡ with_events (events_asked plain.now.state.node.entries plain.now.history.rings actor.now request.now) reply.now) }
+{
+    match request {
+        Request::Read {
+            events,
+            minimum,
+            ..
+        } => with_told(plain, actor, *minimum, events, reply),
+        _ => Ok(None),
+    }
+}
+
+fn with_told(
+    plain: &Plain,
+    actor: &Actor,
+    minimum: u64,
+    paths: &Paths,
+    reply: &Reply,
+) -> Result<Option<Reply>, AllocError>
+    requires { length paths.now ≤ 16 }
+    ensures { IfOk result (λ full. unwrap_or full reply.now ≡ with_events (answered (asking plain.now.state.node.entries actor.now minimum paths.now) plain.now.history.rings) reply.now) }
+{
+    // A read that names no events goes over none.
+    if paths.as_slice().is_empty() {
+        return Ok(None);
+    }
+    let Reply::Report {
+        subscription,
+        items,
+        suppress,
+    } = reply
+    else {
+        return Ok(None);
+    };
+    let told = plain
+        .history
+        .after(plain.alloc, &plain.node, minimum, paths, actor)?;
+    Ok(Some(Reply::Report {
+        subscription: *subscription,
+        items: with_items(items, told)?,
+        suppress: *suppress,
+    }))
+}
+
+// These items, and others behind them.
+fn with_items(items: &Items, others: Items) -> Result<Items, AllocError>
+    ensures { IfOk result (λ all. all ≡ items.now ++ others) }
+{
+    let mut all = items.copy()?.into_vec();
+    let mut others = others.into_vec();
+    all.append(&mut others)?;
+    Ok(Items::from_vec(all))
+}
