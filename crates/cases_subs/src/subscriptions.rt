@@ -47,6 +47,15 @@ impl Subscribed {
                 let found = self.subs.end(byte(words, 1), id(words, 2));
                 println!(rt; "  {found}")
             }
+            "end-node" => {
+                self.subs.end_of_node(byte(words, 1), number(words, 2));
+                Ok(())
+            }
+            "end-ids" => {
+                let ids = [id(words, 2), id(words, 3)];
+                self.subs.end_all(byte(words, 1), &ids);
+                Ok(())
+            }
             "reported" => self.reported(words),
             "due" => self.tell_due(rt, granted, words),
             _ => self.tell(rt, words),
@@ -109,7 +118,7 @@ impl Subscribed {
             byte(words, 1),
             id(words, 2),
             number(words, 3),
-            &self.changes,
+            self.changes.as_slice(),
             word(words, 4) == "true",
         )?;
         let Some(places) = due else {

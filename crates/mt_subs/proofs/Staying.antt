@@ -8,6 +8,7 @@ use Rattle.mt_subs.specs.declared.subscription.Kept.{Kept}
 use Rattle.mt_subs.specs.declared.subscription.Sub.{Sub}
 use Rattle.mt_subs.specs.declared.subscription.SubState.{SubState}
 use Rattle.mt_subs.specs.declared.subscription.Subscription.{Subscription}
+use Rattle.mt_subs.specs.Leaving.{staying}
 use Rattle.mt_subs.specs.Subscriptions.{IsSubs, added, begun, changed, changed_at, ended, first_ids, ids_ascend, is_full, is_named, is_of, is_other, is_used, may_come_after, next_id, none, was_given}
 use Rattle.mt_subs.proofs.Lists.{all_filter, all_imply, all_stay, count_filter, count_map, count_more, none_changes, none_imply}
 use Rattle.mt_subs.proofs.Places.{names}
@@ -144,7 +145,7 @@ module _ (fabric id : ℕ) (change : Kept → Kept) where
     indexed = is.indexed;
   }
 
--- Without one.
+-- Without some.
 
 ascend_filter : (p : Subscription → Bool) (ss : List Subscription) → ids_ascend ss ≡ true → ids_ascend (filter p ss) ≡ true
 ascend_filter p [] up = refl
@@ -155,11 +156,11 @@ ascend_filter p (s ∷ ss) up =
       | false ↦ ascend_filter p ss parts.1
     ]
 
-pub ended_is : (fabric id : ℕ) (subs : SubState) → IsSubs subs → IsSubs (ended fabric id subs)
-ended_is fabric id subs is = record {
-  few = λ f. let before = is.few f in omega (arith, before, count_filter (is_of f) (is_other fabric id) subs.subscriptions);
-  ascend = ascend_filter (is_other fabric id) subs.subscriptions is.ascend;
-  given = all_filter (was_given subs.next_ids) (is_other fabric id) subs.subscriptions is.given;
+pub staying_is : (stays : Subscription → Bool) (subs : SubState) → IsSubs subs → IsSubs (staying stays subs)
+staying_is stays subs is = record {
+  few = λ f. let before = is.few f in omega (arith, before, count_filter (is_of f) stays subs.subscriptions);
+  ascend = ascend_filter stays subs.subscriptions is.ascend;
+  given = all_filter (was_given subs.next_ids) stays subs.subscriptions is.given;
   indexed = is.indexed;
 }
 

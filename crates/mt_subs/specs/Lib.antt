@@ -1,4 +1,5 @@
 pub mod Changes
+pub mod Leaving
 pub mod Owed
 pub mod Places
 pub mod Subscriptions

@@ -86,12 +86,7 @@ impl Changes {
     pub fn later(&self, number: u64) -> &[ChangeNumber]
         ensures { result.now ≡ later number self.now }
     {
-        for (count, change) in self.changes.iter().enumerate() {
-            if change.number <= number {
-                return &self.changes[..count];
-            }
-        }
-        self.changes.as_slice()
+        later(&self.changes, number)
     }
 
     /// A place has changed, as the change of this number, which is none of earlier ones: it stands first.
@@ -116,6 +111,19 @@ impl ExactCopy for Changes {
         let changes = Vec::from_slice(*self.changes.allocator(), &self.changes)?;
         Ok(Changes { changes })
     }
+}
+
+// Those of a list that keeps the rules which are later than a number.
+pub(crate) fn later(changes: &[ChangeNumber], number: u64) -> &[ChangeNumber]
+    requires { IsChanges changes.now }
+    ensures { result.now ≡ later number changes.now }
+{
+    for (count, change) in changes.iter().enumerate() {
+        if change.number <= number {
+            return &changes[..count];
+        }
+    }
+    changes
 }
 
 // Moves the change at a place of the list to its front, with another number.

@@ -1,21 +1,23 @@
 //! What holds of the subscriptions after each call, over the definitions alone. Each is the contract of a
 //! function that does nothing.
 
-ghost use Rattle.std.specs.Prelude.{◌≡◌, ℕ, ◌<◌, ◌≤◌, false, List};
+ghost use Rattle.std.specs.Prelude.{◌≡◌, ℕ, ◌<◌, ◌≤◌, false, Bool, List};
 ghost use Rattle.mt_model.specs.declared.node.state.ChangeNumber.{ChangeNumber};
 ghost use Rattle.mt_model.specs.declared.rows.place.Place.{Place};
 ghost use Rattle.mt_subs.specs.Changes.{IsChanges, newest_of, noted, unchanged};
-ghost use Rattle.mt_subs.specs.Subscriptions.{IsSubs, added, changed, ended, is_full, is_used, next_id, none};
+ghost use Rattle.mt_subs.specs.Subscriptions.{IsSubs, added, changed, is_full, is_used, next_id, none};
 ghost use Rattle.mt_subs.specs.declared.subscription.Kept.{Kept};
 ghost use Rattle.mt_subs.specs.declared.subscription.Sub.{Sub};
+ghost use Rattle.mt_subs.specs.Leaving.{staying};
 ghost use Rattle.mt_subs.specs.declared.subscription.SubState.{SubState};
+ghost use Rattle.mt_subs.specs.declared.subscription.Subscription.{Subscription};
 
 /// What no call refuses keeps the rules on subscriptions.
 pub fn valid_subscriptions_stay_valid()
     ensures none { IsSubs none }
     ensures added { (fabric : ℕ) (sub : Sub) (subs : SubState) → fabric < 256 → IsSubs subs → is_full fabric subs ≡ false → IsSubs (added fabric sub subs) }
     ensures changed { (fabric id : ℕ) (change : Kept → Kept) (subs : SubState) → IsSubs subs → IsSubs (changed fabric id change subs) }
-    ensures ended { (fabric id : ℕ) (subs : SubState) → IsSubs subs → IsSubs (ended fabric id subs) }
+    ensures staying { (stays : Subscription → Bool) (subs : SubState) → IsSubs subs → IsSubs (staying stays subs) }
 {}
 
 /// An id that was given is below the next one of its fabric, which rises as one is added and otherwise stays,

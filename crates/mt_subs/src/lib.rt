@@ -7,12 +7,14 @@
 //! - `finding`: what a call looks up among the subscriptions;
 //! - `changing`: what a call changes in one;
 //! - `changes`: when each attribute changed last, the newest first;
+//! - `ending`: which subscriptions end;
 //! - `owing`: what is owed, and whether it is time;
 //! - `laws`: what holds of the subscriptions after each call.
 #![tactic(auto)]
 
 mod changes;
 mod changing;
+mod ending;
 mod fault;
 mod finding;
 mod laws;

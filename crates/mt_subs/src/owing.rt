@@ -2,10 +2,10 @@
 
 ghost use Rattle.std.specs.Prelude.{◌≡◌, ◌&&◌, Some, IfOk};
 ghost use Rattle.mt_meta.specs.Places.{is_named_by};
-ghost use Rattle.mt_subs.specs.Changes.{is_among};
+ghost use Rattle.mt_subs.specs.Changes.{IsChanges, is_among};
 ghost use Rattle.mt_subs.specs.Owed.{due_of, has_passed, may_read, owed};
 
-use crate::changes::Changes;
+use crate::changes::later;
 use crate::subscription::Kept;
 use mt_acl::grants_if_asked;
 use mt_meta::{Asked, all_places, is_named_by, privilege_asked};
@@ -18,9 +18,10 @@ pub(crate) fn due_places(
     entries: &[AclEntry],
     kept: &Kept,
     now: u64,
-    changes: &Changes,
+    changes: &[ChangeNumber],
     unreported: bool,
 ) -> Result<Option<Places>, AllocError>
+    requires { IsChanges changes.now }
     ensures { IfOk result (λ due. due ≡ due_of entries.now (Some kept.now) now changes.now unreported) }
 {
     let ceiling = has_passed(kept.sub.ceiling, kept.time, now);
@@ -47,11 +48,12 @@ fn owed(
     alloc: Global,
     entries: &[AclEntry],
     kept: &Kept,
-    changes: &Changes,
+    changes: &[ChangeNumber],
 ) -> Result<Places, AllocError>
+    requires { IsChanges changes.now }
     ensures { IfOk result (λ places. places ≡ owed entries.now kept.now changes.now) }
 {
-    let later = changes.later(kept.change);
+    let later = later(changes, kept.change);
     if later.is_empty() {
         return Ok(Places::new(alloc));
     }

@@ -2,17 +2,17 @@
 
 ghost use Rattle.std.specs.Prelude.{◌≡◌, ◌↔◌, ◌<◌, ◌≤◌, ◌∷◌, [], None, false, true, IfErr, IfOk, IsSome, IsTrue, OnErr, OnOk, length, option_copied, slice_get};
 ghost use Rattle.mt_model.specs.rows.Seen.{own_entries};
+ghost use Rattle.mt_subs.specs.Changes.{IsChanges};
 ghost use Rattle.mt_subs.specs.Owed.{IsDue, due_of};
 ghost use Rattle.mt_subs.specs.Subscriptions.{IsFullOrMemory, IsSubs, added, begun, changed, confirmed, ended, first_ids, id_end, ids_of, is_full, is_used, kept_at, next_id, none, reported};
 
-use crate::changes::Changes;
 use crate::changing::{Told, confirm, report};
 use crate::fault::SubFault;
 use crate::finding::{count_of, first_id, found, place_of};
 use crate::owing::due_places;
 use crate::subscription::{Kept, Sub, SubState, Subscription, Subscriptions};
 use mt_model::limits::SUBSCRIPTIONS;
-use mt_model::{ExactCopy, Places, Sight};
+use mt_model::{ChangeNumber, ExactCopy, Places, Sight};
 use std::alloc::{AllocError, Global};
 use std::marker::Model;
 
@@ -20,7 +20,7 @@ use std::marker::Model;
 /// and its ids ascend, each below its next one.
 #[derive(Drop)]
 pub struct Subs {
-    subscriptions: Vec<Subscription>,
+    pub(crate) subscriptions: Vec<Subscription>,
     next_ids: [u32; 256],
 }
 
@@ -158,7 +158,8 @@ impl Subs {
 
     /// What is owed to a subscription that is due now, in ms: the places that it names, that have changed
     /// since its last report, and that its actor may read. `unreported` says whether an event is unreported.
-    /// None exactly where there is no such subscription, it is pending, or it is not due.
+    /// None exactly where there is no such subscription, it is pending, or it is not due. The changes stand with the
+    /// latest first, and only those that are later than the last report are gone through.
     pub fn due<S: Sight>(
         &self,
         alloc: Global,
@@ -166,9 +167,10 @@ impl Subs {
         fabric: u8,
         id: u32,
         now: u64,
-        changes: &Changes,
+        changes: &[ChangeNumber],
         unreported: bool,
     ) -> Result<Option<Places>, AllocError>
+        requires { IsChanges changes.now }
         ensures exact { IfOk result (λ due. due ≡ due_of (own_entries fabric (S.all_entries sight.now)) (kept_at fabric id self.now) now changes.now unreported) }
         ensures due { IfOk result (λ due. IsSome due ↔ IsDue (own_entries fabric (S.all_entries sight.now)) (kept_at fabric id self.now) now changes.now unreported) }
     {

@@ -41,8 +41,8 @@ impl ExactCopy for ChangeNumber {
     }
 }
 
-/// The change numbers of attributes, in the order of their places. Every attribute has one, which is 0
-/// where it has not changed since the start.
+/// The change numbers of attributes, that of the latest change first. Every attribute has one, which is 0 where it has
+/// not changed since the start.
 pub type ChangeNumbers = Listed<ChangeNumber>;
 
 /// How a session of the present boot stands.
