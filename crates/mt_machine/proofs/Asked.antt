@@ -27,6 +27,7 @@ use Rattle.mt_model.specs.declared.messages.message.Request.{Request}
 use Rattle.mt_model.specs.declared.messages.message.WriteItem.{WriteItem}
 use Rattle.mt_model.specs.declared.rows.place.Place.{Place}
 use Rattle.mt_model.specs.declared.rows.place.Row.{Row}
+use Rattle.mt_model.specs.declared.node.state.ChangeNumber.{ChangeNumber}
 use Rattle.mt_model.specs.declared.node.state.NodeSession.{NodeSession}
 use Rattle.mt_model.specs.declared.node.state.NodeState.{NodeState}
 use Rattle.mt_model.specs.declared.node.state.Standing.{Standing}
@@ -42,6 +43,7 @@ use Rattle.mt_opcreds.specs.Laws as credentials_laws
 use Rattle.mt_model.specs.tables.Known.{bare_armed, bare_network, known_to}
 use Rattle.mt_opcreds.specs.Laws.{KeepsRules, StepsAreWellFormed, StepsFit, is_well_formed}
 use Rattle.mt_opcreds.specs.Moves.{IsMove, StepsAreMoves}
+use Rattle.mt_subs.specs.Changes.{IsChanges, newest_of, noted}
 use Rattle.mt_machine.specs.Changes.{differing}
 use Rattle.mt_machine.specs.Commands.{command_effect, nobodys_rows}
 use Rattle.mt_machine.specs.Given.{Given}
@@ -372,9 +374,10 @@ module _ (own : TouchesItsOwn) (sound : LeavesSound) (nobody : NobodySetsScoped)
   action_taken s Nothing now valid = refl
 
 -- the state before an action is valid at its time, and so is the one behind steps that it takes
-pub stays_valid : ((asker : Option Actor) (steps : List NodeStep) (s : NodeState) → IsValid s → may_take_all asker steps s ≡ true → IsValid (after_all asker steps s))
+pub stays_valid : ((place : Place) (number : ℕ) (changes : List ChangeNumber) → IsChanges changes → newest_of changes ≤ number → IsChanges (noted place number changes))
+    → ((asker : Option Actor) (steps : List NodeStep) (s : NodeState) → IsValid s → may_take_all asker steps s ≡ true → IsValid (after_all asker steps s))
     → (asking : Option Actor) (steps : List NodeStep) (s : NodeState) (now : ℕ) → IsValid s → may_take_all asking steps (at_time now s) ≡ true → IsValid (after_steps asking steps (at_time now s))
-stays_valid all_valid asking steps s now valid taken =
+stays_valid noted_stands all_valid asking steps s now valid taken =
     let timed = at_time now s in
     let its = timed_valid s now valid in
-    settled_valid (differing timed (after_all asking steps timed)) timed (after_all asking steps timed) its (all_valid asking steps timed its taken)
+    settled_valid noted_stands (differing timed (after_all asking steps timed)) timed (after_all asking steps timed) its (all_valid asking steps timed its taken)

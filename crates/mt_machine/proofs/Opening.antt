@@ -18,7 +18,8 @@ use Rattle.mt_model.specs.declared.tables.access.Auth.TheVariants.{Pase, Case, G
 use Rattle.mt_model.specs.declared.rows.place.Place.{Place}
 use Rattle.mt_model.specs.declared.texts.config.SessionRow.{SessionRow}
 use Rattle.mt_model.specs.declared.tables.fabric.Fabric.{Fabric}
-use Rattle.mt_machine.specs.Opened.{live_or_waits, opened_with, session_of, sessions_of, standing_of, unchanged, with_roots_of}
+use Rattle.mt_subs.specs.Changes.{IsChanges, change_at, unchanged}
+use Rattle.mt_machine.specs.Opened.{live_or_waits, opened_with, session_of, sessions_of, standing_of, with_roots_of}
 use Rattle.mt_machine.specs.Effects.{with_root}
 use Rattle.mt_model.specs.declared.node.state.NodeSession.{NodeSession}
 use Rattle.mt_machine.specs.State.{IsValid, follows, has_one_row, is_change_up_to, is_row, is_session, is_used, stands_once, stands_rightly}
@@ -190,16 +191,16 @@ sessions_follow fabrics (row ∷ rows) = elim (cases_Bool (row.boot == 1)) [
 
 -- Change numbers.
 
-changes_counted : (places : List Place) → list_all (is_change_up_to 0) (map unchanged places) ≡ true
+changes_counted : (places : List Place) → list_all (is_change_up_to 0) (map (λ (place : Place). change_at place 0) places) ≡ true
 changes_counted [] = refl
 changes_counted (place ∷ places) = changes_counted places
 
 -- The whole.
 
-pub opens_valid : ((fabrics : List Fabric) → are_numbered_from 1 fabrics ≡ true → fabrics_ascend fabrics ≡ true)
+pub opens_valid : ((fabrics : List Fabric) → are_numbered_from 1 fabrics ≡ true → fabrics_ascend fabrics ≡ true) → IsChanges unchanged
     → (fabrics : List Fabric) (entries : List AclEntry) (sessions : List SessionRow) → are_fabrics fabrics ≡ true → are_entries fabrics entries ≡ true → IsValid (opened_with fabrics entries sessions)
 unfolding are_fabrics are_entries
-opens_valid numbered_ascend fabrics entries sessions good_fabrics good_entries =
+opens_valid numbered_ascend none_changed fabrics entries sessions good_fabrics good_entries =
     let few : nat_le (length fabrics) 16 ≡ true = grind (arith, good_fabrics) in
     let numbered : are_numbered_from 1 fabrics ≡ true = grind (arith, good_fabrics) in
     let rise = numbered_ascend fabrics numbered in
@@ -228,6 +229,7 @@ opens_valid numbered_ascend fabrics entries sessions good_fabrics good_entries =
       plain_stands = refl;
       count_fits = refl;
       changes_counted = changes_counted all_places;
+      changes_stand = none_changed;
       failsafe_facts = refl;
       saved_stand = refl;
       sessions_follow = sessions_follow fabrics sessions;

@@ -507,6 +507,7 @@ module _
     plain_stands = refl;
     count_fits = valid.count_fits;
     changes_counted = valid.changes_counted;
+    changes_stand = valid.changes_stand;
     failsafe_facts = refl;
     saved_stand = refl;
     sessions_follow = all-sessions s.sessions;

@@ -1,25 +1,20 @@
 -- Where nothing differs, no version and no change number moves.
-use Rattle.std.proofs.Common.{◌≡◌, ◌↔◌, ℕ, not, true, false, List, [], ◌∷◌, refl, ap, ◌∙◌, filter, map}
+use Rattle.std.proofs.Common.{◌≡◌, ◌↔◌, not, true, false, List, [], ◌∷◌, refl, ap, ◌∙◌, filter, map}
 use Rattle.mt_meta.specs.Places.{all_places}
 use Rattle.mt_model.specs.rows.Same.{are_same_rows}
-use Rattle.mt_model.specs.declared.node.state.ChangeNumber.{ChangeNumber}
 use Rattle.mt_model.specs.declared.node.state.NodeState.{NodeState}
 use Rattle.mt_model.specs.declared.node.state.Version.{Version}
 use Rattle.mt_model.specs.declared.rows.place.Place.{Place}
 use Rattle.mt_model.specs.declared.rows.place.Row.{Row}
-use Rattle.mt_machine.specs.Changes.{change_after, changed_at, differs, next_change, settled, version_after}
+use Rattle.mt_machine.specs.Changes.{changed_at, differs, settled, version_after}
 use Rattle.mt_machine.specs.State.{rows_of}
 
 versions_stay : (versions : List Version) → map (version_after []) versions ≡ versions
 versions_stay [] = refl
 versions_stay (version ∷ versions) = ap (λ (rest : List Version). version ∷ rest) (versions_stay versions)
 
-changes_stay : (number : ℕ) (changes : List ChangeNumber) → map (change_after [] number) changes ≡ changes
-changes_stay number [] = refl
-changes_stay number (change ∷ changes) = ap (λ (rest : List ChangeNumber). change ∷ rest) (changes_stay number changes)
-
 pub nowhere-same : (s : NodeState) → changed_at [] s s ≡ s
-nowhere-same s = λ i. record s { versions = versions_stay s.versions i; changes = changes_stay (next_change s.changed) s.changes i }
+nowhere-same s = λ i. record s { versions = versions_stay s.versions i }
 
 -- By the law of the model on rows that are told to be the same.
 module _ (same : (rows others : List Row) → (are_same_rows rows others ≡ true) ↔ (rows ≡ others)) where

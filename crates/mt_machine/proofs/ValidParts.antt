@@ -108,6 +108,7 @@ with-parts s valid fabrics entries rows roots networks armed sessions plain f e 
       plain_stands = p.stands;
       count_fits = valid.count_fits;
       changes_counted = valid.changes_counted;
+      changes_stand = valid.changes_stand;
       failsafe_facts = a.facts;
       saved_stand = a.saved;
       sessions_follow = c.follow;

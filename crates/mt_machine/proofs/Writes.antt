@@ -30,7 +30,9 @@ use Rattle.mt_model.specs.declared.node.state.NodeState.{NodeState}
 use Rattle.mt_model.specs.declared.node.state.Version.{Version}
 use Rattle.mt_model.specs.declared.messages.status.Status.{Status}
 use Rattle.mt_write.specs.Laws.{are_entries_of, is_entry_of, is_sound_row}
-use Rattle.mt_machine.specs.Changes.{change_after, changed_at, count_after, next_change, version_after}
+use Rattle.mt_subs.specs.Changes as subs
+use Rattle.mt_subs.specs.Changes.{IsChanges, is_other_change, newest_of, noted}
+use Rattle.mt_machine.specs.Changes.{changed_at, count_after, next_change, noted_all, version_after}
 use Rattle.mt_machine.specs.Effects.{after}
 use Rattle.mt_machine.specs.Taking.{fits, fits_row}
 use Rattle.mt_machine.specs.State.{IsValid, has_entries_up_to, has_one_row, is_among, is_change_up_to, is_row, is_row_at, is_row_of, is_unscoped, stands_once}
@@ -176,6 +178,7 @@ record AreEntries (s : NodeState) (entries : List AclEntry) : Type 0 where
 
 record AreChanges (changes : List ChangeNumber) (changed : ℕ) : Type 0 where
   counted : list_all (is_change_up_to changed) changes ≡ true
+  stand : IsChanges changes
   fits : nat_le changed (2 ^ 64 - 1) ≡ true
 
 renewed : (s : NodeState) (rows : List Row) (entries : List AclEntry) (versions : List Version) (changes : List ChangeNumber) (changed now : ℕ)
@@ -203,6 +206,7 @@ renewed s rows entries versions changes changed now valid are_rows are_entries a
   sessions_stand = valid.sessions_stand;
   plain_stands = valid.plain_stands;
   changes_counted = are_changes.counted;
+  changes_stand = are_changes.stand;
   count_fits = are_changes.fits;
   failsafe_facts = valid.failsafe_facts;
   saved_stand = valid.saved_stand;
@@ -217,7 +221,7 @@ same_entries : (s : NodeState) → IsValid s → AreEntries s s.entries
 same_entries s valid = record { rise = valid.entries_rise; forms = valid.entry_forms; owned = valid.entries_owned; few = valid.entry_counts }
 
 same_changes : (s : NodeState) → IsValid s → AreChanges s.changes s.changed
-same_changes s valid = record { counted = valid.changes_counted; fits = valid.count_fits }
+same_changes s valid = record { counted = valid.changes_counted; stand = valid.changes_stand; fits = valid.count_fits }
 
 -- Rows that are set.
 
@@ -458,29 +462,43 @@ next_fits changed = le-leb _ _ (omega arith)
 next_above : (changed number : ℕ) → nat_le changed (2 ^ 64 - 1) ≡ true → nat_le number changed ≡ true → nat_le number (next_change changed) ≡ true
 next_above changed number fit up = le-leb _ _ (omega (arith, leb-true _ _ fit, leb-true _ _ up))
 
-change_counted : (b : Bool) (changed : ℕ) (change : ChangeNumber) → nat_le changed (2 ^ 64 - 1) ≡ true → is_change_up_to changed change ≡ true
-    → is_change_up_to (next_change changed) (if b then record change { number = next_change changed } else change) ≡ true
-change_counted true changed change fit up = le-leb (next_change changed) (next_change changed) (omega arith)
-change_counted false changed change fit up = next_above changed change.number fit up
+newest_up_to : (number : ℕ) (changes : List ChangeNumber) → list_all (is_change_up_to number) changes ≡ true → newest_of changes ≤ number
+newest_up_to number [] all = omega arith
+newest_up_to number (change ∷ changes) all = leb-true change.number number (and_parts _ _ all).0
 
-changes_follow : (places : List Place) (changes : List ChangeNumber) (changed : ℕ) → AreChanges changes changed → AreChanges (map (change_after places (next_change changed)) changes) (count_after places changed)
-changes_follow [] changes changed are = record {
-  counted = list_all-map (is_change_up_to changed) (change_after [] (next_change changed)) changes ∙ are.counted;
-  fits = are.fits;
-}
-changes_follow (place ∷ places) changes changed are = record {
-  counted =
-      list_all-map (is_change_up_to (next_change changed)) (change_after (place ∷ places) (next_change changed)) changes
-      ∙ all-weaker (is_change_up_to changed) (λ change. is_change_up_to (next_change changed) (change_after (place ∷ places) (next_change changed) change))
-      (λ change up. change_counted (list_any (same_place change.place) (place ∷ places)) changed change are.fits up) changes are.counted;
-  fits = next_fits changed;
-}
+noted_counted : (place : Place) (number : ℕ) (changes : List ChangeNumber) → list_all (is_change_up_to number) changes ≡ true → list_all (is_change_up_to number) (noted place number changes) ≡ true
+noted_counted place number changes all = elim (cases_Bool (subs.is_among place changes)) [
+  | inl there ↦ rw there (and_from _ _ (le-leb number number (omega arith)) (all-filter (is_change_up_to number) (is_other_change place) changes all))
+  | inr nowhere ↦ rw nowhere all
+]
 
-pub settled_valid : (places : List Place) (s t : NodeState) → IsValid s → IsValid t → IsValid (changed_at places s t)
-settled_valid places s t before behind =
-    let follow = changes_follow places s.changes s.changed (same_changes s before) in
-    renewed t t.rows t.entries (map (version_after places) s.versions) (map (change_after places (next_change s.changed)) s.changes) (count_after places s.changed) t.clock
-    behind (same_rows t behind) (same_entries t behind) follow
+-- By the law that changes stay in their order.
+module _ (noted_stands : (place : Place) (number : ℕ) (changes : List ChangeNumber) → IsChanges changes → newest_of changes ≤ number → IsChanges (noted place number changes)) where
+  all_noted : (places : List Place) (changes : List ChangeNumber) (number : ℕ) → AreChanges changes number → AreChanges (noted_all places number changes) number
+  all_noted [] changes number are = are
+  all_noted (place ∷ places) changes number are =
+      let follow : AreChanges (noted place number changes) number = record {
+        counted = noted_counted place number changes are.counted;
+        stand = noted_stands place number changes are.stand (newest_up_to number changes are.counted);
+        fits = are.fits;
+      } in
+      all_noted places (noted place number changes) number follow
+
+  changes_follow : (places : List Place) (changes : List ChangeNumber) (changed : ℕ) → AreChanges changes changed → AreChanges (noted_all places (next_change changed) changes) (count_after places changed)
+  changes_follow [] changes changed are = are
+  changes_follow (place ∷ places) changes changed are =
+      let later : AreChanges changes (next_change changed) = record {
+        counted = all-weaker (is_change_up_to changed) (is_change_up_to (next_change changed)) (λ change up. next_above changed change.number are.fits up) changes are.counted;
+        stand = are.stand;
+        fits = next_fits changed;
+      } in
+      all_noted (place ∷ places) changes (next_change changed) later
+
+  pub settled_valid : (places : List Place) (s t : NodeState) → IsValid s → IsValid t → IsValid (changed_at places s t)
+  settled_valid places s t before behind =
+      let follow = changes_follow places s.changes s.changed (same_changes s before) in
+      renewed t t.rows t.entries (map (version_after places) s.versions) (noted_all places (next_change s.changed) s.changes) (count_after places s.changed) t.clock
+      behind (same_rows t behind) (same_entries t behind) follow
 
 pub timed_valid : (s : NodeState) (now : ℕ) → IsValid s → IsValid (record s { clock = now })
 timed_valid s now valid = renewed s s.rows s.entries s.versions s.changes s.changed now valid (same_rows s valid) (same_entries s valid) (same_changes s valid)

@@ -4,12 +4,12 @@ use Rattle.std.specs.Prelude.{ℕ, ◌+◌, ◌-◌, ◌%◌, ◌^◌, ◌==◌,
 use Rattle.std.specs.List.{list_any}
 use Rattle.mt_meta.specs.Places.{all_places}
 use Rattle.mt_model.specs.rows.Same.{are_same_rows}
-use Rattle.mt_model.specs.rows.Sight.{same_place}
 use Rattle.mt_model.specs.declared.rows.place.Place.{Place}
 use Rattle.mt_model.specs.declared.node.state.ChangeNumber.{ChangeNumber}
 use Rattle.mt_model.specs.declared.node.state.NodeState.{NodeState}
 use Rattle.mt_model.specs.declared.node.state.Version.{Version}
 use Rattle.mt_machine.specs.State.{rows_of}
+use Rattle.mt_subs.specs.Changes.{noted}
 
 -- The places whose attributes have other rows in the second state.
 
@@ -30,13 +30,14 @@ next_version version = record version { version = (version.version + 1) % 2 ^ 32
 abbrev pub version_after : List Place → Version → Version
 version_after places version = if list_any (is_within version) places then next_version version else version
 
--- An attribute that is among these places has the number of this change, up to the last number of 64 bits.
+-- Each of these places stands in front of all others, with the number of this change, up to the last number of 64 bits.
 
 abbrev pub next_change : ℕ → ℕ
 next_change changed = min (changed + 1) (2 ^ 64 - 1)
 
-abbrev pub change_after : List Place → ℕ → ChangeNumber → ChangeNumber
-change_after places number change = if list_any (same_place change.place) places then record change { number = number } else change
+abbrev pub noted_all : List Place → ℕ → List ChangeNumber → List ChangeNumber
+noted_all [] number changes = changes
+noted_all (place ∷ places) number changes = noted_all places number (noted place number changes)
 
 abbrev pub count_after : List Place → ℕ → ℕ
 count_after [] changed = changed
@@ -46,7 +47,7 @@ count_after (place ∷ places) changed = next_change changed
 abbrev pub changed_at : List Place → NodeState → NodeState → NodeState
 changed_at places s t = record t {
   versions = map (version_after places) s.versions;
-  changes = map (change_after places (next_change s.changed)) s.changes;
+  changes = noted_all places (next_change s.changed) s.changes;
   changed = count_after places s.changed;
 }
 

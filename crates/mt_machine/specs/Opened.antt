@@ -1,7 +1,6 @@
 -- The state in which a new node begins.
 use Rattle.std.specs.Prelude.{ℕ, ◌+◌, ◌-◌, ◌*◌, ◌%◌, ◌^◌, ◌==◌, List, [], ◌∷◌, Option, None, Some, filter, map}
 use Rattle.std.specs.List.{find, flat_map}
-use Rattle.mt_meta.specs.Places.{all_places}
 use Rattle.mt_meta.specs.Stored.{first_rows}
 use Rattle.mt_meta.specs.Table.{clusters_of, endpoints}
 use Rattle.mt_model.specs.declared.limits.TheConstants.{VERSIONS_OF_BOOT}
@@ -11,13 +10,12 @@ use Rattle.mt_model.specs.declared.tables.access.Auth.TheVariants.{Pase}
 use Rattle.mt_model.specs.declared.texts.config.Config.{Config}
 use Rattle.mt_model.specs.declared.texts.config.SessionRow.{SessionRow}
 use Rattle.mt_model.specs.declared.tables.fabric.Fabric.{Fabric}
-use Rattle.mt_model.specs.declared.rows.place.Place.{Place}
-use Rattle.mt_model.specs.declared.node.state.ChangeNumber.{ChangeNumber}
 use Rattle.mt_model.specs.declared.node.state.NodeSession.{NodeSession}
 use Rattle.mt_model.specs.declared.node.state.Standing.{Standing}
 use Rattle.mt_model.specs.declared.node.state.Standing.TheVariants.{Waits, Live}
 use Rattle.mt_model.specs.declared.node.state.Version.{Version}
 use Rattle.mt_model.specs.declared.node.state.NodeState.{NodeState}
+use Rattle.mt_subs.specs.Changes.{unchanged}
 use Rattle.mt_machine.specs.Effects.{with_root}
 use Rattle.mt_machine.specs.State.{State}
 use Rattle.mt_model.specs.texts.Config.{has_identity}
@@ -35,10 +33,6 @@ versions_of_endpoint version endpoint = map (version_row version endpoint) (clus
 -- all clusters of all endpoints, each with the same version
 abbrev pub versions_at : ℕ → List Version
 versions_at version = flat_map (versions_of_endpoint version) endpoints
-
--- no attribute has changed yet
-abbrev pub unchanged : Place → ChangeNumber
-unchanged place = record { place = place; number = 0 }
 
 -- roots, and those of fabrics, each once
 abbrev pub with_roots_of : List (List ℕ) → List Fabric → List (List ℕ)
@@ -81,7 +75,7 @@ opened_with fabrics entries sessions = record {
   networks = [];
   armed = None;
   versions = versions_at (first_version 1);
-  changes = map unchanged all_places;
+  changes = unchanged;
   changed = 0;
   sessions = sessions_of 1 fabrics sessions;
   plain = Some 0;

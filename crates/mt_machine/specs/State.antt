@@ -18,7 +18,6 @@ use Rattle.mt_model.specs.declared.tables.access.AclEntry.{AclEntry}
 use Rattle.mt_model.specs.declared.tables.access.Auth.{Auth}
 use Rattle.mt_model.specs.declared.tables.access.Auth.TheVariants.{Pase}
 use Rattle.mt_model.specs.declared.node.action.PlainDeadline.{PlainDeadline}
-use Rattle.mt_model.specs.declared.tables.fabric.Credentials.{Credentials}
 use Rattle.mt_model.specs.declared.tables.fabric.Fabric.{Fabric}
 use Rattle.mt_model.specs.declared.tables.network.Armed.{Armed}
 use Rattle.mt_model.specs.declared.tables.network.Network.{Network}
@@ -31,6 +30,7 @@ use Rattle.mt_model.specs.declared.node.state.Standing.{Standing}
 use Rattle.mt_model.specs.declared.node.state.Standing.TheVariants.{Waits, Live, Ended}
 use Rattle.mt_model.specs.declared.messages.status.Status.{Status}
 use Rattle.mt_opcreds.specs.Laws.{are_credentials_if}
+use Rattle.mt_subs.specs.Changes.{IsChanges}
 use Rattle.mt_apps.specs.Computed.{computed_rows}
 use Rattle.mt_apps.specs.Parts.{Parts}
 
@@ -179,6 +179,8 @@ pub record IsValid (s : NodeState) : Type 0 where
   -- no attribute changed later than the latest change, whose number has 64 bits
   pub count_fits : nat_le s.changed (2 ^ 64 - 1) ≡ true
   pub changes_counted : list_all (is_change_up_to s.changed) s.changes ≡ true
+  -- the newest change first, and each place once
+  pub changes_stand : IsChanges s.changes
   pub failsafe_facts : keeps_facts s.fabrics s.armed ≡ true
   pub saved_stand : saves_rightly s.armed ≡ true
   -- sessions of PASE have no fabric, or the one that was added

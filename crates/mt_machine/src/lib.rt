@@ -40,6 +40,7 @@ use mt_model::{
     what_is_told_the_same_is, what_stays_stands_in_order,
 };
 use mt_opcreds::{steps_are_moves, steps_are_well_formed, steps_fit};
+use mt_subs::changes_stay_in_order;
 use mt_write::{nobody_writes_scoped, writes_keep_forms, writes_touch_their_own};
 
 /// What a fabric observes of a state is what it observes of the veil, which is made of its own part and
@@ -146,6 +147,7 @@ pub fn states_are_valid()
     nobody_writes_scoped();
     what_stays_stands_in_order();
     steps_stand_first();
+    changes_stay_in_order();
 }
 
 /// A time step lets the fail-safe expire exactly where it is armed and its end has come, and then makes the

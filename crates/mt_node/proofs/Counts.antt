@@ -1,18 +1,22 @@
 -- No step moves a version, a change number or the count of changes.
-use Rattle.std.proofs.Common.{◌≡◌, inl, inr, is_none, List, [], ◌∷◌, Option, None, Some, refl, ap, sym, ◌∙◌, map}
-use Rattle.std.proofs.lemmas.Bool.{cases_Bool}
+use Rattle.std.proofs.Common.{◌≡◌, ◌≤◌, inl, inr, is_none, true, List, [], ◌∷◌, Option, None, Some, refl, ap, sym, ◌∙◌, arith}
+use Rattle.std.proofs.lemmas.Bool.{and_parts, cases_Bool, leb-true}
+use Rattle.std.specs.List.{list_all}
 use Rattle.mt_fabrics.specs.Table.{label_refusal}
 use Rattle.mt_failsafe.specs.Notes as notes
 use Rattle.mt_model.specs.declared.node.action.NodeStep.{NodeStep}
 use Rattle.mt_model.specs.declared.node.action.NodeStep.TheVariants.{SetRow, SetEntries, PutNetwork, RemoveNetwork, ConnectNetwork, MoveNetwork, Arm, Renew, Expire, Complete, AddRoot, Csr, AddFabric, UpdateFabric, RemoveFabric, Label, Emit}
+use Rattle.mt_model.specs.declared.node.state.ChangeNumber.{ChangeNumber}
 use Rattle.mt_model.specs.declared.node.state.NodeState.{NodeState}
 use Rattle.mt_model.specs.declared.rows.place.Place.{Place}
 use Rattle.mt_model.specs.declared.tables.access.Actor.{Actor}
 use Rattle.mt_model.specs.declared.tables.network.Armed.{Armed}
-use Rattle.mt_machine.specs.Changes.{change_after, changed_at, count_after, differing, next_change, settled, version_after}
+use Rattle.mt_machine.specs.Changes.{changed_at, differing, settled}
 use Rattle.mt_machine.specs.Effects.{after, after_all, completed, may_join, may_leave, may_update}
 use Rattle.mt_machine.specs.Rollback.{rolled_back}
+use Rattle.mt_machine.specs.State.{IsValid, is_change_up_to}
 use Rattle.mt_machine.specs.Step.{after_steps}
+use Rattle.mt_subs.specs.Changes.{newest_of}
 
 -- the same counts
 abbrev AsCounted : NodeState → NodeState → Type 0
@@ -54,11 +58,19 @@ steps_count asker (step ∷ steps) s =
 
 -- the state behind steps, where versions and change numbers follow from comparing it
 pub settled_is : (asker : Option Actor) (steps : List NodeStep) (s t u : NodeState) (places : List Place) → t ≡ after_all asker steps s → places ≡ differing s t
-    → u ≡ record t { versions = map (version_after places) t.versions; changes = map (change_after places (next_change t.changed)) t.changes; changed = count_after places t.changed }
+    → u ≡ changed_at places t t
     → u ≡ after_steps asker steps s
 settled_is asker steps s t u places is differ made =
     let kept : AsCounted s t = is ∙ steps_count asker steps s ∙ ap (λ (x : NodeState). record x { versions = s.versions; changes = s.changes; changed = s.changed }) (sym is) in
     made
-    ∙ ap (λ (x : NodeState). record x { versions = map (version_after places) x.versions; changes = map (change_after places (next_change x.changed)) x.changes; changed = count_after places x.changed }) kept
+    ∙ ap (λ (x : NodeState). changed_at places x x) kept
     ∙ ap (λ (l : List Place). changed_at l s t) differ
     ∙ ap (settled s) is
+
+-- no change is newer than the count of changes
+pub newest_up_to : (s : NodeState) → IsValid s → newest_of s.changes ≤ s.changed
+newest_up_to s valid = at_most s.changes valid.changes_counted
+  where
+    at_most : (changes : List ChangeNumber) → list_all (is_change_up_to s.changed) changes ≡ true → newest_of changes ≤ s.changed
+    at_most [] all = omega arith
+    at_most (change ∷ changes) all = leb-true change.number s.changed (and_parts _ _ all).0

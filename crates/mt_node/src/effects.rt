@@ -4,14 +4,15 @@
 ghost use Rattle.std.specs.Prelude.{◌≡◌, ◌+◌, ◌≤◌, ◌≢◌, [], true, IfOk, IfSome, IsTrue, Option, length, map, vec_capacity, vec_len};
 ghost use Rattle.std.specs.List.{list_all, list_any, sum_by};
 ghost use Rattle.std.specs.Option.{option_and_then};
-ghost use Rattle.mt_model.specs.rows.Sight.{same_place};
 ghost use Rattle.mt_model.specs.texts.Config.{ascend_from};
 ghost use Rattle.mt_model.specs.declared.tables.access.Actor.{Actor};
 ghost use Rattle.mt_model.specs.declared.node.state.NodeState.{NodeState};
-ghost use Rattle.mt_machine.specs.Changes.{change_after, count_after, is_within, next_change, version_after};
+ghost use Rattle.mt_machine.specs.Changes.{changed_at, is_within, noted_all, version_after};
 ghost use Rattle.mt_machine.specs.Effects.{after, after_all, is_setting_step, sets_values};
+ghost use Rattle.mt_machine.specs.State.{IsValid};
 ghost use Rattle.mt_machine.specs.Step.{at_time};
 ghost use Rattle.mt_machine.specs.Taking.{may_take_all};
+ghost use Rattle.mt_subs.specs.Changes.{IsChanges, newest_of};
 ghost use Rattle.mt_node.specs.Plan.{HaveRoom, IsMade, IsReady, IsRoomFor, applied, entries_in, needed, rows_behind};
 
 use crate::behind::made_whole;
@@ -22,10 +23,10 @@ use crate::rooms::rooms;
 use crate::telling::events_in;
 use mt_machine::{actions_set_values, actions_tell_their_own};
 use mt_model::{
-    AclEntries, AclEntry, Actor, ChangeNumber, ChangeNumbers, Effect, NodeState, NodeStep, Place,
-    Places, Row, SessionIds, Steps, StoredRows, Version, Versions, set_entries,
-    set_entries_stand_in_order,
+    AclEntries, AclEntry, Actor, ChangeNumbers, Effect, NodeState, NodeStep, Place, Places, Row,
+    SessionIds, Steps, StoredRows, Version, Versions, set_entries, set_entries_stand_in_order,
 };
+use mt_subs::Changes;
 use std::alloc::{AllocError, Global};
 use std::mem::replace;
 
@@ -160,7 +161,7 @@ fn entries_in(step: &NodeStep) -> usize
 /// Makes of the state what an outcome makes of it, and gives the events that this tells. It takes no memory, and cannot fail.
 pub(crate) fn apply(alloc: Global, state: &mut NodeState, outcome: Outcome) -> Steps
     requires ready { IsReady state.old outcome }
-    requires ascending { IsTrue (ascend_from 0 state.old.entries) }
+    requires valid { IsValid state.old }
     ensures state { state.new ≡ applied outcome state.old }
     ensures told { result ≡ outcome.told }
 {
@@ -286,10 +287,12 @@ fn make_step(step: NodeStep, room: Vec<Row>, rows: &mut StoredRows, entries: &mu
     }
 }
 
-// Gives the next version to each cluster of these places, and the number of this change to each attribute. Where
-// there is none, nothing is gone over.
+// Gives the next version to each cluster of these places, and notes that each attribute has changed. Where there is
+// none, nothing is gone over.
 pub(crate) fn settle(alloc: Global, state: &mut NodeState, places: &[Place])
-    ensures { state.new ≡ record state.old { versions = map (version_after places.now) state.old.versions; changes = map (change_after places.now (next_change state.old.changed)) state.old.changes; changed = count_after places.now state.old.changed } }
+    requires stand { IsChanges state.old.changes }
+    requires newest { newest_of state.old.changes ≤ state.old.changed }
+    ensures { state.new ≡ changed_at places.now state.old state.old }
 {
     actions_set_values();
     if places.is_empty() {
@@ -299,14 +302,16 @@ pub(crate) fn settle(alloc: Global, state: &mut NodeState, places: &[Place])
 }
 
 fn raise(alloc: Global, state: &mut NodeState, places: &[Place])
-    requires { length places.now ≢ 0 }
-    ensures { state.new ≡ record state.old { versions = map (version_after places.now) state.old.versions; changes = map (change_after places.now (next_change state.old.changed)) state.old.changes; changed = count_after places.now state.old.changed } }
+    requires some { length places.now ≢ 0 }
+    requires stand { IsChanges state.old.changes }
+    requires newest { newest_of state.old.changes ≤ state.old.changed }
+    ensures { state.new ≡ changed_at places.now state.old state.old }
 {
     let number = state.changed.saturating_add(1);
     let versions = replace(&mut state.versions, Versions::new(alloc));
     let changes = replace(&mut state.changes, ChangeNumbers::new(alloc));
     state.versions = Versions::from_vec(raised(versions.into_vec(), places));
-    state.changes = ChangeNumbers::from_vec(numbered(changes.into_vec(), places, number));
+    state.changes = noted_all(changes, places, number);
     state.changed = number;
 }
 
@@ -340,28 +345,15 @@ fn has_place_of(version: &Version, places: &[Place]) -> bool
         && place.cluster == version.cluster)
 }
 
-// The change numbers, in the same memory, of which those of these places are this one.
-fn numbered(changes: Vec<ChangeNumber>, places: &[Place], number: u64) -> Vec<ChangeNumber>
-    ensures { result.items ≡ map (change_after places.now number) changes.items }
+// The changes, in the same memory, with each of these places noted as the change of this number.
+fn noted_all(numbers: ChangeNumbers, places: &[Place], number: u64) -> ChangeNumbers
+    requires stand { IsChanges numbers }
+    requires newest { newest_of numbers ≤ number }
+    ensures { result ≡ noted_all places.now number numbers }
 {
-    let mut changes = changes;
-    for change in changes.iter_mut() {
-        *change = change_after(*change, places, number);
+    let mut changes = Changes::from_numbers(numbers);
+    for place in places {
+        let _ = changes.note(place, number);
     }
-    changes
-}
-
-fn change_after(change: ChangeNumber, places: &[Place], number: u64) -> ChangeNumber
-    ensures { result ≡ change_after places.now number change }
-{
-    if is_among(&change.place, places) {
-        return ChangeNumber { number, ..change };
-    }
-    change
-}
-
-fn is_among(place: &Place, places: &[Place]) -> bool
-    ensures { result ≡ list_any (same_place place.now) places.now }
-{
-    places.iter().any(|other| *place == *other)
+    changes.into_numbers()
 }

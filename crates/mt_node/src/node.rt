@@ -5,7 +5,7 @@ ghost use Rattle.mt_model.specs.declared.node.action.NodeStep.TheVariants.{Expir
 ghost use Rattle.mt_machine.specs.Given.{Given};
 ghost use Rattle.mt_machine.specs.Rollback.{is_due};
 ghost use Rattle.mt_machine.specs.State.{IsValid};
-ghost use Rattle.mt_machine.specs.Step.{asker, is_built_action, is_built_request, is_late, session_actor};
+ghost use Rattle.mt_machine.specs.Step.{asker, is_late, session_actor};
 ghost use Rattle.mt_node.specs.Answered.{IsAnswerInTime, is_of_credentials};
 ghost use Rattle.mt_node.specs.Kept.{given_to, in_state, started};
 ghost use Rattle.mt_node.specs.Plan.{IsPlan, IsPlanned, applied};
@@ -74,7 +74,6 @@ impl Node {
         now: u64,
         verdicts: &V,
     ) -> Result<Outcome, AllocError>
-        requires { is_built_action action.now ≡ true }
         ensures { let given = given_to self.now (V.roots verdicts.now) (V.csrs verdicts.now) (V.joins verdicts.now) in
             IfOk result (IsPlan given self.now.state action.now now) }
     {
@@ -92,7 +91,8 @@ impl Node {
         }
     }
 
-    /// Plans to answer a request of an actor that is taken as `asking`, as `asker` tells, at this time in ms.
+    /// Plans to answer a request of an actor that is taken as `asking`, as `asker` tells, at this time in ms. What subscribes
+    /// is answered by whoever keeps the subscriptions: here time passes, and what comes too late is refused.
     pub fn plan_asked<V: Verdicts>(
         &self,
         actor: &Actor,
@@ -103,7 +103,6 @@ impl Node {
         verdicts: &V,
     ) -> Result<Outcome, AllocError>
         requires asks { asker self.now.state actor.now ≡ Some asking.now }
-        requires built { is_built_request request.now ≡ true }
         ensures { let given = given_to self.now (V.roots verdicts.now) (V.csrs verdicts.now) (V.joins verdicts.now) in
             IfOk result (IsPlan given self.now.state (Action.Ask actor.now request.now timed) now) }
     {
@@ -123,7 +122,6 @@ impl Node {
         now: u64,
         verdicts: &V,
     ) -> Result<Effect, AllocError>
-        requires { is_built_request request.now ≡ true }
         ensures { let given = given_to self.now (V.roots verdicts.now) (V.csrs verdicts.now) (V.joins verdicts.now) in
             IfOk result (IsAnswerInTime given self.now.state asking.now request.now timed now) }
     {
@@ -171,6 +169,13 @@ impl Node {
         ensures { result.now ≡ self.now.config.reachable }
     {
         &self.config.reachable
+    }
+
+    /// The state of the node, lent.
+    pub fn state(&self) -> &NodeState
+        ensures { result.now ≡ self.now.state }
+    {
+        &self.state
     }
 
     /// The state of a node is valid at every time. It does nothing.

@@ -2,16 +2,16 @@
 
 ghost use Rattle.std.specs.Prelude.{◌≡◌, ◌==◌, ◌++◌, [], bytes_eq, map, IfOk, OnOk};
 ghost use Rattle.std.specs.List.{find, list_any};
-ghost use Rattle.mt_meta.specs.Places.{all_places};
-ghost use Rattle.mt_machine.specs.Opened.{first_version, live_or_waits, opened, session_of, sessions_of, standing_of, unchanged, versions_at, versions_of_endpoint, with_roots_of};
+ghost use Rattle.mt_machine.specs.Opened.{first_version, live_or_waits, opened, session_of, sessions_of, standing_of, versions_at, versions_of_endpoint, with_roots_of};
 ghost use Rattle.mt_machine.specs.Effects.{with_root};
 ghost use Rattle.mt_model.specs.texts.Config.{has_identity};
 
-use mt_meta::{all_places, clusters_of, endpoints, first_rows};
+use mt_meta::{clusters_of, endpoints, first_rows};
 use mt_model::{
-    Auth, ChangeNumber, ChangeNumbers, Config, ExactCopy, Fabric, Listed, NodeSession,
-    NodeSessions, NodeState, Roots, SessionRow, Standing, Version, Versions,
+    Auth, Config, ExactCopy, Fabric, Listed, NodeSession, NodeSessions, NodeState, Roots,
+    SessionRow, Standing, Version, Versions,
 };
+use mt_subs::Changes;
 use mt_tlv::Bytes;
 use std::alloc::{AllocError, Global};
 
@@ -31,7 +31,7 @@ pub fn opened(alloc: Global, config: &Config) -> Result<NodeState, AllocError>
         networks: Listed::new(alloc),
         armed: None,
         versions: versions(alloc, FIRST_VERSION)?,
-        changes: changes(alloc)?,
+        changes: Changes::new(alloc)?.into_numbers(),
         changed: 0,
         sessions: sessions(alloc, 1, fabrics, config.sessions.as_slice())?,
         plain: Some(0),
@@ -64,21 +64,6 @@ fn push_versions(version: u32, endpoint: u16, versions: &mut Vec<Version>) -> Re
         })?;
     }
     Ok(())
-}
-
-// All attributes, none of which has changed.
-fn changes(alloc: Global) -> Result<ChangeNumbers, AllocError>
-    ensures { IfOk result (λ changes. changes ≡ map unchanged all_places) }
-{
-    let places = all_places(alloc)?;
-    let mut changes = Vec::with_capacity(alloc, places.len())?;
-    for place in places.as_slice() {
-        changes.push(ChangeNumber {
-            place: *place,
-            number: 0,
-        })?;
-    }
-    Ok(Listed::from_vec(changes))
 }
 
 // The root certificates of fabrics, each once.

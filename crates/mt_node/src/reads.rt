@@ -47,6 +47,25 @@ fn any_item(paths: &[Path]) -> bool
     paths.iter().any(|path| path.names_item())
 }
 
+impl Node {
+    /// What whoever asks reads, of what its fabric observes (Matter Core Specification, section 8.4): the items, path by
+    /// path. NotGlobal exactly where a path asks every cluster for what not every cluster has.
+    pub fn read(
+        &self,
+        asking: &Actor,
+        paths: &Paths,
+        filtered: bool,
+        versions: &Versions,
+    ) -> Result<Items, ReadFault>
+        ensures exact { let seen = (observation asking.now.fabric self.now.state).seen in
+            IfOk result (λ items. read_answer seen asking.now paths.now filtered versions.now ≡ Some items) }
+        ensures not_global { let seen = (observation asking.now.fabric self.now.state).seen in
+            (result ≡ Err ReadFault.NotGlobal) ↔ (read_answer seen asking.now paths.now filtered versions.now ≡ None) }
+    {
+        seen(self, asking, paths, filtered, versions)
+    }
+}
+
 // What whoever asks reads, of what its fabric observes.
 fn seen(
     node: &Node,

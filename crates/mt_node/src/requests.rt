@@ -1,6 +1,6 @@
 //! The table of requests: which area answers each.
 
-ghost use Rattle.std.specs.Prelude.{◌≡◌, [], true, IfOk};
+ghost use Rattle.std.specs.Prelude.{◌≡◌, [], IfOk};
 ghost use Rattle.mt_model.specs.messages.Status.{code_of};
 ghost use Rattle.mt_model.specs.declared.messages.message.Reply.TheVariants.{Nothing};
 ghost use Rattle.mt_machine.specs.Step.{is_built_request, is_untimely, refusal, unless_suppressed};
@@ -12,8 +12,8 @@ use crate::{commands, reads, writes};
 use mt_model::{Actor, Effect, Reply, Request, Status, Steps, Verdicts};
 use std::alloc::{AllocError, Global};
 
-/// Whether a request is one of those that are built so far: statuses, reads, writes, commands, and
-/// requests that set a time.
+/// Whether a request is one of those that the node answers by itself: statuses, reads, writes, commands, and requests that
+/// set a time. What subscribes is answered by whoever keeps the subscriptions.
 pub fn is_built_request(request: &Request) -> bool
     ensures { result ≡ is_built_request request.now }
 {
@@ -27,7 +27,8 @@ pub fn is_built_request(request: &Request) -> bool
     }
 }
 
-/// What a request of whoever is taken as asking is answered, where a deadline stood for it or none did.
+/// What a request of whoever is taken as asking is answered, where a deadline stood for it or none did. What subscribes is
+/// answered by whoever keeps the subscriptions.
 pub(crate) fn answered<V: Verdicts>(
     node: &Node,
     asking: &Actor,
@@ -35,7 +36,6 @@ pub(crate) fn answered<V: Verdicts>(
     request: &Request,
     verdicts: &V,
 ) -> Result<Effect, AllocError>
-    requires { is_built_request request.now ≡ true }
     ensures { let given = given_to node.now (V.roots verdicts.now) (V.csrs verdicts.now) (V.joins verdicts.now) in
         IfOk result (IsAnswer given node.now.state asking.now stood request.now) }
 {

@@ -6,7 +6,7 @@ use Rattle.mt_machine.specs.Step.{asker_of, steps_of}
 use Rattle.mt_machine.proofs.states_are_valid.Goals as goal
 
 pub returns-clause-opens : goal.returns-clause-opens
-returns-clause-opens c = opens_valid c.numbered_fabrics_ascend.ensures
+returns-clause-opens c = opens_valid c.numbered_fabrics_ascend.ensures c.changes_stay_in_order.ensures.unchanged
 
 pub returns-clause-takes : goal.returns-clause-takes
 returns-clause-takes c given s action now keeps valid =
@@ -19,7 +19,7 @@ returns-clause-times c = timed_valid
 
 pub returns-clause-stays : goal.returns-clause-stays
 returns-clause-stays c given s action now keeps valid =
-    stays_valid
+    stays_valid c.changes_stay_in_order.ensures.noted
     (all-taken-valid
     c.what_stays_stands_in_order.ensures.rows c.what_stays_stands_in_order.ensures.entries c.set_rows_stand_in_order.ensures.ascending c.set_entries_stand_in_order.ensures.ascending
     c.the_index_is_the_least.ensures

@@ -1,11 +1,40 @@
-use Rattle.std.proofs.Common.{◌≡◌, ◌∙◌, ap}
+use Rattle.std.proofs.Common.{◌≡◌, ℕ, ◌∙◌, Option, List, true, ap, subst, sym}
+use Rattle.mt_model.specs.declared.node.action.NodeStep.{NodeStep}
 use Rattle.mt_model.specs.declared.node.state.NodeState.{NodeState}
+use Rattle.mt_model.specs.declared.tables.access.Actor.{Actor}
 use Rattle.mt_machine.specs.Changes.{differing}
 use Rattle.mt_machine.specs.Effects.{after_all}
+use Rattle.mt_machine.specs.Laws.{AllStayValid, TimesStayValid}
+use Rattle.mt_machine.specs.State.{IsValid}
 use Rattle.mt_machine.specs.Step.{at_time}
+use Rattle.mt_machine.specs.Taking.{may_take_all}
 use Rattle.mt_node.specs.Kept.{Kept}
-use Rattle.mt_node.proofs.Counts.{settled_is}
+use Rattle.mt_node.proofs.Counts.{newest_up_to, settled_is}
 use Rattle.mt_node.proofs.behind.state_behind.Goals as goal
+
+-- what steps that it takes make of a valid state, at another time, is valid
+made_valid : TimesStayValid → AllStayValid → (asking : Option Actor) (steps : List NodeStep) (now : ℕ) (s copied t : NodeState) → IsValid s → may_take_all asking steps (at_time now s) ≡ true
+    → copied ≡ s → t ≡ after_all asking steps (at_time now copied) → IsValid t
+made_valid times all asking steps now s copied t valid taken same made =
+    subst IsValid (sym (made ∙ ap (λ (x : NodeState). after_all asking steps (at_time now x)) same)) (all asking steps (at_time now s) (times s now valid) taken)
+
+pub settle-requires-clause-stand : goal.settle-requires-clause-stand
+settle-requires-clause-stand c =
+    let s = c.args.node.now.state in
+    let t = c.make_all.new.state in
+    let there : c.node.inside.state ≡ s = ap (λ (kept : Kept). kept.state) c.node.view_is in
+    let valid : IsValid t = made_valid c.states_are_valid.ensures.times c.steps_leave_states_valid.ensures.all c.args.asking c.args.steps c.args.now s c.in_ok-behind.behind t
+    (subst IsValid there c.node.invariant) c.requires (c.in_ok-behind.ensures ∙ there) c.in_ok-make_all.ensures in
+    valid.changes_stand
+
+pub settle-requires-clause-newest : goal.settle-requires-clause-newest
+settle-requires-clause-newest c =
+    let s = c.args.node.now.state in
+    let t = c.make_all.new.state in
+    let there : c.node.inside.state ≡ s = ap (λ (kept : Kept). kept.state) c.node.view_is in
+    let valid : IsValid t = made_valid c.states_are_valid.ensures.times c.steps_leave_states_valid.ensures.all c.args.asking c.args.steps c.args.now s c.in_ok-behind.behind t
+    (subst IsValid there c.node.invariant) c.requires (c.in_ok-behind.ensures ∙ there) c.in_ok-make_all.ensures in
+    newest_up_to t valid
 
 pub returns-clause-made : goal.returns-clause-made
 returns-clause-made c =
