@@ -1,0 +1,9 @@
+pub mod Filters
+pub mod Alike
+pub mod Standing
+pub mod Told
+pub mod Wishes
+pub mod Ledgers
+pub mod Behind
+pub mod Passing
+pub mod Replied
