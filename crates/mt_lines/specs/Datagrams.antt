@@ -1,5 +1,5 @@
 -- What a datagram comes to, and what is sent again.
-use Rattle.std.specs.Prelude.{ℕ, Bool, true, List, [], ◌∷◌, Option, Some, None, Result, Ok, Err, length, map, nat_le, replicate, if◌then◌else◌}
+use Rattle.std.specs.Prelude.{ℕ, List, [], ◌∷◌, Option, Some, None, Result, Ok, Err, length, map, nat_le, replicate, if◌then◌else◌}
 use Rattle.mt_frame.specs.Reading.{message_at}
 use Rattle.mt_frame.specs.declared.fault.FrameFault.{FrameFault}
 use Rattle.mt_frame.specs.declared.header.MessageHeader.{MessageHeader}
@@ -10,7 +10,6 @@ use Rattle.mt_model.specs.declared.messages.message.Payload.{Payload}
 use Rattle.mt_model.specs.declared.messages.message.Reply.{Reply}
 use Rattle.mt_model.specs.declared.messages.message.Request.{Request}
 use Rattle.mt_model.specs.declared.messages.message.Request.TheVariants as requests
-use Rattle.mt_model.specs.declared.node.action.Action.{Action}
 use Rattle.mt_model.specs.declared.node.action.Action.TheVariants as actions
 use Rattle.mt_model.specs.declared.node.state.NodeState.{NodeState}
 use Rattle.mt_model.specs.declared.tables.access.Actor.{Actor}
@@ -21,13 +20,18 @@ use Rattle.mt_model.specs.declared.texts.recording.To.TheVariants.{Session}
 use Rattle.mt_outside.specs.declared.network.Peer.{Peer}
 use Rattle.mt_exchange.specs.declared.exchange.Key.{Key}
 use Rattle.mt_talk.specs.Hearing.{Said, after_datagram, answers, asks, confirms, ends, nothing, said}
-use Rattle.mt_talk.specs.Talks.{Talk, after_answer, after_resend, answer_in, resent_in, sent_by}
+use Rattle.mt_subs.specs.Subscriptions.{kept_at}
+use Rattle.mt_subs.specs.declared.subscription.SubState.{SubState}
+use Rattle.mt_talk.specs.Talks.{Talk, after_answer, after_resend, answer_in, ended_in, resent_in, sent_by}
 use Rattle.mt_machine.specs.Given.{Given}
-use Rattle.mt_machine.specs.Lines.{action_of, fault_reply, is_built_payload, later_by}
+use Rattle.mt_machine.specs.Lines.{action_of, fault_reply, later_by}
 use Rattle.mt_machine.specs.Step.{is_late}
-use Rattle.mt_history.specs.Asking.{full_reply}
-use Rattle.mt_history.specs.History.{History}
-use Rattle.mt_lines.specs.Whole.{SessionTalk, is_live}
+use Rattle.mt_ledger.specs.Asking.{full_reply}
+use Rattle.mt_ledger.specs.Behind.{Doing}
+use Rattle.mt_ledger.specs.Behind as doings
+use Rattle.mt_ledger.specs.Ledger.{Ledger}
+use Rattle.mt_ledger.specs.Subscribing.{confirm_reply}
+use Rattle.mt_lines.specs.Whole.{SessionTalk, fabric_over, is_live}
 
 -- Which session a datagram names in its message header. What has more than 65,535 bytes is no datagram, and names none.
 
@@ -46,20 +50,27 @@ said_to s bytes t = said t.row t.talk (is_live s t.row.session) bytes
 abbrev pub heard : NodeState → Peer → List ℕ → SessionTalk → Talk
 heard s from bytes t = after_datagram t.row (is_live s t.row.session) from bytes t.talk
 
--- The action that it makes.
+-- What it does: it asks; it confirms the last payload of a report, or another message ends the subscription of that, which is of the fabric
+-- for which the session is live.
 
 -- who asks over a session is taken as its peer
 abbrev pub actor_on : ℕ → Actor
 actor_on id = record { fabric = 0; auth = Case; node = 0; cats = replicate 3 0; session = Some id }
 
-abbrev pub action_said : ℕ → Said → Action
-action_said id (asks key acknowledge opcode payload timed) = action_of (actor_on id) timed (request_in opcode payload)
-action_said id said = actions.Nothing
+abbrev pub ending : ℕ → Option ℕ → Doing
+ending fabric None = doings.acts actions.Nothing
+ending fabric (Some subscription) = doings.ends fabric (subscription ∷ [])
+
+abbrev pub doing_said : NodeState → ℕ → Said → Doing
+doing_said s id (asks key acknowledge opcode payload timed) = doings.acts (action_of (actor_on id) timed (request_in opcode payload))
+doing_said s id (confirms key acknowledge subscription) = doings.confirms (fabric_over s id) subscription
+doing_said s id (ends key acknowledge subscription) = ending (fabric_over s id) subscription
+doing_said s id said = doings.acts actions.Nothing
 
 -- What is replied to what is asked over a session. The deadline of a request is that of its exchange.
-abbrev pub reply_over : Given → NodeState → History → ℕ → Option ℕ → ℕ → Result Request ImFault → Reply
-reply_over given s h id timed ms (Ok request) = full_reply given s h (actions.Ask (actor_on id) request timed) ms
-reply_over given s h id timed ms (Err fault) = fault_reply fault
+abbrev pub reply_over : Given → NodeState → Ledger → ℕ → Option ℕ → ℕ → Result Request ImFault → Reply
+reply_over given s l id timed ms (Ok request) = full_reply given s l (actions.Ask (actor_on id) request timed) ms
+reply_over given s l id timed ms (Err fault) = fault_reply fault
 
 -- the answer to what sets a time, in time, carries until when the next request of the exchange must come
 abbrev pub deadline_set : Option ℕ → ℕ → Result Request ImFault → Option ℕ
@@ -70,23 +81,26 @@ abbrev pub dated : Option ℕ → List Payload → List Payload
 dated None payloads = payloads
 dated until payloads = map (λ (payload : Payload). record payload { deadline = until }) payloads
 
-abbrev pub payloads_over : Given → NodeState → History → ℕ → Option ℕ → ℕ → Result Request ImFault → List Payload
-payloads_over given s h id timed ms asked = dated (deadline_set timed ms asked) (chunks_of (reply_over given s h id timed ms asked))
+abbrev pub payloads_over : Given → NodeState → Ledger → ℕ → Option ℕ → ℕ → Result Request ImFault → List Payload
+payloads_over given s l id timed ms asked = dated (deadline_set timed ms asked) (chunks_of (reply_over given s l id timed ms asked))
 
--- The answer: on this exchange, with this acknowledgement, these payloads. Confirmations and ends are of reports, of
--- which there are none without subscriptions, and of the rest of a reply.
+-- The confirmation of a first report is answered that the subscription stands.
+abbrev pub payloads_confirmed : ℕ → ℕ → SubState → List Payload
+payloads_confirmed fabric subscription subs = chunks_of (confirm_reply subscription (kept_at fabric subscription subs))
+
+-- The answer: on this exchange, with this acknowledgement, these payloads.
 pub record Answer : Type 0 where
   pub key : Key
   pub acknowledge : Option ℕ
   pub payloads : List Payload
 
-abbrev pub answer_to : Given → NodeState → History → ℕ → ℕ → Said → Option Answer
-answer_to given s h id ms nothing = None
-answer_to given s h id ms (asks key acknowledge opcode payload timed) =
-    Some (record { key = key; acknowledge = acknowledge; payloads = payloads_over given s h id timed ms (request_in opcode payload) })
-answer_to given s h id ms (confirms key acknowledge subscription) = Some (record { key = key; acknowledge = acknowledge; payloads = [] })
-answer_to given s h id ms (ends key acknowledge subscription) = Some (record { key = key; acknowledge = acknowledge; payloads = [] })
-answer_to given s h id ms (answers key acknowledge payloads) = Some (record { key = key; acknowledge = acknowledge; payloads = payloads })
+abbrev pub answer_to : Given → NodeState → Ledger → ℕ → ℕ → Said → Option Answer
+answer_to given s l id ms nothing = None
+answer_to given s l id ms (asks key acknowledge opcode payload timed) =
+    Some (record { key = key; acknowledge = acknowledge; payloads = payloads_over given s l id timed ms (request_in opcode payload) })
+answer_to given s l id ms (confirms key acknowledge subscription) = Some (record { key = key; acknowledge = acknowledge; payloads = payloads_confirmed (fabric_over s id) subscription l.subs })
+answer_to given s l id ms (ends key acknowledge subscription) = Some (record { key = key; acknowledge = acknowledge; payloads = [] })
+answer_to given s l id ms (answers key acknowledge payloads) = Some (record { key = key; acknowledge = acknowledge; payloads = payloads })
 
 -- the datagram that it sends, and the talk behind it
 
@@ -113,14 +127,14 @@ if_any (Some bytes) = bytes ∷ []
 
 -- WHAT A DATAGRAM SENDS over the session of this talk, and the talk behind that.
 
-abbrev pub its_answer : Given → NodeState → History → ℕ → List ℕ → SessionTalk → Option Answer
-its_answer given s h ms bytes t = answer_to given s h t.row.session ms (said_to s bytes t)
+abbrev pub its_answer : Given → NodeState → Ledger → ℕ → List ℕ → SessionTalk → Option Answer
+its_answer given s l ms bytes t = answer_to given s l t.row.session ms (said_to s bytes t)
 
-abbrev pub sent_over : Given → NodeState → History → ℕ → Peer → List ℕ → SessionTalk → List Sent
-sent_over given s h ms from bytes t = all_sent ms t.row.session (heard s from bytes t).latest (if_any (datagram_of t.row (heard s from bytes t) (its_answer given s h ms bytes t)))
+abbrev pub sent_over : Given → NodeState → Ledger → ℕ → Peer → List ℕ → SessionTalk → List Sent
+sent_over given s l ms from bytes t = all_sent ms t.row.session (heard s from bytes t).latest (if_any (datagram_of t.row (heard s from bytes t) (its_answer given s l ms bytes t)))
 
-abbrev pub talked : Given → NodeState → History → ℕ → Peer → List ℕ → SessionTalk → Talk
-talked given s h ms from bytes t = behind_answer t.row ms (heard s from bytes t) (its_answer given s h ms bytes t)
+abbrev pub talked : Given → NodeState → Ledger → ℕ → Peer → List ℕ → SessionTalk → Talk
+talked given s l ms from bytes t = behind_answer t.row ms (heard s from bytes t) (its_answer given s l ms bytes t)
 
 -- What is sent again, over a session that is live, and the talk behind that.
 abbrev pub resent_over : NodeState → ℕ → SessionTalk → List Sent
@@ -129,7 +143,6 @@ resent_over s ms t = if is_live s t.row.session then all_sent ms t.row.session t
 abbrev pub resent_talk : NodeState → ℕ → SessionTalk → Talk
 resent_talk s ms t = if is_live s t.row.session then after_resend ms t.talk else t.talk
 
--- whether what is said is built: all but requests that are not
-abbrev pub is_built_said : Said → Bool
-is_built_said (asks key acknowledge opcode payload timed) = is_built_payload (request_in opcode payload)
-is_built_said said = true
+-- The subscriptions end whose reports were sent again in vain.
+abbrev pub doing_resent : NodeState → ℕ → SessionTalk → Doing
+doing_resent s ms t = if is_live s t.row.session then doings.ends (fabric_over s t.row.session) (ended_in t.row ms t.talk) else doings.acts actions.Nothing

@@ -1,5 +1,6 @@
--- The whole as it is written: the node, the deadlines of plain actors, the events, and what is said over each session of this boot.
-use Rattle.std.specs.Prelude.{ℕ, ◌==◌, Bool, List, [], ◌∷◌, Option, Some, None, filter, is_some, map, if◌then◌else◌}
+-- The whole as it is written: the node, the deadlines of plain actors, the events and subscriptions, and what is said over each session of
+-- this boot.
+use Rattle.std.specs.Prelude.{ℕ, ◌==◌, Bool, List, [], ◌∷◌, Option, Some, None, filter, is_some, map, unwrap_or, if◌then◌else◌}
 use Rattle.std.specs.List.{find, list_any}
 use Rattle.std.specs.Option.{option_and_then, option_map}
 use Rattle.mt_model.specs.declared.node.state.NodeState.{NodeState}
@@ -9,8 +10,8 @@ use Rattle.mt_model.specs.declared.tables.fabric.Fabric.{Fabric}
 use Rattle.mt_model.specs.declared.texts.config.Config.{Config}
 use Rattle.mt_model.specs.declared.texts.config.SessionRow.{SessionRow}
 use Rattle.mt_talk.specs.Talks.{Talk, after_drop, begun_talk}
-use Rattle.mt_history.specs.History as histories
-use Rattle.mt_history.specs.History.{History}
+use Rattle.mt_ledger.specs.Ledger as ledgers
+use Rattle.mt_ledger.specs.Ledger.{Ledger}
 use Rattle.mt_machine.specs.Opened as machine
 use Rattle.mt_machine.specs.State.{State}
 use Rattle.mt_machine.specs.Step.{closed_between, session_actor}
@@ -22,7 +23,7 @@ pub record SessionTalk : Type 0 where
 
 pub record Whole : Type 0 where
   pub state : State
-  pub history : History
+  pub ledger : Ledger
   pub talks : List SessionTalk
 
 -- nothing has been said
@@ -33,7 +34,7 @@ begun row = record { row = row; talk = begun_talk }
 abbrev pub whole_with : List Fabric → List AclEntry → List SessionRow → Whole
 whole_with fabrics entries sessions = record {
   state = machine.whole_with fabrics entries sessions;
-  history = histories.opened;
+  ledger = ledgers.opened;
   talks = map begun (filter (λ (row : SessionRow). row.boot == 1) sessions);
 }
 
@@ -49,6 +50,10 @@ fabric_live s id = option_map (λ (actor : Actor). actor.fabric) (session_actor 
 
 abbrev pub is_live : NodeState → ℕ → Bool
 is_live s id = is_some (session_actor s id)
+
+-- and 0 where it is not live
+abbrev pub fabric_over : NodeState → ℕ → ℕ
+fabric_over s id = unwrap_or (fabric_live s id) 0
 
 -- Talks.
 

@@ -1,9 +1,10 @@
 //! The written machine's lines, those of datagrams among them: what each line of a recording sends, and the whole behind
-//! it. What a node makes of an action stands in mt_machine, what is said over a session in mt_talk; here both are joined.
+//! it. What a node makes of an action stands in mt_machine, what it remembers of events and subscriptions in mt_ledger, what
+//! is said over a session in mt_talk; here these are joined.
 //! The definitions stand in `specs/`, a chapter a file; the functions here do nothing, and their contracts are the laws.
 //!
-//! - `Whole`: the node, the deadlines of plain actors, and what is said over each session;
-//! - `Datagrams`: what a datagram comes to, and what is sent again;
+//! - `Whole`: the node, the deadlines of plain actors, the events and subscriptions, and what is said over each session;
+//! - `Datagrams`: what a datagram comes to, what is sent again, and what ends where that was in vain;
 //! - `Lines`: every line of a recording;
 //! - `Isolation`: what is a fabric's own of the whole, and the veil that is built of that and of what is public to it;
 //! - `Laws`: the laws.
@@ -11,9 +12,10 @@
 
 ghost use Rattle.mt_lines.specs.Laws.{KeepsItsOwnPart, KeepsTheOwn, LeavesItsOwnByItsView, LeavesTheOwnOnTheVeil, OpensValid, SeesItsViewAlone, SendsOnTheVeil, StaysValid, TicksOnTheVeil, TicksSeeTheMarkAlone, TicksSpareOthers};
 
-use mt_history::{
-    events_are_left_on_the_veil, histories_stay_histories, others_events_are_kept,
-    replies_are_the_same_on_the_veil, veils_keep_events,
+use mt_ledger::{
+    ledgers_are_left_on_the_veil, ledgers_stay_ledgers, others_ledgers_are_kept,
+    reports_are_the_same_on_the_veil, subscribers_are_replied_the_same_on_the_veil,
+    veils_keep_ledgers,
 };
 use mt_machine::{
     keeps_the_own as the_own_is_kept, leaves_the_own_on_the_veil as the_own_is_left_on_the_veil,
@@ -21,23 +23,23 @@ use mt_machine::{
     veil_keeps_both_parts, what_is_asked_is_the_same_on_the_veil,
 };
 
-/// The whole that a configuration begins is valid, and a line leaves it so: its node is valid, and the ids of sessions
-/// differ.
+/// The whole that a configuration begins is valid, and a line leaves it so: its node is valid, its ledger is one beside
+/// that, and the ids of sessions differ.
 pub fn wholes_are_valid()
     ensures opens { OpensValid }
     ensures stays { StaysValid }
 {
     states_are_valid();
-    histories_stay_histories();
+    ledgers_stay_ledgers();
     sessions_keep_their_ids();
 }
 
-/// The veil has the own part of its fabric, what is said over its live sessions among it.
+/// The veil has the own part of its fabric, its subscriptions and what is said over its live sessions among it.
 pub fn veil_keeps_the_own()
     ensures { KeepsItsOwnPart }
 {
     veil_keeps_both_parts();
-    veils_keep_events();
+    veils_keep_ledgers();
 }
 
 /// What an event sends on the veil of its fabric is what it sends on the whole. So it is determined by the own part of
@@ -46,7 +48,9 @@ pub fn sends_on_the_veil()
     ensures veil { SendsOnTheVeil }
     ensures view { SeesItsViewAlone }
 {
-    replies_are_the_same_on_the_veil();
+    subscribers_are_replied_the_same_on_the_veil();
+    reports_are_the_same_on_the_veil();
+    veils_keep_ledgers();
     what_is_asked_is_the_same_on_the_veil();
 }
 
@@ -59,21 +63,22 @@ pub fn leaves_the_own_on_the_veil()
     the_own_is_left_on_the_veil();
     the_own_is_kept();
     veil_keeps_both_parts();
-    veils_keep_events();
-    replies_are_the_same_on_the_veil();
-    events_are_left_on_the_veil();
-    others_events_are_kept();
+    veils_keep_ledgers();
+    subscribers_are_replied_the_same_on_the_veil();
+    reports_are_the_same_on_the_veil();
+    ledgers_are_left_on_the_veil();
     what_is_asked_is_the_same_on_the_veil();
     sessions_keep_their_ids();
 }
 
 /// An event that is no time step changes nothing that is the own of another fabric, unless that enters the table or
-/// leaves it: another's datagrams, what is sent again and sessions that end leave its exchanges as they are.
+/// leaves it: another's datagrams, its reports, what is sent again and sessions that end leave its subscriptions and
+/// exchanges as they are.
 pub fn keeps_the_own()
     ensures { KeepsTheOwn }
 {
     the_own_is_kept();
-    others_events_are_kept();
+    others_ledgers_are_kept();
     what_is_asked_is_the_same_on_the_veil();
     sessions_keep_their_ids();
 }
@@ -86,7 +91,7 @@ pub fn ticks_see_the_mark_alone()
     ensures mark { TicksSeeTheMarkAlone }
 {
     ticks_let_the_failsafe_expire();
-    events_are_left_on_the_veil();
-    others_events_are_kept();
+    ledgers_are_left_on_the_veil();
+    others_ledgers_are_kept();
     sessions_keep_their_ids();
 }

@@ -1,5 +1,5 @@
 -- The outcome of a line, from the plan of the node's action.
-use Rattle.std.proofs.Common.{◌≡◌, ℕ, not, ◌==◌, ◌&&◌, ◌||◌, inl, inr, Bool, true, false, List, [], ◌∷◌, Option, None, Some, Result, Ok, Err, IfOk, filter, refl, sym, ap, ◌∙◌, if◌then◌else◌, unwrap_or}
+use Rattle.std.proofs.Common.{◌≡◌, ℕ, not, ◌==◌, ◌&&◌, ◌||◌, inl, inr, Bool, true, false, List, [], ◌∷◌, Option, None, Some, Result, Ok, Err, IfOk, filter, refl, sym, ap, ◌∙◌, append-nil, if◌then◌else◌, unwrap_or}
 use Rattle.std.specs.List.{list_any}
 use Rattle.mt_im.specs.Reading.{Gives, request_in}
 use Rattle.mt_im.specs.declared.fault.ImFault.{ImFault}
@@ -28,12 +28,22 @@ use Rattle.mt_model.specs.declared.node.state.NodeState.{NodeState}
 use Rattle.mt_model.specs.declared.tables.fabric.Fabric.{Fabric}
 use Rattle.std.proofs.lemmas.Bool.{cases_Bool}
 use Rattle.mt_model.specs.declared.texts.recording.Event.TheVariants as events
-use Rattle.mt_plain.specs.Plan.{IsActionPlan, IsLine, IsLineIf, IsPlanIf, IsQuiet, IsTick, applied_history, is_want_of_memory, left_without}
+use Rattle.mt_plain.specs.Plan.{IsDone, IsLine, IsPassing, IsTick, applied_history, applied_ledger, is_want_of_memory, left_without}
+use Rattle.mt_plain.specs.Replying.{replied_plainly, sent_both}
+use Rattle.mt_plain.specs.Subscribing.{applied_subs}
+use Rattle.mt_plain.specs.declared.behind.SubsBehind.{SubsBehind}
+use Rattle.mt_model.specs.declared.texts.recording.Sent.{Sent}
+use Rattle.mt_subs.specs.Leaving.{left_in}
+use Rattle.mt_subs.specs.declared.subscription.SubState.{SubState}
+use Rattle.mt_ledger.specs.Asking.{full_reply, line_response, line_wish, with_wish}
+use Rattle.mt_ledger.specs.Behind.{Doing, acts, action_in, ledger_behind, subs_done}
+use Rattle.mt_ledger.specs.Ledger.{Ledger}
+use Rattle.mt_ledger.specs.Subscribing.{behind_wish_if_any, wish_asked, wish_in_time}
 use Rattle.mt_plain.specs.Recording.{may_record}
-use Rattle.mt_history.specs.Asking.{events_asked, with_events}
+use Rattle.mt_history.specs.Asking.{events_for, with_events}
 use Rattle.mt_history.specs.Behind.{history_behind}
 use Rattle.mt_history.specs.History.{History, recorded_all, without_left}
-use Rattle.mt_lines.specs.Lines.{action_asked, sent_asked, sent_line}
+use Rattle.mt_lines.specs.Lines.{sent_line}
 use Rattle.mt_machine.specs.Telling.{told_between}
 use Rattle.mt_model.specs.declared.node.action.Action.{Action}
 use Rattle.mt_model.specs.declared.node.action.NodeStep.{NodeStep}
@@ -87,6 +97,14 @@ all_left s t same ds = left_is_gone s t None (none_left s t same) ds
 tells : (given : Given) (s : State) (h : History) (action : Action) (ms : ℕ) (outcome : PlainOutcome) → outcome.ms ≡ ms → IsPlan given s.node action ms outcome.node → applied_history outcome h ≡ history_behind given s.node action ms h
 tells given s h action ms outcome time plan = λ i. recorded_all (time i) (plan.told i) (without_left (plan.aside i).gone h)
 
+-- The ledger behind an outcome is that behind what is done, where this is made of the subscriptions.
+ledger_of : (given : Given) (s : State) (l : Ledger) (doing : Doing) (ms : ℕ) (outcome : PlainOutcome) → outcome.ms ≡ ms → IsPlan given s.node (action_in doing) ms outcome.node → applied_subs outcome.subs ms l.subs ≡ subs_done s.node l ms doing
+    → applied_ledger outcome s l ≡ ledger_behind given s.node doing ms l
+ledger_of given s l doing ms outcome time plan made = λ i. record {
+  history = tells given s l.history (action_in doing) ms outcome time plan i;
+  subs = left_in (plan.state i) ((ap (λ n. applied_subs outcome.subs n l.subs) time ∙ made) i);
+}
+
 -- Where nobody is taken as asking, it is that of an action that does nothing.
 nobody_tells : (given : Given) (s : State) (h : History) (actor : Actor) (ms : ℕ) (asked : Result Request ImFault) (deadline : Option ℕ) → asker s.node actor ≡ None
     → history_behind given s.node Nothing ms h ≡ history_behind given s.node (action_of actor deadline asked) ms h
@@ -97,44 +115,60 @@ nobody_tells given s h actor ms (Ok request) deadline none = λ i.
     recorded_all ms (told_between a steps s.node behind) (without_left (gone_between s.node.fabrics behind.fabrics) h)
 nobody_tells given s h actor ms (Err fault) deadline none = refl
 
+nobody_steps : (given : Given) (s : State) (actor : Actor) (ms : ℕ) (asked : Result Request ImFault) (deadline : Option ℕ) → asker s.node actor ≡ None → after_action given s.node Nothing ms ≡ after_action given s.node (action_of actor deadline asked) ms
+nobody_steps given s actor ms (Ok request) deadline none = sym (ap (λ (a : Option Actor). after_steps a (asked_steps given s.node request deadline ms a) (at_time ms s.node)) none)
+nobody_steps given s actor ms (Err fault) deadline none = refl
+
+nobody_changes : (given : Given) (s : State) (l : Ledger) (actor : Actor) (ms : ℕ) (asked : Result Request ImFault) (deadline : Option ℕ) → asker s.node actor ≡ None
+    → ledger_behind given s.node (acts Nothing) ms l ≡ ledger_behind given s.node (acts (action_of actor deadline asked)) ms l
+nobody_changes given s l actor ms (Ok request) deadline none = λ i. record {
+  history = nobody_tells given s l.history actor ms (Ok request) deadline none i;
+  subs = left_in (nobody_steps given s actor ms (Ok request) deadline none i) (behind_wish_if_any s.node l ms (wish_asked (sym none i) deadline ms request));
+}
+nobody_changes given s l actor ms (Err fault) deadline none = refl
+
 -- a request of whoever is taken as asking
-pub request_line : (given : Given) (s : State) (h : History) (ms : ℕ) (actor asking : Actor) (request : Request) (outcome : PlainOutcome) → asker s.node actor ≡ Some asking
+pub request_line : (given : Given) (s : State) (l : Ledger) (ms : ℕ) (actor asking : Actor) (request : Request) (outcome : PlainOutcome) → asker s.node actor ≡ Some asking
     → IsPlan given s.node (Ask actor request (deadline_of asking s.deadlines)) ms outcome.node
-    → outcome.ms ≡ ms → may_record outcome.node.told h ≡ true
-    → outcome.sent ≡ sent_as ms asking.fabric (with_events (events_asked s.node.entries h.rings asking request) (if is_refused asking s.deadlines ms request then refusal (code_of Busy) else outcome.node.reply))
+    → outcome.ms ≡ ms → may_record outcome.node.told l.history ≡ true
+    → outcome.sent ≡ sent_both ms asking.fabric (with_wish s.node l (line_wish s asking ms (Ok request)) (replied_plainly s l asking ms request outcome.node.reply)) (line_response s l asking ms (Ok request))
+    → applied_subs outcome.subs ms l.subs ≡ behind_wish_if_any s.node l ms (line_wish s asking ms (Ok request))
     → unwrap_or outcome.deadlines s.deadlines ≡ left_without outcome.node.gone (with_deadline asking s.deadlines ms (Ok request))
-    → IsLine given s h ms actor (Ok request) outcome
-request_line given s h ms actor asking request outcome asks p time may sends next =
+    → IsLine given s l ms actor (Ok request) outcome
+request_line given s l ms actor asking request outcome asks p time may sends made next =
+    let until = deadline_of asking s.deadlines in
     let behind : NodeState = after_action given s.node (action_of actor (deadline_for s (asker s.node actor)) (Ok request)) ms in
     let node : applied outcome.node s.node ≡ behind = p.state ∙ ap (λ (a : Option Actor). after_action given s.node (action_of actor (deadline_for s a) (Ok request)) ms) (sym asks) in
     let deadlines : unwrap_or outcome.deadlines s.deadlines ≡ deadlines_of_those_left s.node behind (deadlines_after (asker s.node actor) s.deadlines ms (Ok request)) =
     next ∙ left_is_gone s.node (applied outcome.node s.node) outcome.node.gone p.leaves (with_deadline asking s.deadlines ms (Ok request))
     ∙ (λ i. deadlines_of_those_left s.node (node i) (deadlines_after (sym asks i) s.deadlines ms (Ok request))) in
+    let subs : applied_subs outcome.subs ms l.subs ≡ behind_wish_if_any s.node l ms (wish_asked (asker s.node actor) until ms request) = made ∙ ap (λ (a : Option Actor). behind_wish_if_any s.node l ms (wish_asked a until ms request)) (sym asks) in
     record {
       sent = sends
-          ∙ ap (λ (reply : Reply). sent_as ms asking.fabric (with_events (events_asked s.node.entries h.rings asking request) (if is_refused asking s.deadlines ms request then refusal (code_of Busy) else reply))) p.reply
-          ∙ sym (ap (sent_line given s h actor ms (Ok request)) asks);
+          ∙ ap (λ (reply : Reply). sent_both ms asking.fabric (with_wish s.node l (line_wish s asking ms (Ok request)) (replied_plainly s l asking ms request reply)) (line_response s l asking ms (Ok request))) p.reply
+          ∙ sym (ap (sent_line given s l actor ms (Ok request)) asks);
       state = λ i. record { node = node i; deadlines = deadlines i };
-      history = tells given s h (Ask actor request (deadline_of asking s.deadlines)) ms outcome time p
-          ∙ ap (λ (a : Option Actor). history_behind given s.node (action_of actor (deadline_for s a) (Ok request)) ms h) (sym asks);
-      planned = record { node = (given, (Ask actor request (deadline_of asking s.deadlines), (ms, p))); recordable = may };
+      ledger = ledger_of given s l (acts (Ask actor request until)) ms outcome time p subs
+          ∙ ap (λ (a : Option Actor). ledger_behind given s.node (acts (action_of actor (deadline_for s a) (Ok request))) ms l) (sym asks);
+      planned = record { node = (given, (Ask actor request until, (ms, p))); recordable = may };
     }
 
 -- a payload that is no request, of whoever is taken as asking
-pub refused_line : (given : Given) (s : State) (h : History) (ms : ℕ) (actor asking : Actor) (fault : ImFault) (outcome : PlainOutcome) → asker s.node actor ≡ Some asking
+pub refused_line : (given : Given) (s : State) (l : Ledger) (ms : ℕ) (actor asking : Actor) (fault : ImFault) (outcome : PlainOutcome) → asker s.node actor ≡ Some asking
     → IsPlan given s.node Nothing ms outcome.node
-    → outcome.ms ≡ ms → may_record outcome.node.told h ≡ true
+    → outcome.ms ≡ ms → may_record outcome.node.told l.history ≡ true
     → outcome.sent ≡ sent_as ms asking.fabric (fault_reply fault)
+    → applied_subs outcome.subs ms l.subs ≡ l.subs
     → unwrap_or outcome.deadlines s.deadlines ≡ with_deadline asking s.deadlines ms (Err fault)
-    → IsLine given s h ms actor (Err fault) outcome
-refused_line given s h ms actor asking fault outcome asks p time may sends next =
+    → IsLine given s l ms actor (Err fault) outcome
+refused_line given s l ms actor asking fault outcome asks p time may sends made next =
     let deadlines : unwrap_or outcome.deadlines s.deadlines ≡ deadlines_of_those_left s.node (after_action given s.node Nothing ms) (deadlines_after (asker s.node actor) s.deadlines ms (Err fault)) =
     next ∙ ap (λ (a : Option Actor). deadlines_after a s.deadlines ms (Err fault)) (sym asks)
     ∙ all_left s.node (after_action given s.node Nothing ms) refl (deadlines_after (asker s.node actor) s.deadlines ms (Err fault)) in
     record {
-      sent = sends ∙ sym (ap (sent_line given s h actor ms (Err fault)) asks);
+      sent = sends ∙ sym (append-nil (sent_as ms asking.fabric (fault_reply fault))) ∙ sym (ap (sent_line given s l actor ms (Err fault)) asks);
       state = λ i. record { node = p.state i; deadlines = deadlines i };
-      history = tells given s h Nothing ms outcome time p;
+      ledger = ledger_of given s l (acts Nothing) ms outcome time p made;
       planned = record { node = (given, (Nothing, (ms, p))); recordable = may };
     }
 
@@ -148,24 +182,14 @@ if_both (Ok x) P Q R follows holds also = follows x holds also
 if_both (Err e) P Q R follows holds also = holds
 
 -- nobody is taken as asking
-nobody_steps : (given : Given) (s : State) (actor : Actor) (ms : ℕ) (asked : Result Request ImFault) (deadline : Option ℕ) → asker s.node actor ≡ None → after_action given s.node Nothing ms ≡ after_action given s.node (action_of actor deadline asked) ms
-nobody_steps given s actor ms (Ok request) deadline none = sym (ap (λ (a : Option Actor). after_steps a (asked_steps given s.node request deadline ms a) (at_time ms s.node)) none)
-nobody_steps given s actor ms (Err fault) deadline none = refl
-
-pub quiet_line : (given : Given) (s : State) (h : History) (ms : ℕ) (actor : Actor) (asked : Result Request ImFault) (outcome : PlainOutcome) → asker s.node actor ≡ None → IsQuiet given s h ms outcome → IsLine given s h ms actor asked outcome
-quiet_line given s h ms actor asked outcome none quiet =
+pub quiet_line : (given : Given) (s : State) (l : Ledger) (ms : ℕ) (actor : Actor) (asked : Result Request ImFault) (outcome : PlainOutcome) → asker s.node actor ≡ None → outcome.sent ≡ [] → IsDone given s l (acts Nothing) ms outcome → IsLine given s l ms actor asked outcome
+quiet_line given s l ms actor asked outcome none sends done =
     let same = nobody_steps given s actor ms asked (deadline_for s (asker s.node actor)) none in
-    let node : applied outcome.node s.node ≡ after_action given s.node (action_of actor (deadline_for s (asker s.node actor)) asked) ms = quiet.node.state ∙ same in
-    let deadlines : unwrap_or outcome.deadlines s.deadlines
-    ≡ deadlines_of_those_left s.node (after_action given s.node (action_of actor (deadline_for s (asker s.node actor)) asked) ms) (deadlines_after (asker s.node actor) s.deadlines ms asked) =
-    ap (λ (d : Option (List PlainDeadline)). unwrap_or d s.deadlines) quiet.deadlines
-    ∙ all_left s.node (after_action given s.node Nothing ms) refl s.deadlines
-    ∙ (λ i. deadlines_of_those_left s.node (same i) (deadlines_after (sym none i) s.deadlines ms asked)) in
     record {
-      sent = quiet.sent ∙ sym (ap (sent_line given s h actor ms asked) none);
-      state = λ i. record { node = node i; deadlines = deadlines i };
-      history = tells given s h Nothing ms outcome quiet.time quiet.node ∙ nobody_tells given s h actor ms asked (deadline_for s (asker s.node actor)) none;
-      planned = record { node = (given, (Nothing, (ms, quiet.node))); recordable = quiet.recordable };
+      sent = sends ∙ sym (ap (sent_line given s l actor ms asked) none);
+      state = done.state ∙ (λ i. record { node = same i; deadlines = deadlines_of_those_left s.node (same i) (deadlines_after (sym none i) s.deadlines ms asked) });
+      ledger = done.ledger ∙ nobody_changes given s l actor ms asked (deadline_for s (asker s.node actor)) none;
+      planned = done.planned;
     }
 
 -- what was decoded, but for want of memory
@@ -177,20 +201,6 @@ comes_to (Err (faults.Missing n)) read gives sure = gives (λ e. absurd (cc))
 comes_to (Err (faults.Form n)) read gives sure = gives (λ e. absurd (cc))
 comes_to (Err faults.Opcode) read gives sure = gives (λ e. absurd (cc))
 comes_to (Err faults.TooManyPaths) read gives sure = gives (λ e. absurd (cc))
-
--- An event is a line of an actor, whose payload comes to this.
-pub event_of : (given : Given) (s : State) (h : History) (ms fabric node : ℕ) (cats : List ℕ) (opcode : ℕ) (payload : List ℕ) (actor : Actor) → actor ≡ line_actor fabric node cats → (planned : Option PlainOutcome)
-    → IsLineIf given s h ms actor (request_in opcode payload) planned → IsPlanIf given s h (events.Ask ms fabric node cats opcode payload) planned
-event_of given s h ms fabric node cats opcode payload actor by None line = line
-event_of given s h ms fabric node cats opcode payload actor by (Some outcome) line = (
-  line.0,
-  record {
-    sent = line.1.sent ∙ ap (λ (a : Actor). sent_asked given s h a ms (request_in opcode payload)) by;
-    state = line.1.state ∙ ap (λ (a : Actor). next_for given s a ms (request_in opcode payload)) by;
-    history = line.1.history ∙ ap (λ (a : Actor). history_behind given s.node (action_asked s a (request_in opcode payload)) ms h) by;
-    planned = line.1.planned;
-  },
-)
 
 -- The deadlines of the fabric that an expiry takes away, told by that fabric.
 
@@ -210,55 +220,74 @@ left_due : (due : Bool) (armed : Option Armed) (ds : List PlainDeadline) → lef
 left_due true armed ds = left_armed armed ds
 left_due false armed ds = refl
 
-pub tick_of : TakesTheAddedAway → (given : Given) (s : State) (h : History) (ms : ℕ) (outcome : PlainOutcome) → IsValid s.node → outcome.sent ≡ [] → outcome.ms ≡ ms → may_record outcome.node.told h ≡ true → IsPlan given s.node Expire ms outcome.node
-    → unwrap_or outcome.deadlines s.deadlines ≡ left_without outcome.node.gone s.deadlines → IsTick given s h ms outcome
-tick_of takes given s h ms outcome valid sends time may plan left =
+pub tick_of : TakesTheAddedAway → (given : Given) (s : State) (l : Ledger) (ms : ℕ) (outcome : PlainOutcome) → IsValid s.node → outcome.sent ≡ [] → outcome.ms ≡ ms → may_record outcome.node.told l.history ≡ true → applied_subs outcome.subs ms l.subs ≡ l.subs → IsPlan given s.node Expire ms outcome.node
+    → unwrap_or outcome.deadlines s.deadlines ≡ left_without outcome.node.gone s.deadlines → IsTick given s l ms outcome
+tick_of takes given s l ms outcome valid sends time may made plan left =
     let gone : outcome.node.gone ≡ (if is_due s.node.armed ms then added_in s.node.armed else None) = ap (λ (aside : Aside). aside.gone) plan.aside ∙ takes given s.node ms valid in
     let deadlines : unwrap_or outcome.deadlines s.deadlines ≡ (if is_due s.node.armed ms then deadlines_left s.node.armed s.deadlines else s.deadlines) =
     left ∙ ap (λ (g : Option ℕ). left_without g s.deadlines) gone ∙ left_due (is_due s.node.armed ms) s.node.armed s.deadlines in
     record {
       sent = sends;
       state = λ i. record { node = plan.state i; deadlines = deadlines i };
-      history = tells given s h Expire ms outcome time plan;
+      ledger = ledger_of given s l (acts Expire) ms outcome time plan made;
       planned = record { node = (given, (Expire, (ms, plan))); recordable = may };
     }
 
--- What no line of a plain actor makes.
+-- What no line of a plain actor does.
 
 -- time passes
-pub passes : (given : Given) (s : State) (h : History) (ms : ℕ) (outcome : PlainOutcome) → outcome.deadlines ≡ None → outcome.ms ≡ ms → may_record outcome.node.told h ≡ true → IsPlan given s.node Nothing ms outcome.node → IsActionPlan given s h Nothing ms outcome
-passes given s h ms outcome none time may plan =
+pub passes : (given : Given) (s : State) (l : Ledger) (sent : List Sent) (ms : ℕ) (subs : SubsBehind) (outcome : PlainOutcome) → outcome.sent ≡ sent → outcome.deadlines ≡ None → outcome.ms ≡ ms → outcome.subs ≡ subs → may_record outcome.node.told l.history ≡ true → IsPlan given s.node Nothing ms outcome.node
+    → IsPassing given s l sent ms subs outcome
+passes given s l sent ms subs outcome sends none time made may plan =
     let deadlines : unwrap_or outcome.deadlines s.deadlines ≡ deadlines_of_those_left s.node (after_action given s.node Nothing ms) s.deadlines =
     ap (λ (d : Option (List PlainDeadline)). unwrap_or d s.deadlines) none ∙ all_left s.node (after_action given s.node Nothing ms) refl s.deadlines in
     record {
+      sent = sends;
       state = λ i. record { node = plan.state i; deadlines = deadlines i };
-      history = tells given s h Nothing ms outcome time plan;
+      ledger = λ i. record { history = tells given s l.history Nothing ms outcome time plan i; subs = left_in (plan.state i) (applied_subs (made i) (time i) l.subs) };
       planned = record { node = (given, (Nothing, (ms, plan))); recordable = may };
     }
 
+-- what is done where time passes, and this is made of the subscriptions
+pub passing_does : (given : Given) (s : State) (l : Ledger) (sent : List Sent) (ms : ℕ) (subs : SubsBehind) (doing : Doing) (outcome : PlainOutcome) → action_in doing ≡ Nothing → applied_subs subs ms l.subs ≡ subs_done s.node l ms doing
+    → IsPassing given s l sent ms subs outcome → IsDone given s l doing ms outcome
+passing_does given s l sent ms subs doing outcome nothing made passing = record {
+  state = passing.state ∙ ap (λ (a : Action). record { node = after_action given s.node a ms; deadlines = deadlines_of_those_left s.node (after_action given s.node a ms) s.deadlines }) (sym nothing);
+  ledger = passing.ledger ∙ (λ i. record { history = history_behind given s.node (sym nothing i) ms l.history; subs = left_in (after_action given s.node (sym nothing i) ms) (made i) });
+  planned = passing.planned;
+}
+
 -- what is asked over a session
-pub asked_over : (given : Given) (s : State) (h : History) (ms : ℕ) (actor : Actor) (request : Request) (timed : Option ℕ) (outcome : PlainOutcome) → outcome.ms ≡ ms → may_record outcome.node.told h ≡ true → IsPlan given s.node (Ask actor request timed) ms outcome.node
-    → unwrap_or outcome.deadlines s.deadlines ≡ left_without outcome.node.gone s.deadlines → IsActionPlan given s h (Ask actor request timed) ms outcome
-asked_over given s h ms actor request timed outcome time may plan left =
+pub asked_over : (given : Given) (s : State) (l : Ledger) (ms : ℕ) (actor asking : Actor) (request : Request) (timed : Option ℕ) (outcome : PlainOutcome) → asker s.node actor ≡ Some asking → outcome.ms ≡ ms → may_record outcome.node.told l.history ≡ true → IsPlan given s.node (Ask actor request timed) ms outcome.node
+    → applied_subs outcome.subs ms l.subs ≡ behind_wish_if_any s.node l ms (wish_in_time asking timed ms request)
+    → unwrap_or outcome.deadlines s.deadlines ≡ left_without outcome.node.gone s.deadlines → IsDone given s l (acts (Ask actor request timed)) ms outcome
+asked_over given s l ms actor asking request timed outcome asks time may plan made left =
     let behind : NodeState = after_action given s.node (Ask actor request timed) ms in
     let deadlines : unwrap_or outcome.deadlines s.deadlines ≡ deadlines_of_those_left s.node behind s.deadlines =
     left ∙ left_is_gone s.node (applied outcome.node s.node) outcome.node.gone plan.leaves s.deadlines ∙ ap (λ (now : NodeState). deadlines_of_those_left s.node now s.deadlines) plan.state in
     record {
       state = λ i. record { node = plan.state i; deadlines = deadlines i };
-      history = tells given s h (Ask actor request timed) ms outcome time plan;
+      ledger = ledger_of given s l (acts (Ask actor request timed)) ms outcome time plan (made ∙ ap (λ (a : Option Actor). behind_wish_if_any s.node l ms (wish_asked a timed ms request)) (sym asks));
       planned = record { node = (given, (Ask actor request timed, (ms, plan))); recordable = may };
     }
 
+-- what it is replied
+pub replied : (given : Given) (s : NodeState) (l : Ledger) (ms : ℕ) (actor asking : Actor) (request : Request) (timed : Option ℕ) (reply : Reply) → asker s actor ≡ Some asking → reply ≡ reply_of given s (Ask actor request timed) ms
+    → with_wish s l (wish_in_time asking timed ms request) (with_events (events_for s l.history (Some asking) request) reply) ≡ full_reply given s l (Ask actor request timed) ms
+replied given s l ms actor asking request timed reply asks is =
+    ap (λ (r : Reply). with_wish s l (wish_in_time asking timed ms request) (with_events (events_for s l.history (Some asking) request) r)) is
+    ∙ ap (λ (a : Option Actor). with_wish s l (wish_asked a timed ms request) (with_events (events_for s l.history a request) (reply_of given s (Ask actor request timed) ms))) (sym asks)
+
 -- and where nobody is taken as asking
-pub nobody_over : (given : Given) (s : State) (h : History) (ms : ℕ) (actor : Actor) (request : Request) (timed : Option ℕ) (outcome : PlainOutcome) → asker s.node actor ≡ None
-    → IsActionPlan given s h Nothing ms outcome → IsActionPlan given s h (Ask actor request timed) ms outcome
-nobody_over given s h ms actor request timed outcome none quiet =
+pub nobody_over : (given : Given) (s : State) (l : Ledger) (ms : ℕ) (actor : Actor) (request : Request) (timed : Option ℕ) (outcome : PlainOutcome) → asker s.node actor ≡ None
+    → IsDone given s l (acts Nothing) ms outcome → IsDone given s l (acts (Ask actor request timed)) ms outcome
+nobody_over given s l ms actor request timed outcome none quiet =
     let same = nobody_steps given s actor ms (Ok request) timed none in
     record {
       state = quiet.state ∙ (λ i. record { node = same i; deadlines = deadlines_of_those_left s.node (same i) s.deadlines });
-      history = quiet.history ∙ nobody_tells given s h actor ms (Ok request) timed none;
+      ledger = quiet.ledger ∙ nobody_changes given s l actor ms (Ok request) timed none;
       planned = quiet.planned;
     }
 
-pub nobody_answers : (given : Given) (s : State) (ms : ℕ) (actor : Actor) (request : Request) (timed : Option ℕ) → asker s.node actor ≡ None → reply_of given s.node (Ask actor request timed) ms ≡ replies.Nothing
-nobody_answers given s ms actor request timed none = ap (asked_reply given s.node request timed ms) none
+pub nobody_replied : (given : Given) (s : NodeState) (l : Ledger) (ms : ℕ) (actor : Actor) (request : Request) (timed : Option ℕ) → asker s actor ≡ None → full_reply given s l (Ask actor request timed) ms ≡ replies.Nothing
+nobody_replied given s l ms actor request timed none = ap (λ (a : Option Actor). with_wish s l (wish_asked a timed ms request) (with_events (events_for s l.history a request) (asked_reply given s request timed ms a))) none

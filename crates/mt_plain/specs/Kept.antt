@@ -8,13 +8,13 @@ use Rattle.mt_model.specs.declared.texts.config.RootRow.{RootRow}
 use Rattle.mt_machine.specs.Given.{Given}
 use Rattle.mt_machine.specs.Opened.{opened_whole}
 use Rattle.mt_machine.specs.State.{State}
-use Rattle.mt_history.specs.History.{History, opened}
+use Rattle.mt_ledger.specs.Ledger.{Ledger, opened}
 use Rattle.mt_node.specs.Kept as nodes
 
--- its state, what it remembers of events, and the configuration with which it was started
+-- its state, what it remembers of events and subscriptions, and the configuration with which it was started
 pub record Kept : Type 0 where
   pub state : State
-  pub history : History
+  pub ledger : Ledger
   pub config : Contents
 
 -- the node in it
@@ -23,12 +23,12 @@ node_of kept = record { state = kept.state.node; config = kept.config }
 
 -- a new plain
 abbrev pub started : Config → Kept
-started config = record { state = opened_whole config; history = opened; config = contents_of config }
+started config = record { state = opened_whole config; ledger = opened; config = contents_of config }
 
 -- what is given to it, where these are the rows of the verdicts
 abbrev pub given_to : Kept → List RootRow → List CsrRow → List JoinRow → Given
 given_to kept roots csrs joins = nodes.given_to (node_of kept) roots csrs joins
 
--- the same plain in another state, with another history
-abbrev pub behind : State → History → Kept → Kept
-behind state history kept = record kept { state = state; history = history }
+-- the same plain in another state, with another ledger
+abbrev pub behind : State → Ledger → Kept → Kept
+behind state ledger kept = record kept { state = state; ledger = ledger }

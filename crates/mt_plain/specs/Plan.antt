@@ -6,18 +6,23 @@ use Rattle.mt_model.specs.tables.Leaving.{stays}
 use Rattle.mt_model.specs.declared.tables.access.Actor.{Actor}
 use Rattle.mt_model.specs.declared.node.action.PlainDeadline.{PlainDeadline}
 use Rattle.mt_model.specs.declared.messages.message.Request.{Request}
-use Rattle.mt_model.specs.declared.texts.recording.Event.{Event}
-use Rattle.mt_node.specs.Plan.{IsPlan, IsPlanned, applied}
-use Rattle.mt_model.specs.declared.node.action.Action.{Action}
+use Rattle.mt_model.specs.declared.texts.recording.Sent.{Sent}
+use Rattle.mt_node.specs.Plan.{IsPlanned, applied}
 use Rattle.mt_model.specs.declared.node.action.Action.TheVariants.{Expire, Nothing}
+use Rattle.mt_subs.specs.Leaving.{left_in}
 use Rattle.mt_machine.specs.Given.{Given}
 use Rattle.mt_machine.specs.Isolation.{is_deadline_in}
-use Rattle.mt_machine.specs.Lines.{behind_action, is_built, is_built_payload, next, next_for, next_tick, without}
+use Rattle.mt_machine.specs.Lines.{behind_action, next_for, next_tick, without}
 use Rattle.mt_machine.specs.State.{State}
+use Rattle.mt_machine.specs.Step.{after_action}
 use Rattle.mt_history.specs.Behind.{history_behind}
 use Rattle.mt_history.specs.History.{History, recorded_all, without_left}
-use Rattle.mt_lines.specs.Lines.{action_asked, history_plainly, sent_asked, sent_plainly}
+use Rattle.mt_ledger.specs.Behind.{Doing, acts, action_in, ledger_behind}
+use Rattle.mt_ledger.specs.Ledger.{Ledger}
+use Rattle.mt_lines.specs.Lines.{action_asked, sent_asked}
 use Rattle.mt_plain.specs.Recording.{may_record}
+use Rattle.mt_plain.specs.Subscribing.{applied_subs}
+use Rattle.mt_plain.specs.declared.behind.SubsBehind.{SubsBehind}
 use Rattle.mt_plain.specs.declared.outcome.PlainOutcome.{PlainOutcome}
 
 -- how many other actors of an actor's fabric have a deadline
@@ -34,11 +39,6 @@ is_want_of_memory (Ok request) = false
 is_want_of_memory (Err faults.Memory) = true
 is_want_of_memory (Err fault) = false
 
--- what a payload asks is told where it is built
-abbrev pub AsksIf : Result Request ImFault → Option (Result Request ImFault) → Type 0
-AsksIf request None = is_built_payload request ≡ false
-AsksIf request (Some asked) = (asked ≡ request) × (is_built_payload request ≡ true)
-
 -- the deadlines of the fabric that goes, if any, go with it
 abbrev pub left_without : Option ℕ → List PlainDeadline → List PlainDeadline
 left_without None deadlines = deadlines
@@ -48,55 +48,44 @@ left_without (Some fabric) deadlines = filter (λ (deadline : PlainDeadline). st
 abbrev pub applied_history : PlainOutcome → History → History
 applied_history outcome h = recorded_all outcome.ms outcome.node.told (without_left outcome.node.gone h)
 
--- The outcome was made on this state, where this was the history, in which all that it tells can be recorded.
-pub record IsPlainPlanned (s : State) (h : History) (outcome : PlainOutcome) : Type 0 where
+-- The ledger behind it: subscriptions whose subscriber is not there any more end.
+abbrev pub applied_ledger : PlainOutcome → State → Ledger → Ledger
+applied_ledger outcome s l = record {
+  history = applied_history outcome l.history;
+  subs = left_in (applied outcome.node s.node) (applied_subs outcome.subs outcome.ms l.subs);
+}
+
+-- The outcome was made on this state, where this was the ledger, in which all that it tells can be recorded.
+pub record IsPlainPlanned (s : State) (l : Ledger) (outcome : PlainOutcome) : Type 0 where
   pub node : IsPlanned s.node outcome.node
-  pub recordable : may_record outcome.node.told h ≡ true
+  pub recordable : may_record outcome.node.told l.history ≡ true
 
 -- The outcome is that of a line of this actor, whose payload was decoded to this.
-pub record IsLine (given : Given) (s : State) (h : History) (ms : ℕ) (actor : Actor) (asked : Result Request ImFault) (outcome : PlainOutcome) : Type 0 where
-  pub sent : outcome.sent ≡ sent_asked given s h actor ms asked
+pub record IsLine (given : Given) (s : State) (l : Ledger) (ms : ℕ) (actor : Actor) (asked : Result Request ImFault) (outcome : PlainOutcome) : Type 0 where
+  pub sent : outcome.sent ≡ sent_asked given s l actor ms asked
   pub state : applied_plain outcome s ≡ next_for given s actor ms asked
-  pub history : applied_history outcome h ≡ history_behind given s.node (action_asked s actor asked) ms h
-  pub planned : IsPlainPlanned s h outcome
-
--- there is an outcome exactly where what was decoded is built
-abbrev pub IsLineIf : Given → State → History → ℕ → Actor → Result Request ImFault → Option PlainOutcome → Type 0
-IsLineIf given s h ms actor asked None = is_built_payload asked ≡ false
-IsLineIf given s h ms actor asked (Some outcome) = (is_built_payload asked ≡ true) × IsLine given s h ms actor asked outcome
-
--- nothing is sent, and time passes
-pub record IsQuiet (given : Given) (s : State) (h : History) (ms : ℕ) (outcome : PlainOutcome) : Type 0 where
-  pub sent : outcome.sent ≡ []
-  pub time : outcome.ms ≡ ms
-  pub deadlines : outcome.deadlines ≡ None
-  pub node : IsPlan given s.node Nothing ms outcome.node
-  pub recordable : may_record outcome.node.told h ≡ true
+  pub ledger : applied_ledger outcome s l ≡ ledger_behind given s.node (acts (action_asked s actor asked)) ms l
+  pub planned : IsPlainPlanned s l outcome
 
 -- The outcome is that of a time step.
-pub record IsTick (given : Given) (s : State) (h : History) (ms : ℕ) (outcome : PlainOutcome) : Type 0 where
+pub record IsTick (given : Given) (s : State) (l : Ledger) (ms : ℕ) (outcome : PlainOutcome) : Type 0 where
   pub sent : outcome.sent ≡ []
   pub state : applied_plain outcome s ≡ next_tick given s ms
-  pub history : applied_history outcome h ≡ history_behind given s.node Expire ms h
-  pub planned : IsPlainPlanned s h outcome
+  pub ledger : applied_ledger outcome s l ≡ ledger_behind given s.node (acts Expire) ms l
+  pub planned : IsPlainPlanned s l outcome
 
--- The outcome is that of this action, which no line of a plain actor makes.
-pub record IsActionPlan (given : Given) (s : State) (h : History) (action : Action) (ms : ℕ) (outcome : PlainOutcome) : Type 0 where
-  pub state : applied_plain outcome s ≡ behind_action given s action ms
-  pub history : applied_history outcome h ≡ history_behind given s.node action ms h
-  pub planned : IsPlainPlanned s h outcome
+-- The outcome is that of this, which no line of a plain actor does.
+pub record IsDone (given : Given) (s : State) (l : Ledger) (doing : Doing) (ms : ℕ) (outcome : PlainOutcome) : Type 0 where
+  pub state : applied_plain outcome s ≡ behind_action given s (action_in doing) ms
+  pub ledger : applied_ledger outcome s l ≡ ledger_behind given s.node doing ms l
+  pub planned : IsPlainPlanned s l outcome
 
--- The outcome is that of this event.
-pub record IsPlainPlan (given : Given) (s : State) (h : History) (event : Event) (outcome : PlainOutcome) : Type 0 where
-  pub sent : outcome.sent ≡ sent_plainly given s h event
-  pub state : applied_plain outcome s ≡ next given s event
-  pub history : applied_history outcome h ≡ history_plainly given s event h
-  pub planned : IsPlainPlanned s h outcome
-
--- there is an outcome exactly where the event is built
-abbrev pub IsPlanIf : Given → State → History → Event → Option PlainOutcome → Type 0
-IsPlanIf given s h event None = is_built event ≡ false
-IsPlanIf given s h event (Some outcome) = (is_built event ≡ true) × IsPlainPlan given s h event outcome
+-- Time passes, this is sent, and this is made of the subscriptions.
+pub record IsPassing (given : Given) (s : State) (l : Ledger) (messages : List Sent) (ms : ℕ) (made : SubsBehind) (outcome : PlainOutcome) : Type 0 where
+  pub sent : outcome.sent ≡ messages
+  pub state : applied_plain outcome s ≡ behind_action given s Nothing ms
+  pub ledger : applied_ledger outcome s l ≡ record { history = history_behind given s.node Nothing ms l.history; subs = left_in (after_action given s.node Nothing ms) (applied_subs made ms l.subs) }
+  pub planned : IsPlainPlanned s l outcome
 
 -- the sessions that end with an outcome are those that are live before it and not behind it
 abbrev pub closed_by : PlainOutcome → List ℕ

@@ -1,9 +1,9 @@
 //! What the node remembers of events: the latest ones, and the numbers.
 
 ghost use Rattle.std.specs.Prelude.{◌≡◌, ◌+◌, ◌≤◌, ◌^◌, IfOk, length, true};
-ghost use Rattle.std.specs.List.{list_all};
-ghost use Rattle.mt_events.specs.Reading.{asking};
-ghost use Rattle.mt_events.specs.Telling.{answered};
+ghost use Rattle.std.specs.List.{list_all, list_any};
+ghost use Rattle.mt_events.specs.Reading.{asking, is_told};
+ghost use Rattle.mt_events.specs.Telling.{answered, events_for, told};
 ghost use Rattle.mt_history.specs.History.{happened, opened, recorded, recorded_all, start_up, without_left};
 ghost use Rattle.mt_tlv.specs.declared.value.Tag.TheVariants.{Context};
 ghost use Rattle.mt_tlv.specs.declared.value.Value.TheVariants as kinds;
@@ -77,6 +77,27 @@ impl History {
         ensures { IfOk result (λ items. items ≡ answered (asking node.now.state.entries actor.now minimum paths.now) self.now.rings) }
     {
         self.rings.after(alloc, node, minimum, paths, actor)
+    }
+
+    /// What a later report of a subscription tells of events.
+    pub(crate) fn told(
+        &self,
+        alloc: Global,
+        node: &Node,
+        minimum: u64,
+        paths: &Paths,
+        actor: &Actor,
+    ) -> Result<Items, AllocError>
+        ensures { IfOk result (λ items. items ≡ told (asking node.now.state.entries actor.now minimum paths.now) self.now.rings) }
+    {
+        self.rings.told(alloc, node, minimum, paths, actor)
+    }
+
+    /// Whether there is an event from this number on that a path names and the actor may see.
+    pub(crate) fn tells(&self, node: &Node, minimum: u64, paths: &Paths, actor: &Actor) -> bool
+        ensures { result ≡ list_any (is_told (asking node.now.state.entries actor.now minimum paths.now)) (events_for actor.now.fabric self.now.rings) }
+    {
+        self.rings.tells(node, minimum, paths, actor)
     }
 
     /// Whether what an action tells can be recorded.

@@ -8,19 +8,29 @@
 //! - `ticks`: a time step;
 //! - `history`: what the node remembers of events;
 //! - `reporting`: the events among what is replied;
+//! - `wishes`: what a request subscribes to;
+//! - `subscribing`: what a subscription is answered;
+//! - `reports`: what a report step tells;
+//! - `telling`: the attributes and events that a subscriber is told;
+//! - `behind`: what is made of the subscriptions;
 //! - `deadlines`: until when the next requests of plain actors must come;
 //! - `sending`: the messages of a reply.
 #![tactic(auto)]
 
+mod behind;
 mod deadlines;
 mod history;
 mod lines;
 mod outcome;
 mod plain;
 mod reporting;
+mod reports;
 mod sending;
 mod sessions;
+mod subscribing;
+mod telling;
 mod ticks;
+mod wishes;
 
 pub use outcome::PlainOutcome;
 pub use plain::{Plain, asked};

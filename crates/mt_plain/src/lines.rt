@@ -1,20 +1,25 @@
 //! A line of a plain actor, from what its payload was decoded to.
 
-ghost use Rattle.std.specs.Prelude.{◌≡◌, Err, Ok, Some, true, IfOk, if◌then◌else◌, unwrap_or};
-ghost use Rattle.mt_machine.specs.Lines.{fault_reply, is_built_payload, is_refused, line_actor, sent_as, with_deadline};
-ghost use Rattle.mt_machine.specs.Step.{asker, is_built_request, refusal};
-ghost use Rattle.mt_model.specs.messages.Status.{code_of};
-ghost use Rattle.mt_model.specs.declared.messages.status.Status.TheVariants.{Busy};
-ghost use Rattle.mt_history.specs.Asking.{events_asked, with_events};
+ghost use Rattle.std.specs.Prelude.{◌≡◌, Err, Ok, Some, IfOk, unwrap_or};
+ghost use Rattle.mt_machine.specs.Lines.{deadline_of, fault_reply, line_actor, sent_as, with_deadline};
+ghost use Rattle.mt_machine.specs.Step.{asker};
+ghost use Rattle.mt_ledger.specs.Asking.{line_response, line_wish, with_wish};
+ghost use Rattle.mt_ledger.specs.Subscribing.{behind_wish_if_any};
 ghost use Rattle.mt_im.specs.Limits.{IsWithinLimits};
 ghost use Rattle.mt_plain.specs.Kept.{given_to};
-ghost use Rattle.mt_plain.specs.Plan.{IsLine, IsQuiet};
+ghost use Rattle.mt_plain.specs.Plan.{IsLine};
+ghost use Rattle.mt_plain.specs.Replying.{replied_plainly, sent_both};
+ghost use Rattle.mt_plain.specs.Subscribing.{applied_subs};
 
+use crate::behind::SubsBehind;
 use crate::deadlines::{deadline_of, is_refused, left_without, next_deadlines};
 use crate::outcome::PlainOutcome;
 use crate::plain::Plain;
 use crate::reporting::with_events;
-use crate::sending::sent_as;
+use crate::sending::{sent_as, sent_both};
+use crate::subscribing;
+use crate::subscribing::response_for;
+use crate::wishes::wish_in_time;
 use mt_im::ImFault;
 use mt_model::{Action, Actor, Auth, PlainDeadlines, Reply, Request, SentList, Status, Verdicts};
 use std::alloc::{AllocError, Global};
@@ -49,24 +54,14 @@ pub(crate) fn planned_line<V: Verdicts>(
     asked: &Result<Request, ImFault>,
     verdicts: &V,
 ) -> Result<PlainOutcome, AllocError>
-    requires built { is_built_payload asked.now ≡ true }
     requires within { IfOk asked.now IsWithinLimits }
     ensures { let given = given_to plain.now (V.roots verdicts.now) (V.csrs verdicts.now) (V.joins verdicts.now) in
-        IfOk result (IsLine given plain.now.state plain.now.history ms actor.now asked.now) }
+        IfOk result (IsLine given plain.now.state plain.now.ledger ms actor.now asked.now) }
 {
     match plain.node.asker(actor) {
         Some(asking) => planned_for(plain, ms, actor, &asking, asked, verdicts),
-        None => quiet(plain, ms, verdicts),
+        None => plain.pass(ms, verdicts),
     }
-}
-
-// Nothing is sent where nobody is taken as asking.
-fn quiet<V: Verdicts>(plain: &Plain, ms: u64, verdicts: &V) -> Result<PlainOutcome, AllocError>
-    ensures { let given = given_to plain.now (V.roots verdicts.now) (V.csrs verdicts.now) (V.joins verdicts.now) in
-        IfOk result (IsQuiet given plain.now.state plain.now.history ms) }
-{
-    let node = plain.node.plan(&Action::Nothing, ms, verdicts)?;
-    plain.outcome(SentList::new(plain.alloc), ms, node, None)
 }
 
 fn planned_for<V: Verdicts>(
@@ -78,10 +73,9 @@ fn planned_for<V: Verdicts>(
     verdicts: &V,
 ) -> Result<PlainOutcome, AllocError>
     requires asks { asker plain.now.state.node actor.now ≡ Some asking.now }
-    requires built { is_built_payload asked.now ≡ true }
     requires within { IfOk asked.now IsWithinLimits }
     ensures { let given = given_to plain.now (V.roots verdicts.now) (V.csrs verdicts.now) (V.joins verdicts.now) in
-        IfOk result (IsLine given plain.now.state plain.now.history ms actor.now asked.now) }
+        IfOk result (IsLine given plain.now.state plain.now.ledger ms actor.now asked.now) }
 {
     let deadlines = next_deadlines(plain.alloc, plain.deadlines.as_slice(), asking, ms, asked)?;
     match asked {
@@ -90,7 +84,7 @@ fn planned_for<V: Verdicts>(
     }
 }
 
-// What a request is answered.
+// What a request is answered. What subscribes is answered with what it is told first, and that the subscription stands.
 fn answered<V: Verdicts>(
     plain: &Plain,
     ms: u64,
@@ -101,24 +95,48 @@ fn answered<V: Verdicts>(
     verdicts: &V,
 ) -> Result<PlainOutcome, AllocError>
     requires asks { asker plain.now.state.node actor.now ≡ Some asking.now }
-    requires built { is_built_request request.now ≡ true }
     requires within { IsWithinLimits request.now }
     requires next { unwrap_or deadlines plain.now.state.deadlines ≡ with_deadline asking.now plain.now.state.deadlines ms (Ok request.now) }
     ensures { let given = given_to plain.now (V.roots verdicts.now) (V.csrs verdicts.now) (V.joins verdicts.now) in
-        IfOk result (IsLine given plain.now.state plain.now.history ms actor.now (Ok request.now)) }
+        IfOk result (IsLine given plain.now.state plain.now.ledger ms actor.now (Ok request.now)) }
 {
     let timed = deadline_of(plain.deadlines.as_slice(), asking);
     let node = plain
         .node
         .plan_asked(actor, asking, request, timed, ms, verdicts)?;
-    let sent = if_not_refused(plain, ms, asking, request, &node.reply)?;
     let deadlines = left_without(
         plain.alloc,
         plain.deadlines.as_slice(),
         deadlines,
         node.gone,
     )?;
-    plain.outcome(sent, ms, node, deadlines)
+    let (sent, subs) = replied(plain, ms, asking, request, timed, &node.reply)?;
+    plain.outcome(sent, ms, node, deadlines, subs)
+}
+
+// The messages of all that is replied, and what is made of the subscriptions.
+fn replied(
+    plain: &Plain,
+    ms: u64,
+    asking: &Actor,
+    request: &Request,
+    timed: Option<u64>,
+    reply: &Reply,
+) -> Result<(SentList, SubsBehind), AllocError>
+    requires within { IsWithinLimits request.now }
+    requires timed { timed ≡ deadline_of asking.now plain.now.state.deadlines }
+    ensures sent { IfOk result (λ both. both.0 ≡ sent_both ms asking.now.fabric (with_wish plain.now.state.node plain.now.ledger (line_wish plain.now.state asking.now ms (Ok request.now)) (replied_plainly plain.now.state plain.now.ledger asking.now ms request.now reply.now)) (line_response plain.now.state plain.now.ledger asking.now ms (Ok request.now))) }
+    ensures subs { IfOk result (λ both. applied_subs both.1 ms plain.now.ledger.subs ≡ behind_wish_if_any plain.now.state.node plain.now.ledger ms (line_wish plain.now.state asking.now ms (Ok request.now))) }
+{
+    let Some(wish) = wish_in_time(asking, timed, ms, request)? else {
+        let sent = if_not_refused(plain, ms, asking, request, reply)?;
+        return Ok((sent, SubsBehind::Same));
+    };
+    let ceiling = wish.sub.ceiling;
+    let answered = subscribing::answer(plain, wish, ms)?;
+    let response = response_for(ceiling, &answered.reply);
+    let sent = sent_both(plain.alloc, ms, asking.fabric, &answered.reply, &response)?;
+    Ok((sent, answered.subs))
 }
 
 // The messages of a reply and of the events that the request asks for, or those that refuse a time for which there is no room.
@@ -130,8 +148,7 @@ fn if_not_refused(
     reply: &Reply,
 ) -> Result<SentList, AllocError>
     requires { IsWithinLimits request.now }
-    ensures { IfOk result (λ sent. sent ≡ sent_as ms asking.now.fabric (with_events (events_asked plain.now.state.node.entries plain.now.history.rings asking.now request.now)
-        (if is_refused asking.now plain.now.state.deadlines ms request.now then refusal (code_of Busy) else reply.now))) }
+    ensures { IfOk result (λ sent. sent ≡ sent_as ms asking.now.fabric (replied_plainly plain.now.state plain.now.ledger asking.now ms request.now reply.now)) }
 {
     if is_refused(plain.deadlines.as_slice(), asking, ms, request) {
         let busy = Reply::Status {
@@ -158,11 +175,11 @@ fn refused<V: Verdicts>(
     requires asks { asker plain.now.state.node actor.now ≡ Some asking.now }
     requires next { unwrap_or deadlines plain.now.state.deadlines ≡ with_deadline asking.now plain.now.state.deadlines ms (Err fault) }
     ensures { let given = given_to plain.now (V.roots verdicts.now) (V.csrs verdicts.now) (V.joins verdicts.now) in
-        IfOk result (IsLine given plain.now.state plain.now.history ms actor.now (Err fault)) }
+        IfOk result (IsLine given plain.now.state plain.now.ledger ms actor.now (Err fault)) }
 {
     let node = plain.node.plan(&Action::Nothing, ms, verdicts)?;
     let sent = sent_as(plain.alloc, ms, asking.fabric, &fault_reply(fault))?;
-    plain.outcome(sent, ms, node, deadlines)
+    plain.outcome(sent, ms, node, deadlines, SubsBehind::Same)
 }
 
 /// The reply to a payload that is no request.

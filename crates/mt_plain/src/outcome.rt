@@ -3,6 +3,7 @@
 ghost use Rattle.std.specs.Prelude.{◌≡◌, IfOk, true};
 ghost use Rattle.mt_plain.specs.Recording.{may_record};
 
+use crate::behind::SubsBehind;
 use crate::plain::Plain;
 use mt_model::{PlainDeadlines, SentList};
 use mt_node::Outcome;
@@ -18,6 +19,8 @@ pub struct PlainOutcome {
     pub(crate) node: Outcome,
     // the deadlines of plain actors, None where they stay
     pub(crate) deadlines: Option<PlainDeadlines>,
+    // what is made of the subscriptions
+    pub(crate) subs: SubsBehind,
 }
 
 impl PlainOutcome {
@@ -38,9 +41,10 @@ impl Plain {
         ms: u64,
         node: Outcome,
         deadlines: Option<PlainDeadlines>,
+        subs: SubsBehind,
     ) -> Result<PlainOutcome, AllocError>
-        ensures made { IfOk result (λ outcome. outcome ≡ record { sent = sent; ms = ms; node = node; deadlines = deadlines }) }
-        ensures recordable { IfOk result (λ outcome. may_record node.told self.now.history ≡ true) }
+        ensures made { IfOk result (λ outcome. outcome ≡ record { sent = sent; ms = ms; node = node; deadlines = deadlines; subs = subs }) }
+        ensures recordable { IfOk result (λ outcome. may_record node.told self.now.ledger.history ≡ true) }
     {
         if !self.history.may_record(node.told.as_slice()) {
             return Err(AllocError);
@@ -50,6 +54,7 @@ impl Plain {
             ms,
             node,
             deadlines,
+            subs,
         })
     }
 }

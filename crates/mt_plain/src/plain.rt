@@ -1,30 +1,33 @@
 //! The node with its plain actors.
 
-ghost use Rattle.std.specs.Prelude.{◌≡◌, IfOk, IfSome, option_copied};
-ghost use Rattle.mt_machine.specs.Lines.{is_built_payload};
+ghost use Rattle.std.specs.Prelude.{◌≡◌, IfOk, option_copied};
+ghost use Rattle.mt_machine.specs.Lines.{line_actor};
 ghost use Rattle.mt_im.specs.Limits.{IsWithinLimits};
 ghost use Rattle.mt_im.specs.Reading.{request_in};
 ghost use Rattle.mt_plain.specs.Kept.{behind, given_to, started};
-ghost use Rattle.mt_plain.specs.Plan.{AsksIf, IsLineIf, IsPlanIf, IsPlainPlanned, applied_history, applied_plain, is_want_of_memory};
+ghost use Rattle.mt_plain.specs.Plan.{IsLine, IsPlainPlanned, IsTick, applied_ledger, applied_plain, is_want_of_memory};
 
+use crate::behind::make;
 use crate::history::History;
 use crate::lines::{line_actor, planned_line};
 use crate::outcome::PlainOutcome;
 use crate::ticks::planned_tick;
 use mt_im::{ImFault, decode};
-use mt_model::{Actor, Armed, Config, Event, PlainDeadlines, Request, Verdicts};
-use mt_node::{Node, is_built_request};
+use mt_model::{Armed, Config, PlainDeadlines, Request, Verdicts};
+use mt_node::Node;
+use mt_subs::Subs;
 use mt_tlv::Bytes;
 use std::alloc::{AllocError, Global};
 use std::marker::Model;
 
-/// The node, and around it what it remembers of events and the deadlines of plain actors. Contracts see the state of the node
-/// and the deadlines, the history, and the configuration with which it was started.
+/// The node, and around it what it remembers of events and subscriptions, and the deadlines of plain actors. Contracts see the
+/// state of the node and the deadlines, the ledger of events and subscriptions, and the configuration with which it was started.
 #[derive(Drop)]
 pub struct Plain {
     pub(crate) alloc: Global,
     pub(crate) node: Node,
     pub(crate) history: History,
+    pub(crate) subs: Subs,
     pub(crate) deadlines: PlainDeadlines,
 }
 
@@ -37,11 +40,12 @@ impl Model for Plain {
 
     ghost coded = { Prim.hlevel (codes, values.the_row.coded) };
 
-    ghost view = { λ plain. record { state = record { node = plain.node.state; deadlines = plain.deadlines }; history = plain.history; config = plain.node.config } };
+    ghost view = { λ plain. record { state = record { node = plain.node.state; deadlines = plain.deadlines }; ledger = record { history = plain.history; subs = plain.subs }; config = plain.node.config } };
 }
 
 impl Plain {
-    /// A new node with this configuration, in its first boot, of which its start is told; nobody has a deadline.
+    /// A new node with this configuration, in its first boot, of which its start is told; nobody has a deadline or has
+    /// subscribed.
     pub fn start(alloc: Global, config: &Config) -> Result<Plain, AllocError>
         ensures { IfOk result (λ plain. plain ≡ started config.now) }
     {
@@ -50,41 +54,36 @@ impl Plain {
             alloc,
             node,
             history: History::begun(alloc)?,
+            subs: Subs::new(alloc),
             deadlines: PlainDeadlines::new(alloc),
         })
     }
 
-    /// Plans an event of a recording, None exactly where it is not built, by the verdicts on certificates that are
+    /// Plans a line of a plain actor of a fabric, with the payload of its message, by the verdicts on certificates that are
     /// handed in. It changes nothing, and takes all the memory.
-    pub fn plan<V: Verdicts>(
+    pub fn plan_line<V: Verdicts>(
         &self,
-        event: &Event,
+        ms: u64,
+        fabric: u8,
+        node: u64,
+        cats: [u32; 3],
+        opcode: u8,
+        payload: &Bytes,
         verdicts: &V,
-    ) -> Result<Option<PlainOutcome>, AllocError>
+    ) -> Result<PlainOutcome, AllocError>
         ensures { let given = given_to self.now (V.roots verdicts.now) (V.csrs verdicts.now) (V.joins verdicts.now) in
-            IfOk result (IsPlanIf given self.now.state self.now.history event.now) }
+            IfOk result (IsLine given self.now.state self.now.ledger ms (line_actor fabric node cats) (request_in opcode payload.now)) }
     {
-        match event {
-            Event::Ask {
-                ms,
-                fabric,
-                node,
-                cats,
-                opcode,
-                payload,
-            } => {
-                let actor = line_actor(*fabric, *node, *cats);
-                self.plan_line(*ms, &actor, *opcode, payload, verdicts)
-            },
-            Event::Tick { ms } => {
-                let outcome = planned_tick(self, *ms, verdicts)?;
-                Ok(Some(outcome))
-            },
-            Event::Datagram { .. } => Ok(None),
-            Event::Report { .. } => Ok(None),
-            Event::Resend { .. } => Ok(None),
-            Event::Stop { .. } => Ok(None),
-        }
+        let asked = asked(self.alloc, opcode, payload.as_slice())?;
+        planned_line(self, ms, &line_actor(fabric, node, cats), &asked, verdicts)
+    }
+
+    /// Plans a time step, which lets the fail-safe expire where it is time.
+    pub fn plan_tick<V: Verdicts>(&self, ms: u64, verdicts: &V) -> Result<PlainOutcome, AllocError>
+        ensures { let given = given_to self.now (V.roots verdicts.now) (V.csrs verdicts.now) (V.joins verdicts.now) in
+            IfOk result (IsTick given self.now.state self.now.ledger ms) }
+    {
+        planned_tick(self, ms, verdicts)
     }
 
     /// The fail-safe, None exactly where nobody has armed it.
@@ -94,63 +93,44 @@ impl Plain {
         self.node.armed()
     }
 
-    // Plans a line of a plain actor, None where its payload asks what is not built.
-    fn plan_line<V: Verdicts>(
-        &self,
-        ms: u64,
-        actor: &Actor,
-        opcode: u8,
-        payload: &Bytes,
-        verdicts: &V,
-    ) -> Result<Option<PlainOutcome>, AllocError>
-        ensures { let given = given_to self.now (V.roots verdicts.now) (V.csrs verdicts.now) (V.joins verdicts.now) in
-            IfOk result (IsLineIf given self.now.state self.now.history ms actor.now (request_in opcode payload.now)) }
-    {
-        let Some(asked) = asked(self.alloc, opcode, payload.as_slice())? else {
-            return Ok(None);
-        };
-        let outcome = planned_line(self, ms, actor, &asked, verdicts)?;
-        Ok(Some(outcome))
-    }
-
-    /// Makes of it what a planned event makes of it. It takes no memory, and cannot fail.
+    /// Makes of it what a planned event makes of it. Subscriptions whose subscriber is not there any more end. It takes no
+    /// memory, and cannot fail.
     pub fn apply(&mut self, outcome: PlainOutcome)
-        requires { IsPlainPlanned self.old.state self.old.history outcome }
-        ensures { self.new ≡ behind (applied_plain outcome self.old.state) (applied_history outcome self.old.history) self.old }
+        requires { IsPlainPlanned self.old.state self.old.ledger outcome }
+        ensures { self.new ≡ behind (applied_plain outcome self.old.state) (applied_ledger outcome self.old.state self.old.ledger) self.old }
     {
         let PlainOutcome {
             sent: _,
             ms,
             node,
             deadlines,
+            subs,
         } = outcome;
         let gone = node.gone;
         let told = self.node.apply(node);
         self.history.pass_on(gone, ms, told);
+        make(subs, ms, &mut self.subs);
+        self.subs.end_left(self.node.state());
         if let Some(deadlines) = deadlines {
             self.deadlines = deadlines;
         }
     }
 }
 
-/// What a payload asks, None exactly where that is not built.
+/// What a payload asks. What is asked is within the limits of a request.
 pub fn asked(
     alloc: Global,
     opcode: u8,
     payload: &[u8],
-) -> Result<Option<Result<Request, ImFault>>, AllocError>
-    ensures asks { IfOk result (AsksIf (request_in opcode payload.now)) }
-    // What is asked is within the limits of a request.
-    ensures within { IfOk result (λ asked. IfSome asked (λ read. IfOk read IsWithinLimits)) }
+) -> Result<Result<Request, ImFault>, AllocError>
+    ensures asks { IfOk result (λ asked. asked ≡ request_in opcode payload.now) }
+    ensures within { IfOk result (λ asked. IfOk asked IsWithinLimits) }
 {
     let asked = decode(alloc, opcode, payload);
     if is_want_of_memory(&asked) {
         return Err(AllocError);
     }
-    if !is_built_payload(&asked) {
-        return Ok(None);
-    }
-    Ok(Some(asked))
+    Ok(asked)
 }
 
 // Whether a payload was not decoded for want of memory.
@@ -158,14 +138,4 @@ fn is_want_of_memory(asked: &Result<Request, ImFault>) -> bool
     ensures { result ≡ is_want_of_memory asked.now }
 {
     matches!(asked, Err(ImFault::Memory))
-}
-
-// Whether what a payload was decoded to is built.
-fn is_built_payload(asked: &Result<Request, ImFault>) -> bool
-    ensures { result ≡ is_built_payload asked.now }
-{
-    match asked {
-        Ok(request) => is_built_request(request),
-        Err(_) => true,
-    }
 }

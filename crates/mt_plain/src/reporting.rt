@@ -1,13 +1,14 @@
 //! The events among what is replied.
 
-ghost use Rattle.std.specs.Prelude.{◌≡◌, ◌≤◌, ◌++◌, IfOk, length, unwrap_or};
+ghost use Rattle.std.specs.Prelude.{◌≡◌, ◌≤◌, IfOk, length, unwrap_or};
 ghost use Rattle.mt_events.specs.Reading.{asking};
 ghost use Rattle.mt_events.specs.Telling.{answered};
 ghost use Rattle.mt_history.specs.Asking.{events_asked, with_events};
 ghost use Rattle.mt_im.specs.Limits.{IsWithinLimits};
 
 use crate::plain::Plain;
-use mt_model::{Actor, ExactCopy, Items, Paths, Reply, Request};
+use crate::telling::joined;
+use mt_model::{Actor, ExactCopy, Paths, Reply, Request};
 use std::alloc::AllocError;
 
 /// The reply with the events that a request of an actor asks for behind its attributes. None where it stays as it is.
@@ -18,7 +19,7 @@ pub(crate) fn with_events(
     reply: &Reply,
 ) -> Result<Option<Reply>, AllocError>
     requires { IsWithinLimits request.now }
-    ensures { IfOk result (λ full. unwrap_or full reply.now ≡ with_events (events_asked plain.now.state.node.entries plain.now.history.rings actor.now request.now) reply.now) }
+    ensures { IfOk result (λ full. unwrap_or full reply.now ≡ with_events (events_asked plain.now.state.node.entries plain.now.ledger.history.rings actor.now request.now) reply.now) }
 {
     match request {
         Request::Read {
@@ -38,7 +39,7 @@ fn with_told(
     reply: &Reply,
 ) -> Result<Option<Reply>, AllocError>
     requires { length paths.now ≤ 16 }
-    ensures { IfOk result (λ full. unwrap_or full reply.now ≡ with_events (answered (asking plain.now.state.node.entries actor.now minimum paths.now) plain.now.history.rings) reply.now) }
+    ensures { IfOk result (λ full. unwrap_or full reply.now ≡ with_events (answered (asking plain.now.state.node.entries actor.now minimum paths.now) plain.now.ledger.history.rings) reply.now) }
 {
     // A read that names no events goes over none.
     if paths.as_slice().is_empty() {
@@ -57,17 +58,7 @@ fn with_told(
         .after(plain.alloc, &plain.node, minimum, paths, actor)?;
     Ok(Some(Reply::Report {
         subscription: *subscription,
-        items: with_items(items, told)?,
+        items: joined(items.copy()?, told)?,
         suppress: *suppress,
     }))
-}
-
-// These items, and others behind them.
-fn with_items(items: &Items, others: Items) -> Result<Items, AllocError>
-    ensures { IfOk result (λ all. all ≡ items.now ++ others) }
-{
-    let mut all = items.copy()?.into_vec();
-    let mut others = others.into_vec();
-    all.append(&mut others)?;
-    Ok(Items::from_vec(all))
 }

@@ -2,6 +2,7 @@
 
 ghost use Rattle.std.specs.Prelude.{◌≡◌, IfOk};
 ghost use Rattle.mt_machine.specs.Lines.{sent_as, sent_plain};
+ghost use Rattle.mt_plain.specs.Replying.{sent_both};
 
 use mt_im_out::chunks;
 use mt_model::{Payload, Reply, Sent, SentList, To};
@@ -22,6 +23,22 @@ pub(crate) fn sent_as(
     for payload in payloads {
         sent.push(sent_plain(ms, fabric, payload))?;
     }
+    Ok(SentList::from_vec(sent))
+}
+
+/// The messages of two replies, one after the other.
+pub(crate) fn sent_both(
+    alloc: Global,
+    ms: u64,
+    fabric: u8,
+    reply: &Reply,
+    response: &Reply,
+) -> Result<SentList, AllocError>
+    ensures { IfOk result (λ sent. sent ≡ sent_both ms fabric reply.now response.now) }
+{
+    let mut sent = sent_as(alloc, ms, fabric, reply)?.into_vec();
+    let mut more = sent_as(alloc, ms, fabric, response)?.into_vec();
+    sent.append(&mut more)?;
     Ok(SentList::from_vec(sent))
 }
 

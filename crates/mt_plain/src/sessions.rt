@@ -1,24 +1,33 @@
 //! What is asked over a session.
 
-ghost use Rattle.std.specs.Prelude.{◌≡◌, Ok, IfOk, map, true};
-ghost use Rattle.mt_machine.specs.Lines.{action_of, is_built_payload};
-ghost use Rattle.mt_machine.specs.Step.{asker, is_built_request, reply_of, session_actor};
+ghost use Rattle.std.specs.Prelude.{◌≡◌, [], Ok, IfOk, map, option_copied};
+ghost use Rattle.mt_machine.specs.Lines.{action_of};
+ghost use Rattle.mt_machine.specs.Step.{session_actor};
 ghost use Rattle.mt_model.specs.declared.messages.message.Payload.{Payload};
-ghost use Rattle.mt_lines.specs.Datagrams.{actor_on, dated, deadline_set, payloads_over};
-ghost use Rattle.mt_history.specs.Asking.{events_for, with_events};
+ghost use Rattle.mt_lines.specs.Datagrams.{actor_on, dated, deadline_set, payloads_confirmed, payloads_over};
+ghost use Rattle.mt_lines.specs.Whole.{fabric_over};
+ghost use Rattle.mt_history.specs.Asking.{events_asked, with_events};
+ghost use Rattle.mt_ledger.specs.Asking.{with_wish};
+ghost use Rattle.mt_ledger.specs.Behind.{acts, confirms, ends};
+ghost use Rattle.mt_ledger.specs.Subscribing.{behind_wish_if_any, confirm_reply, wish_in_time};
 ghost use Rattle.mt_im.specs.Limits.{IsWithinLimits};
 ghost use Rattle.mt_im_out.specs.Chunks.{chunks_of};
 ghost use Rattle.mt_plain.specs.Kept.{given_to};
-ghost use Rattle.mt_plain.specs.Plan.{IsActionPlan};
+ghost use Rattle.mt_plain.specs.Plan.{IsDone, IsPassing};
+ghost use Rattle.mt_plain.specs.Subscribing.{applied_subs};
 
+use crate::behind::SubsBehind;
 use crate::deadlines::{is_late, left_without};
 use crate::lines::fault_reply;
 use crate::outcome::PlainOutcome;
 use crate::plain::Plain;
 use crate::reporting::with_events;
+use crate::subscribing;
+use crate::wishes::wish_in_time;
 use mt_im::ImFault;
 use mt_im_out::chunks;
 use mt_model::{Action, Actor, Auth, Payload, Payloads, Reply, Request, SentList, Verdicts};
+use mt_subs::Kept;
 use std::alloc::{AllocError, Global};
 
 impl Plain {
@@ -33,12 +42,11 @@ impl Plain {
         ms: u64,
         verdicts: &V,
     ) -> Result<(Payloads, PlainOutcome), AllocError>
-        requires built { is_built_payload asked.now ≡ true }
         requires within { IfOk asked.now IsWithinLimits }
         ensures payloads { let given = given_to self.now (V.roots verdicts.now) (V.csrs verdicts.now) (V.joins verdicts.now) in
-            IfOk result (λ both. both.0 ≡ payloads_over given self.now.state.node self.now.history session timed ms asked.now) }
+            IfOk result (λ both. both.0 ≡ payloads_over given self.now.state.node self.now.ledger session timed ms asked.now) }
         ensures outcome { let given = given_to self.now (V.roots verdicts.now) (V.csrs verdicts.now) (V.joins verdicts.now) in
-            IfOk result (λ both. IsActionPlan given self.now.state self.now.history (action_of (actor_on session) timed asked.now) ms both.1) }
+            IfOk result (λ both. IsDone given self.now.state self.now.ledger (acts (action_of (actor_on session) timed asked.now)) ms both.1) }
     {
         match asked {
             Ok(request) => self.answer_over(session, request, timed, ms, verdicts),
@@ -59,72 +67,141 @@ impl Plain {
         ms: u64,
         verdicts: &V,
     ) -> Result<(Payloads, PlainOutcome), AllocError>
-        requires built { is_built_request request.now ≡ true }
         requires within { IsWithinLimits request.now }
         ensures payloads { let given = given_to self.now (V.roots verdicts.now) (V.csrs verdicts.now) (V.joins verdicts.now) in
-            IfOk result (λ both. both.0 ≡ payloads_over given self.now.state.node self.now.history session timed ms (Ok request.now)) }
+            IfOk result (λ both. both.0 ≡ payloads_over given self.now.state.node self.now.ledger session timed ms (Ok request.now)) }
         ensures outcome { let given = given_to self.now (V.roots verdicts.now) (V.csrs verdicts.now) (V.joins verdicts.now) in
-            IfOk result (λ both. IsActionPlan given self.now.state self.now.history (Action.Ask (actor_on session) request.now timed) ms both.1) }
-    {
-        let outcome = self.plan_request(session, request, timed, ms, verdicts)?;
-        let payloads = self.payloads_told(session, request, &outcome.node.reply)?;
-        Ok((dated(payloads, deadline_set(timed, ms, request)), outcome))
-    }
-
-    // The payloads of a reply over a session, and of the events that the request asks for.
-    fn payloads_told(
-        &self,
-        session: u16,
-        request: &Request,
-        reply: &Reply,
-    ) -> Result<Payloads, AllocError>
-        requires { IsWithinLimits request.now }
-        ensures { let asking = asker self.now.state.node (actor_on session) in
-            IfOk result (λ payloads. payloads ≡ chunks_of (with_events (events_for self.now.state.node self.now.history asking request.now) reply.now)) }
-    {
-        let Some(asking) = self.node.asker(&actor_on(session)) else {
-            return chunks(self.alloc, reply);
-        };
-        match with_events(self, &asking, request, reply)? {
-            Some(full) => chunks(self.alloc, &full),
-            None => chunks(self.alloc, reply),
-        }
-    }
-
-    // What comes of a request over a session.
-    fn plan_request<V: Verdicts>(
-        &self,
-        session: u16,
-        request: &Request,
-        timed: Option<u64>,
-        ms: u64,
-        verdicts: &V,
-    ) -> Result<PlainOutcome, AllocError>
-        requires { is_built_request request.now ≡ true }
-        ensures reply { let given = given_to self.now (V.roots verdicts.now) (V.csrs verdicts.now) (V.joins verdicts.now) in
-            IfOk result (λ outcome. outcome.node.reply ≡ reply_of given self.now.state.node (Action.Ask (actor_on session) request.now timed) ms) }
-        ensures outcome { let given = given_to self.now (V.roots verdicts.now) (V.csrs verdicts.now) (V.joins verdicts.now) in
-            IfOk result (λ outcome. IsActionPlan given self.now.state self.now.history (Action.Ask (actor_on session) request.now timed) ms outcome) }
+            IfOk result (λ both. IsDone given self.now.state self.now.ledger (acts (Action.Ask (actor_on session) request.now timed)) ms both.1) }
     {
         let actor = actor_on(session);
         let Some(asking) = self.node.asker(&actor) else {
-            return self.pass(ms, verdicts);
+            let payloads = chunks(self.alloc, &Reply::Nothing)?;
+            let until = deadline_set(timed, ms, request);
+            return Ok((dated(payloads, until), self.pass(ms, verdicts)?));
         };
         let node = self
             .node
             .plan_asked(&actor, &asking, request, timed, ms, verdicts)?;
         let deadlines = left_without(self.alloc, self.deadlines.as_slice(), None, node.gone)?;
-        self.outcome(SentList::new(self.alloc), ms, node, deadlines)
+        let (payloads, subs) = self.replied_over(&asking, request, timed, ms, &node.reply)?;
+        let payloads = dated(payloads, deadline_set(timed, ms, request));
+        let none = SentList::new(self.alloc);
+        Ok((payloads, self.outcome(none, ms, node, deadlines, subs)?))
+    }
+
+    // The payloads of a reply over a session, with the events that the request asks for, and what is made of the
+    // subscriptions.
+    fn replied_over(
+        &self,
+        asking: &Actor,
+        request: &Request,
+        timed: Option<u64>,
+        ms: u64,
+        reply: &Reply,
+    ) -> Result<(Payloads, SubsBehind), AllocError>
+        requires { IsWithinLimits request.now }
+        ensures payloads { IfOk result (λ both. both.0 ≡ chunks_of (with_wish self.now.state.node self.now.ledger (wish_in_time asking.now timed ms request.now) (with_events (events_asked self.now.state.node.entries self.now.ledger.history.rings asking.now request.now) reply.now))) }
+        ensures subs { IfOk result (λ both. applied_subs both.1 ms self.now.ledger.subs ≡ behind_wish_if_any self.now.state.node self.now.ledger ms (wish_in_time asking.now timed ms request.now)) }
+    {
+        let Some(wish) = wish_in_time(asking, timed, ms, request)? else {
+            return Ok((
+                self.payloads_told(asking, request, reply)?,
+                SubsBehind::Same,
+            ));
+        };
+        let answered = subscribing::answer(self, wish, ms)?;
+        Ok((chunks(self.alloc, &answered.reply)?, answered.subs))
+    }
+
+    // The payloads of a reply, and of the events that the request asks for.
+    fn payloads_told(
+        &self,
+        asking: &Actor,
+        request: &Request,
+        reply: &Reply,
+    ) -> Result<Payloads, AllocError>
+        requires { IsWithinLimits request.now }
+        ensures { IfOk result (λ payloads. payloads ≡ chunks_of (with_events (events_asked self.now.state.node.entries self.now.ledger.history.rings asking.now request.now) reply.now)) }
+    {
+        match with_events(self, asking, request, reply)? {
+            Some(full) => chunks(self.alloc, &full),
+            None => chunks(self.alloc, reply),
+        }
+    }
+
+    /// Plans what a confirmation over a session brings, at this time in ms: the subscription whose report it confirms is live,
+    /// and stands where that was the first. It is of the fabric for which the session is live.
+    pub fn plan_confirm<V: Verdicts>(
+        &self,
+        session: u16,
+        subscription: u32,
+        ms: u64,
+        verdicts: &V,
+    ) -> Result<(Payloads, PlainOutcome), AllocError>
+        ensures payloads { IfOk result (λ both. both.0 ≡ payloads_confirmed (fabric_over self.now.state.node session) subscription self.now.ledger.subs) }
+        ensures outcome { let given = given_to self.now (V.roots verdicts.now) (V.csrs verdicts.now) (V.joins verdicts.now) in
+            IfOk result (λ both. IsDone given self.now.state self.now.ledger (confirms (fabric_over self.now.state.node session) subscription) ms both.1) }
+    {
+        let fabric = self.fabric_over(session);
+        let reply = confirm_reply(subscription, self.subs.get(fabric, subscription));
+        let payloads = chunks(self.alloc, &reply)?;
+        let subs = SubsBehind::Confirmed {
+            fabric,
+            id: subscription,
+        };
+        let none = SentList::new(self.alloc);
+        Ok((payloads, self.passing(none, ms, subs, verdicts)?))
+    }
+
+    /// Plans that subscriptions of the fabric for which a session is live end, at this time in ms.
+    pub fn plan_ends<V: Verdicts>(
+        &self,
+        session: u16,
+        ids: Vec<u32>,
+        ms: u64,
+        verdicts: &V,
+    ) -> Result<PlainOutcome, AllocError>
+        ensures { let given = given_to self.now (V.roots verdicts.now) (V.csrs verdicts.now) (V.joins verdicts.now) in
+            IfOk result (IsDone given self.now.state self.now.ledger (ends (fabric_over self.now.state.node session) ids.items) ms) }
+    {
+        let fabric = self.fabric_over(session);
+        let none = SentList::new(self.alloc);
+        self.passing(none, ms, SubsBehind::Ended { fabric, ids }, verdicts)
+    }
+
+    // Time passes, this is sent, and this is made of the subscriptions.
+    pub(crate) fn passing<V: Verdicts>(
+        &self,
+        sent: SentList,
+        ms: u64,
+        subs: SubsBehind,
+        verdicts: &V,
+    ) -> Result<PlainOutcome, AllocError>
+        ensures { let given = given_to self.now (V.roots verdicts.now) (V.csrs verdicts.now) (V.joins verdicts.now) in
+            IfOk result (IsPassing given self.now.state self.now.ledger sent ms subs) }
+    {
+        let node = self.node.plan(&Action::Nothing, ms, verdicts)?;
+        self.outcome(sent, ms, node, None, subs)
+    }
+
+    // The fabric for which a session is live, 0 where it is not.
+    fn fabric_over(&self, session: u16) -> u8
+        ensures { result ≡ fabric_over self.now.state.node session }
+    {
+        match self.node.actor(session) {
+            Some(actor) => actor.fabric,
+            None => 0,
+        }
     }
 
     /// Plans that time passes.
     pub fn pass<V: Verdicts>(&self, ms: u64, verdicts: &V) -> Result<PlainOutcome, AllocError>
-        ensures silent { IfOk result (λ outcome. outcome.node.reply ≡ Reply.Nothing) }
+        ensures sent { IfOk result (λ outcome. outcome.sent ≡ []) }
         ensures plan { let given = given_to self.now (V.roots verdicts.now) (V.csrs verdicts.now) (V.joins verdicts.now) in
-            IfOk result (IsActionPlan given self.now.state self.now.history Action.Nothing ms) }
+            IfOk result (IsDone given self.now.state self.now.ledger (acts Action.Nothing) ms) }
     {
-        let node = self.node.plan(&Action::Nothing, ms, verdicts)?;
-        self.outcome(SentList::new(self.alloc), ms, node, None)
+        let none = SentList::new(self.alloc);
+        self.passing(none, ms, SubsBehind::Same, verdicts)
     }
 
     /// The actor of a session, None exactly where the session is not live.
@@ -132,6 +209,24 @@ impl Plain {
         ensures { result ≡ session_actor self.now.state.node session }
     {
         self.node.actor(session)
+    }
+}
+
+// What a confirmation is answered.
+fn confirm_reply(id: u32, kept: Option<&Kept>) -> Reply
+    ensures { result ≡ confirm_reply id (option_copied kept.entry) }
+{
+    match kept {
+        Some(kept) => {
+            if kept.primed {
+                return Reply::Nothing;
+            }
+            Reply::Subscribed {
+                id,
+                ceiling: kept.sub.ceiling,
+            }
+        },
+        None => Reply::Nothing,
     }
 }
 

@@ -27,7 +27,7 @@ abbrev pub behind : Begun → Event → Begun
 behind begun event = record begun { whole = next begun.given begun.whole event }
 
 abbrev pub is_built : Begun → Event → Bool
-is_built begun event = lines.is_built begun.whole event
+is_built begun event = lines.is_built event
 
 -- A node as the code has it stands for this one.
 pub record IsPlayerOf (player : Player) (begun : Begun) : Type 0 where

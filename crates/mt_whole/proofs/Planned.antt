@@ -1,33 +1,38 @@
 -- From what comes over one session to what comes of a line.
-use Rattle.std.proofs.Common.{◌≡◌, ℕ, inl, inr, Bool, List, [], ◌∷◌, Option, Some, None, Result, Ok, Err, IfOk, refl, sym, ap, subst, ◌∙◌, map, if◌then◌else◌}
+use Rattle.std.proofs.Common.{◌≡◌, ℕ, inl, inr, Bool, true, false, List, [], ◌∷◌, Option, Some, None, Result, Ok, Err, IfOk, refl, sym, ap, subst, ◌∙◌, map, if◌then◌else◌}
 use Rattle.std.proofs.lemmas.Bool.{cases_Bool, eqb-true}
 use Rattle.std.specs.List.{find}
-use Rattle.mt_model.specs.declared.node.action.Action.{Action}
+use Rattle.mt_im.specs.Reading.{request_in}
+use Rattle.mt_im_out.specs.Chunks.{chunks_of}
 use Rattle.mt_model.specs.declared.messages.message.Payload.{Payload}
+use Rattle.mt_model.specs.declared.messages.message.Reply.{Reply}
+use Rattle.mt_model.specs.declared.node.action.Action.TheVariants as actions
 use Rattle.mt_model.specs.declared.node.state.NodeState.{NodeState}
 use Rattle.mt_model.specs.declared.texts.recording.Event.{Event}
 use Rattle.mt_model.specs.declared.texts.recording.Event.TheVariants as events
+use Rattle.mt_model.specs.declared.texts.recording.Sent.{Sent}
 use Rattle.mt_outside.specs.declared.network.Peer.{Peer}
 use Rattle.mt_exchange.specs.declared.exchange.Key.{Key}
 use Rattle.mt_talk.specs.Hearing.{Said}
-use Rattle.mt_talk.specs.Talks.{Talk}
+use Rattle.mt_talk.specs.Talks.{Talk, after_report, after_resend, ended_in, report_in, resent_in, sent_by}
 use Rattle.mt_machine.specs.Given.{Given}
-use Rattle.mt_machine.specs.Lines as machine
-use Rattle.mt_machine.specs.Lines.{behind_action}
+use Rattle.mt_machine.specs.Lines.{behind_action, line_actor}
 use Rattle.mt_machine.specs.State.{State}
 use Rattle.mt_machine.specs.Step.{Aside, closed_between}
-use Rattle.mt_lines.specs.Datagrams.{Answer, action_said, all_sent, answer_to, datagram_of, heard, if_any, is_built_said, its_answer, resent_talk, sent_over, session_named, talked}
+use Rattle.mt_ledger.specs.Behind.{acts, action_in, ends, ledger_behind, reports}
+use Rattle.mt_ledger.specs.Ledger.{Ledger}
+use Rattle.mt_ledger.specs.Reporting.{Due, due_now, due_report}
+use Rattle.mt_lines.specs.Datagrams.{Answer, all_sent, answer_to, datagram_of, doing_said, heard, if_any, its_answer, resent_talk, sent_over, session_named, talked}
 use Rattle.mt_lines.specs.Lines as lines
-use Rattle.mt_lines.specs.Lines.{action_named, history_after, history_plainly, is_built_named, next, resent_named, sent_named, sent_plainly, state_behind, talks_behind, with_next}
-use Rattle.mt_lines.specs.Whole.{SessionTalk, Whole, is_talk_of, talk_of, with_talk, without_ended}
+use Rattle.mt_lines.specs.Lines.{doing_again, doing_named, ledger_after, next, resent_named, sent_due, sent_named, sent_to, state_behind, talks_behind, talks_due, talks_told, with_next}
+use Rattle.mt_lines.specs.Whole.{SessionTalk, Whole, fabric_over, is_live, is_talk_of, talk_of, with_talk, without_ended}
 use Rattle.mt_whole.specs.declared.outcome.WholeOutcome.{WholeOutcome}
 use Rattle.mt_whole.specs.declared.talks.SessionTalk as code
-use Rattle.mt_history.specs.Behind.{history_behind}
-use Rattle.mt_history.specs.History.{History}
-use Rattle.mt_plain.specs.Plan.{IsPlainPlanned, applied_plain}
+use Rattle.mt_plain.specs.Plan.{IsDone, IsLine, IsPlainPlanned, IsTick, applied_ledger, applied_plain}
+use Rattle.mt_plain.specs.Reporting.{payloads_if_session, reported_over, sent_if_plain, sent_plainly}
 use Rattle.mt_plain.specs.declared.outcome.PlainOutcome.{PlainOutcome}
 use Rattle.mt_whole.specs.declared.datagrams.Answering.{Answering}
-use Rattle.mt_whole.specs.Plan.{IsAgain, IsAnsweredIf, IsHeardIf, IsNewTalk, IsPlainLineIf, IsPlanIf, IsPlannedIf, IsQuiet, IsTalkBehind, IsWholePlan, fresh_by_line, fresh_named, told_fresh}
+use Rattle.mt_whole.specs.Plan.{IsAgain, IsAnswered, IsHeard, IsNewTalk, IsPlainly, IsQuiet, IsTalkBehind, IsToldOver, IsWholePlan, answer_as, fresh_by_line, fresh_named, told_fresh}
 use Rattle.mt_whole.specs.Talks.{AreTalks, IsFoundAs, IsTalkAt, is_code_of, put}
 use Rattle.mt_whole.proofs.Listed.{found_as, put_as, some_is, with_same}
 
@@ -60,58 +65,81 @@ replaced_or_same id None t talk talks ts is stays are =
 replaced_or_same id (Some made) t talk talks ts is new are = replaced id (Some made) t talk talks ts is new are
 
 -- A datagram that names no session of the boot.
-pub unheard : (given : Given) (w : Whole) (ms : ℕ) (from : Peer) (bytes : List ℕ) (outcome : WholeOutcome) → talk_of (session_named bytes) w.talks ≡ None → IsQuiet given w.state w.history ms outcome
-    → IsPlanIf given w (events.Datagram ms from bytes) (Some outcome)
-unheard given w ms from bytes outcome none quiet = (
-  ap (is_built_named w.state.node bytes) none,
-  record {
-    sent = quiet.sent ∙ ap (sent_named given w.state.node w.history ms from bytes) (sym none);
-    fresh = ap told_fresh quiet.fresh ∙ ap (fresh_named bytes) (sym none);
-    state = quiet.state ∙ ap (λ (o : Option SessionTalk). behind_action given w.state (action_named w.state.node bytes o) ms) (sym none);
-    history = quiet.history ∙ ap (λ (o : Option SessionTalk). history_behind given w.state.node (action_named w.state.node bytes o) ms w.history) (sym none);
-    talks = λ talks are. subst (λ (o : Option code.SessionTalk). AreTalks (put o talks) (with_next (talked given w.state.node w.history ms from bytes) (talk_of (session_named bytes) w.talks) w.talks)) (sym quiet.talk)
-        (subst (λ (o : Option SessionTalk). AreTalks talks (with_next (talked given w.state.node w.history ms from bytes) o w.talks)) (sym none) are);
-  },
-)
+pub unheard : (given : Given) (w : Whole) (ms : ℕ) (from : Peer) (bytes : List ℕ) (outcome : WholeOutcome) → talk_of (session_named bytes) w.talks ≡ None → IsQuiet given w.state w.ledger ms outcome
+    → IsWholePlan given w (events.Datagram ms from bytes) outcome
+unheard given w ms from bytes outcome none quiet = record {
+  sent = quiet.sent ∙ ap (sent_named given w.state.node w.ledger ms from bytes) (sym none);
+  fresh = ap told_fresh quiet.fresh ∙ ap (fresh_named bytes) (sym none);
+  state = quiet.state ∙ ap (λ (o : Option SessionTalk). behind_action given w.state (action_in (doing_named w.state.node bytes o)) ms) (sym none);
+  ledger = quiet.ledger ∙ ap (λ (o : Option SessionTalk). ledger_behind given w.state.node (doing_named w.state.node bytes o) ms w.ledger) (sym none);
+  talks = λ talks are. subst (λ (o : Option code.SessionTalk). AreTalks (put o talks) (with_next (talked given w.state.node w.ledger ms from bytes) (talk_of (session_named bytes) w.talks) w.talks)) (sym quiet.talk)
+      (subst (λ (o : Option SessionTalk). AreTalks talks (with_next (talked given w.state.node w.ledger ms from bytes) o w.talks)) (sym none) are);
+}
 
 -- A datagram that names a session, by what that hears.
-pub heard_as_planned : (given : Given) (w : Whole) (ms : ℕ) (from : Peer) (bytes : List ℕ) (id : ℕ) (t : SessionTalk) (outcome : Option WholeOutcome) → session_named bytes ≡ Some id → find (is_talk_of id) w.talks ≡ Some t
-    → IsHeardIf given w.state w.history ms from bytes t outcome → IsPlanIf given w (events.Datagram ms from bytes) outcome
-heard_as_planned given w ms from bytes id t None named is not =
+pub heard_as_planned : (given : Given) (w : Whole) (ms : ℕ) (from : Peer) (bytes : List ℕ) (id : ℕ) (t : SessionTalk) (outcome : WholeOutcome) → session_named bytes ≡ Some id → find (is_talk_of id) w.talks ≡ Some t
+    → IsHeard given w.state w.ledger ms from bytes t outcome → IsWholePlan given w (events.Datagram ms from bytes) outcome
+heard_as_planned given w ms from bytes id t outcome named is hears =
     let at : talk_of (session_named bytes) w.talks ≡ Some t = ap (λ (n : Option ℕ). talk_of n w.talks) named ∙ is in
-    ap (is_built_named w.state.node bytes) at ∙ not
-heard_as_planned given w ms from bytes id t (Some outcome) named is hears =
-    let at : talk_of (session_named bytes) w.talks ≡ Some t = ap (λ (n : Option ℕ). talk_of n w.talks) named ∙ is in (
-      ap (is_built_named w.state.node bytes) at ∙ hears.0,
-      record {
-        sent = hears.1.sent ∙ ap (sent_named given w.state.node w.history ms from bytes) (sym at);
-        fresh = hears.1.fresh ∙ ap (fresh_named bytes) (sym at);
-        state = hears.1.state ∙ ap (λ (o : Option SessionTalk). behind_action given w.state (action_named w.state.node bytes o) ms) (sym at);
-        history = hears.1.history ∙ ap (λ (o : Option SessionTalk). history_behind given w.state.node (action_named w.state.node bytes o) ms w.history) (sym at);
-        talks = λ talks are. subst (λ (o : Option SessionTalk). AreTalks (put outcome.talk talks) (with_next (talked given w.state.node w.history ms from bytes) o w.talks)) (sym at)
-            (replaced id outcome.talk t (talked given w.state.node w.history ms from bytes t) talks w.talks is hears.1.talk are);
-      },
-    )
+    record {
+      sent = hears.sent ∙ ap (sent_named given w.state.node w.ledger ms from bytes) (sym at);
+      fresh = hears.fresh ∙ ap (fresh_named bytes) (sym at);
+      state = hears.state ∙ ap (λ (o : Option SessionTalk). behind_action given w.state (action_in (doing_named w.state.node bytes o)) ms) (sym at);
+      ledger = hears.ledger ∙ ap (λ (o : Option SessionTalk). ledger_behind given w.state.node (doing_named w.state.node bytes o) ms w.ledger) (sym at);
+      talks = λ talks are. subst (λ (o : Option SessionTalk). AreTalks (put outcome.talk talks) (with_next (talked given w.state.node w.ledger ms from bytes) o w.talks)) (sym at)
+          (replaced id outcome.talk t (talked given w.state.node w.ledger ms from bytes t) talks w.talks is hears.talk are);
+    }
 
 -- A resend that names no session of the boot.
-pub unsent : (given : Given) (w : Whole) (ms id : ℕ) (outcome : WholeOutcome) → find (is_talk_of id) w.talks ≡ None → IsQuiet given w.state w.history ms outcome → IsWholePlan given w (events.Resend ms id) outcome
+pub unsent : (given : Given) (w : Whole) (ms id : ℕ) (outcome : WholeOutcome) → find (is_talk_of id) w.talks ≡ None → IsQuiet given w.state w.ledger ms outcome → IsWholePlan given w (events.Resend ms id) outcome
 unsent given w ms id outcome none quiet = record {
   sent = quiet.sent ∙ ap (resent_named w.state.node ms) (sym none);
   fresh = ap told_fresh quiet.fresh;
   state = quiet.state;
-  history = quiet.history;
+  ledger = quiet.ledger ∙ ap (λ (o : Option SessionTalk). ledger_behind given w.state.node (doing_again w.state.node ms o) ms w.ledger) (sym none);
   talks = λ talks are. subst (λ (o : Option code.SessionTalk). AreTalks (put o talks) (with_next (resent_talk w.state.node ms) (talk_of (Some id) w.talks) w.talks)) (sym quiet.talk)
       (subst (λ (o : Option SessionTalk). AreTalks talks (with_next (resent_talk w.state.node ms) o w.talks)) (sym none) are);
 }
 
-pub again_as_planned : (given : Given) (w : Whole) (ms id : ℕ) (t : SessionTalk) (outcome : WholeOutcome) → find (is_talk_of id) w.talks ≡ Some t → IsAgain given w.state w.history ms t outcome → IsWholePlan given w (events.Resend ms id) outcome
+pub again_as_planned : (given : Given) (w : Whole) (ms id : ℕ) (t : SessionTalk) (outcome : WholeOutcome) → find (is_talk_of id) w.talks ≡ Some t → IsAgain given w.state w.ledger ms t outcome → IsWholePlan given w (events.Resend ms id) outcome
 again_as_planned given w ms id t outcome is again = record {
   sent = again.sent ∙ ap (resent_named w.state.node ms) (sym is);
   fresh = ap told_fresh again.fresh;
   state = again.state;
-  history = again.history;
+  ledger = again.ledger ∙ ap (λ (o : Option SessionTalk). ledger_behind given w.state.node (doing_again w.state.node ms o) ms w.ledger) (sym is);
   talks = λ talks are. subst (λ (o : Option SessionTalk). AreTalks (put outcome.talk talks) (with_next (resent_talk w.state.node ms) o w.talks)) (sym is)
       (replaced_or_same id outcome.talk t (resent_talk w.state.node ms t) talks w.talks is again.talk are);
+}
+
+-- What is sent again.
+
+-- over a session that is not live nothing is
+pub quiet_again : (given : Given) (s : State) (l : Ledger) (ms : ℕ) (t : SessionTalk) (outcome : WholeOutcome) → is_live s.node t.row.session ≡ false → IsQuiet given s l ms outcome → IsAgain given s l ms t outcome
+quiet_again given s l ms t outcome off quiet = record {
+  sent = quiet.sent ∙ ap (λ (b : Bool). if b then all_sent ms t.row.session t.talk.latest (resent_in t.row ms t.talk) else []) (sym off);
+  fresh = quiet.fresh;
+  state = quiet.state;
+  ledger = quiet.ledger ∙ ap (λ (b : Bool). ledger_behind given s.node (if b then ends (fabric_over s.node t.row.session) (ended_in t.row ms t.talk) else acts actions.Nothing) ms l) (sym off);
+  talk = subst (λ (o : Option code.SessionTalk). IsTalkBehind o t (resent_talk s.node ms t)) (sym quiet.talk) (ap (λ (b : Bool). if b then after_resend ms t.talk else t.talk) off);
+}
+
+-- over one that is live these are, and these subscriptions end
+pub again_over : (given : Given) (s : State) (l : Ledger) (ms : ℕ) (t : SessionTalk) (id : ℕ) (peer : Option Peer) (datagrams : List (List ℕ)) (ids : List ℕ) (outcome : WholeOutcome) → is_live s.node t.row.session ≡ true → id ≡ t.row.session
+    → outcome.sent ≡ all_sent ms id peer datagrams → peer ≡ t.talk.latest → datagrams ≡ resent_in t.row ms t.talk → outcome.fresh ≡ None → IsDone given s l (ends (fabric_over s.node id) ids) ms outcome.plain → ids ≡ ended_in t.row ms t.talk
+    → IsTalkBehind outcome.talk t (after_resend ms t.talk) → IsAgain given s l ms t outcome
+again_over given s l ms t id peer datagrams ids outcome on its sent there are fresh done ended talk = record {
+  sent = sent
+      ∙ ap (λ (n : ℕ). all_sent ms n peer datagrams) its
+      ∙ ap (λ (o : Option Peer). all_sent ms t.row.session o datagrams) there
+      ∙ ap (all_sent ms t.row.session t.talk.latest) are
+      ∙ ap (λ (b : Bool). if b then all_sent ms t.row.session t.talk.latest (resent_in t.row ms t.talk) else []) (sym on);
+  fresh = fresh;
+  state = done.state;
+  ledger = done.ledger
+      ∙ ap (λ (n : ℕ). ledger_behind given s.node (ends (fabric_over s.node n) ids) ms l) its
+      ∙ ap (λ (gone : List ℕ). ledger_behind given s.node (ends (fabric_over s.node t.row.session) gone) ms l) ended
+      ∙ ap (λ (b : Bool). ledger_behind given s.node (if b then ends (fabric_over s.node t.row.session) (ended_in t.row ms t.talk) else acts actions.Nothing) ms l) (sym on);
+  talk = subst (λ (b : Bool). IsTalkBehind outcome.talk t (if b then after_resend ms t.talk else t.talk)) (sym on) talk;
 }
 
 -- What is found of the written ones, by what is found of those of the code.
@@ -134,10 +162,14 @@ pub if_ok : {X E : Type 0} (result : Result X E) (P Q : X → Type 0) → ((x : 
 if_ok (Ok x) P Q by holds = by x holds
 if_ok (Err e) P Q by holds = tt
 
+pub if_ok_both : {X E : Type 0} (result : Result X E) (P Q R : X → Type 0) → ((x : X) → P x → Q x → R x) → IfOk result P → IfOk result Q → IfOk result R
+if_ok_both (Ok x) P Q R by one other = by x one other
+if_ok_both (Err e) P Q R by one other = tt
+
 -- Where a session's datagram is sent, and which.
-pub sent_as_heard : (given : Given) (s : State) (h : History) (ms : ℕ) (from : Peer) (bytes : List ℕ) (t : SessionTalk) (id : ℕ) (peer : Option Peer) (datagram : Option (List ℕ)) → id ≡ t.row.session → peer ≡ (heard s.node from bytes t).latest
-    → datagram ≡ datagram_of t.row (heard s.node from bytes t) (its_answer given s.node h ms bytes t) → all_sent ms id peer (if_any datagram) ≡ sent_over given s.node h ms from bytes t
-sent_as_heard given s h ms from bytes t id peer datagram its there is =
+pub sent_as_heard : (given : Given) (s : State) (l : Ledger) (ms : ℕ) (from : Peer) (bytes : List ℕ) (t : SessionTalk) (id : ℕ) (peer : Option Peer) (datagram : Option (List ℕ)) → id ≡ t.row.session → peer ≡ (heard s.node from bytes t).latest
+    → datagram ≡ datagram_of t.row (heard s.node from bytes t) (its_answer given s.node l ms bytes t) → all_sent ms id peer (if_any datagram) ≡ sent_over given s.node l ms from bytes t
+sent_as_heard given s l ms from bytes t id peer datagram its there is =
     ap (λ (n : ℕ). all_sent ms n peer (if_any datagram)) its
     ∙ ap (λ (o : Option Peer). all_sent ms t.row.session o (if_any datagram)) there
     ∙ ap (λ (o : Option (List ℕ)). all_sent ms t.row.session (heard s.node from bytes t).latest (if_any o)) is
@@ -146,62 +178,146 @@ sent_as_heard given s h ms from bytes t id peer datagram its there is =
 abbrev pub answering : Key → Option ℕ → List Payload → Option Answer
 answering key acknowledge payloads = Some (record { key = key; acknowledge = acknowledge; payloads = payloads })
 
--- Two things that are said come to the same.
-pub answered_alike : (given : Given) (s : State) (h : History) (id ms : ℕ) (a b : Said) → is_built_said a ≡ is_built_said b → answer_to given s.node h id ms a ≡ answer_to given s.node h id ms b → action_said id a ≡ action_said id b
-    → (both : Option (Option Answering × PlainOutcome)) → IsAnsweredIf given s h id ms a both → IsAnsweredIf given s h id ms b both
-answered_alike given s h id ms a b built answer action None not = sym built ∙ not
-answered_alike given s h id ms a b built answer action (Some both) its = (
-  sym built ∙ its.0,
-  record {
-    answer = its.1.answer ∙ answer;
-    state = its.1.state ∙ ap (λ (x : Action). behind_action given s x ms) action;
-    history = its.1.history ∙ ap (λ (x : Action). history_behind given s.node x ms h) action;
-    planned = its.1.planned;
-  },
-)
+pub answered_with : (given : Given) (s : State) (l : Ledger) (id ms : ℕ) (said : Said) (key : Key) (acknowledge : Option ℕ) (payloads : List Payload) (made : Answering) (plain : PlainOutcome)
+    → made ≡ record { key = key; acknowledge = acknowledge; payloads = payloads } → answering key acknowledge payloads ≡ answer_to given s.node l id ms said → IsDone given s l (doing_said s.node id said) ms plain
+    → IsAnswered given s l id ms said (Some made, plain)
+answered_with given s l id ms said key acknowledge payloads made plain is answer done = record {
+  answer = ap (λ (x : Answering). answer_as (Some x)) is ∙ answer;
+  state = done.state;
+  ledger = done.ledger;
+  planned = done.planned;
+}
 
--- An event that is of no session.
+-- What is of no session.
 
-pub plain_is_planned : (given : Given) (s : State) (h : History) (event : Event) (outcome : Option WholeOutcome) → IsPlainLineIf given s h event outcome → IsPlannedIf s h outcome
-plain_is_planned given s h event None its = tt
-plain_is_planned given s h event (Some outcome) its = its.1.planned
+-- it was planned on the state
+pub plainly_planned : (s : State) (l : Ledger) (plain : PlainOutcome) (outcome : WholeOutcome) → IsPlainly plain outcome → IsPlainPlanned s l plain → IsPlainPlanned s l outcome.plain
+plainly_planned s l plain outcome its planned = subst (IsPlainPlanned s l) (sym its.plain) (record { node = planned.node; recordable = planned.recordable })
 
-plain_plan : (given : Given) (w : Whole) (event : Event) → lines.sent given w event ≡ sent_plainly given w.state w.history event → fresh_by_line w event ≡ None → state_behind given w event ≡ machine.next given w.state event
-    → history_after given w event ≡ history_plainly given w.state event w.history → talks_behind given w event ≡ w.talks
-    → lines.is_built w event ≡ machine.is_built event → (outcome : Option WholeOutcome) → IsPlainLineIf given w.state w.history event outcome → IsPlanIf given w event outcome
-plain_plan given w event sent_same no_fresh state_same history_same talks_same built_same None not = built_same ∙ not
-plain_plan given w event sent_same no_fresh state_same history_same talks_same built_same (Some outcome) h = (
-  built_same ∙ h.0,
-  record {
-    sent = h.1.sent ∙ sym sent_same;
-    fresh = ap told_fresh h.1.fresh ∙ sym no_fresh;
-    state = h.1.state ∙ sym state_same;
-    history = h.1.history ∙ sym history_same;
-    talks = λ talks are. subst (λ (o : Option code.SessionTalk). AreTalks (put o talks) (talks_behind given w event)) (sym h.1.talk) (subst (λ (ts : List SessionTalk). AreTalks talks ts) (sym talks_same) are);
-  },
-)
+pub plainly_as_planned : (given : Given) (w : Whole) (event : Event) (plain : PlainOutcome) (outcome : WholeOutcome) → IsPlainly plain outcome → plain.sent ≡ lines.sent given w event → fresh_by_line w event ≡ None
+    → applied_plain plain w.state ≡ state_behind given w event → applied_ledger plain w.state w.ledger ≡ ledger_after given w event → talks_behind given w event ≡ w.talks → IsWholePlan given w event outcome
+plainly_as_planned given w event plain outcome its sent_same no_fresh state_same ledger_same talks_same = record {
+  sent = its.sent ∙ sent_same;
+  fresh = ap told_fresh its.fresh ∙ sym no_fresh;
+  state = ap (λ (p : PlainOutcome). applied_plain p w.state) its.plain ∙ state_same;
+  ledger = ap (λ (p : PlainOutcome). applied_ledger p w.state w.ledger) its.plain ∙ ledger_same;
+  talks = λ talks are. subst (λ (o : Option code.SessionTalk). AreTalks (put o talks) (talks_behind given w event)) (sym its.talk) (subst (λ (ts : List SessionTalk). AreTalks talks ts) (sym talks_same) are);
+}
 
-pub plain_as_planned : (given : Given) (w : Whole) (event : Event) → ((ms : ℕ) (from : Peer) (bytes : List ℕ) → event ≡ events.Datagram ms from bytes → ⊥) → ((ms id : ℕ) → event ≡ events.Resend ms id → ⊥)
-    → (outcome : Option WholeOutcome) → IsPlainLineIf given w.state w.history event outcome → IsPlanIf given w event outcome
-plain_as_planned given w (events.Ask ms fabric node cats opcode payload) no_datagram no_resend outcome h = plain_plan given w (events.Ask ms fabric node cats opcode payload) refl refl refl refl refl refl outcome h
-plain_as_planned given w (events.Datagram ms from bytes) no_datagram no_resend outcome h = absurd (no_datagram ms from bytes refl)
-plain_as_planned given w (events.Tick ms) no_datagram no_resend outcome h = plain_plan given w (events.Tick ms) refl refl refl refl refl refl outcome h
-plain_as_planned given w (events.Report ms fabric id) no_datagram no_resend outcome h = plain_plan given w (events.Report ms fabric id) refl refl refl refl refl refl outcome h
-plain_as_planned given w (events.Resend ms id) no_datagram no_resend outcome h = absurd (no_resend ms id refl)
-plain_as_planned given w (events.Stop calls fate) no_datagram no_resend outcome h = plain_plan given w (events.Stop calls fate) refl refl refl refl refl refl outcome h
+pub asked_as_planned : (given : Given) (w : Whole) (ms fabric node : ℕ) (cats : List ℕ) (opcode : ℕ) (payload : List ℕ) (plain : PlainOutcome) (outcome : WholeOutcome) → IsPlainly plain outcome
+    → IsLine given w.state w.ledger ms (line_actor fabric node cats) (request_in opcode payload) plain → IsWholePlan given w (events.Ask ms fabric node cats opcode payload) outcome
+asked_as_planned given w ms fabric node cats opcode payload plain outcome its line = plainly_as_planned given w (events.Ask ms fabric node cats opcode payload) plain outcome its line.sent refl line.state line.ledger refl
+
+pub tick_as_planned : (given : Given) (w : Whole) (ms : ℕ) (plain : PlainOutcome) (outcome : WholeOutcome) → IsPlainly plain outcome → IsTick given w.state w.ledger ms plain → IsWholePlan given w (events.Tick ms) outcome
+tick_as_planned given w ms plain outcome its tick = plainly_as_planned given w (events.Tick ms) plain outcome its tick.sent refl tick.state tick.ledger refl
+
+-- A report, which is told to a plain actor, or over the session of the subscriber.
+
+-- these payloads, over a session
+abbrev pub told_to : ℕ → List Payload → Option SessionTalk → List Sent
+told_to ms payloads None = []
+told_to ms payloads (Some t) = all_sent ms t.row.session t.talk.latest (if_any (sent_by (report_in t.row t.talk payloads)))
+
+abbrev pub talk_told : ℕ → ℕ → List Payload → SessionTalk → Talk
+talk_told ms id payloads t = after_report t.row id payloads ms t.talk
+
+-- nothing is told over a session: what is sent is sent at once
+pub record IsToldAtOnce (at_once all : List Sent) (talks behind : List SessionTalk) : Type 0 where
+  pub sent : at_once ≡ all
+  pub stay : behind ≡ talks
+
+-- these payloads are told over this session, and nothing at once
+pub record IsToldTo (ms id session : ℕ) (payloads : List Payload) (at_once all : List Sent) (talks behind : List SessionTalk) : Type 0 where
+  pub none : at_once ≡ []
+  pub sent : all ≡ told_to ms payloads (talk_of (Some session) talks)
+  pub next : behind ≡ with_next (talk_told ms id payloads) (talk_of (Some session) talks) talks
+
+to_plain : (ms fabric id : ℕ) (report : Reply) (talks : List SessionTalk) (session : Option ℕ) → payloads_if_session report session ≡ None
+    → IsToldAtOnce (sent_if_plain ms fabric report session) (sent_to ms fabric report talks session) talks (talks_told ms id report talks session)
+to_plain ms fabric id report talks None none = record { sent = refl; stay = refl }
+to_plain ms fabric id report talks (Some session) none = absurd (cc)
+
+pub due_to_plain : (s : NodeState) (l : Ledger) (talks : List SessionTalk) (ms fabric id : ℕ) (due : Option Due) → reported_over s l.history fabric id due ≡ None
+    → IsToldAtOnce (sent_plainly s l.history ms fabric id due) (sent_due s l talks ms fabric id due) talks (talks_due s l talks ms fabric id due)
+due_to_plain s l talks ms fabric id None none = record { sent = refl; stay = refl }
+due_to_plain s l talks ms fabric id (Some due) none = to_plain ms fabric id (due_report s l.history fabric id due) talks due.kept.sub.actor.session none
+
+pair_in : ℕ × List Payload → Option (ℕ × List Payload) → ℕ × List Payload
+pair_in x None = x
+pair_in x (Some y) = y
+
+pair_is : (x y : ℕ × List Payload) → Some x ≡ Some y → x ≡ y
+unfolding pair_in
+pair_is x y same = ap (λ (o : Option (ℕ × List Payload)). pair_in x o) same
+
+to_session : (ms fabric id : ℕ) (report : Reply) (talks : List SessionTalk) (named : Option ℕ) (session : ℕ) (payloads : List Payload) → payloads_if_session report named ≡ Some (session, payloads)
+    → IsToldTo ms id session payloads (sent_if_plain ms fabric report named) (sent_to ms fabric report talks named) talks (talks_told ms id report talks named)
+to_session ms fabric id report talks None session payloads is = absurd (cc)
+to_session ms fabric id report talks (Some named) session payloads is =
+    let same : (named, chunks_of report) ≡ (session, payloads) = pair_is (named, chunks_of report) (session, payloads) is in
+    subst (λ (x : ℕ × List Payload). IsToldTo ms id x.0 x.1 [] (sent_to ms fabric report talks (Some named)) talks (talks_told ms id report talks (Some named))) same
+    (over_session ms fabric id report talks named)
+  where
+    over_named : (ms id : ℕ) (report : Reply) (o : Option SessionTalk) → lines.reported_over ms report o ≡ told_to ms (chunks_of report) o
+    over_named ms id report None = refl
+    over_named ms id report (Some t) = refl
+
+    over_session : (ms fabric id : ℕ) (report : Reply) (talks : List SessionTalk) (named : ℕ)
+        → IsToldTo ms id named (chunks_of report) [] (sent_to ms fabric report talks (Some named)) talks (talks_told ms id report talks (Some named))
+    over_session ms fabric id report talks named = record { none = refl; sent = over_named ms id report (talk_of (Some named) talks); next = refl }
+
+pub due_to_session : (s : NodeState) (l : Ledger) (talks : List SessionTalk) (ms fabric id : ℕ) (due : Option Due) (session : ℕ) (payloads : List Payload) → reported_over s l.history fabric id due ≡ Some (session, payloads)
+    → IsToldTo ms id session payloads (sent_plainly s l.history ms fabric id due) (sent_due s l talks ms fabric id due) talks (talks_due s l talks ms fabric id due)
+due_to_session s l talks ms fabric id None session payloads is = absurd (cc)
+due_to_session s l talks ms fabric id (Some due) session payloads is = to_session ms fabric id (due_report s l.history fabric id due) talks due.kept.sub.actor.session session payloads is
+
+-- what the plain makes of a report step
+pub record IsReported (given : Given) (s : State) (l : Ledger) (ms fabric id : ℕ) (over : Option (ℕ × List Payload)) (plain : PlainOutcome) : Type 0 where
+  pub due : over ≡ reported_over s.node l.history fabric id (due_now s.node l ms fabric id)
+  pub sent : plain.sent ≡ sent_plainly s.node l.history ms fabric id (due_now s.node l ms fabric id)
+  pub done : IsDone given s l (reports fabric id) ms plain
+
+-- nothing is told over a session
+pub reported_at_once : (given : Given) (w : Whole) (ms fabric id : ℕ) (plain : PlainOutcome) (outcome : WholeOutcome) → IsReported given w.state w.ledger ms fabric id None plain → IsPlainly plain outcome
+    → IsWholePlan given w (events.Report ms fabric id) outcome
+reported_at_once given w ms fabric id plain outcome made its =
+    let told = due_to_plain w.state.node w.ledger w.talks ms fabric id (due_now w.state.node w.ledger ms fabric id) (sym made.due) in
+    plainly_as_planned given w (events.Report ms fabric id) plain outcome its (made.sent ∙ told.sent) refl made.done.state made.done.ledger told.stay
+
+-- it is told over a session that is none of the boot: nothing is sent
+pub reported_to_nobody : (given : Given) (w : Whole) (ms fabric id session : ℕ) (payloads : List Payload) (plain : PlainOutcome) (outcome : WholeOutcome) → IsReported given w.state w.ledger ms fabric id (Some (session, payloads)) plain → IsPlainly plain outcome
+    → find (is_talk_of session) w.talks ≡ None → IsWholePlan given w (events.Report ms fabric id) outcome
+reported_to_nobody given w ms fabric id session payloads plain outcome made its none =
+    let told = due_to_session w.state.node w.ledger w.talks ms fabric id (due_now w.state.node w.ledger ms fabric id) session payloads (sym made.due) in
+    plainly_as_planned given w (events.Report ms fabric id) plain outcome its (made.sent ∙ told.none ∙ ap (told_to ms payloads) (sym none) ∙ sym told.sent) refl made.done.state made.done.ledger
+    (told.next ∙ ap (λ (o : Option SessionTalk). with_next (talk_told ms id payloads) o w.talks) none)
+
+-- it is told over this session
+pub reported_as_planned : (given : Given) (w : Whole) (ms fabric id session : ℕ) (payloads : List Payload) (plain : PlainOutcome) (t : SessionTalk) (outcome : WholeOutcome)
+    → IsReported given w.state w.ledger ms fabric id (Some (session, payloads)) plain → find (is_talk_of session) w.talks ≡ Some t → outcome.plain ≡ plain → IsToldOver ms id payloads t outcome → IsWholePlan given w (events.Report ms fabric id) outcome
+reported_as_planned given w ms fabric id session payloads plain t outcome made is same its =
+    let told = due_to_session w.state.node w.ledger w.talks ms fabric id (due_now w.state.node w.ledger ms fabric id) session payloads (sym made.due) in
+    record {
+      sent = its.sent ∙ ap (told_to ms payloads) (sym is) ∙ sym told.sent;
+      fresh = ap told_fresh its.fresh;
+      state = ap (λ (p : PlainOutcome). applied_plain p w.state) same ∙ made.done.state;
+      ledger = ap (λ (p : PlainOutcome). applied_ledger p w.state w.ledger) same ∙ made.done.ledger;
+      talks = λ talks are. subst (λ (ts : List SessionTalk). AreTalks (put outcome.talk talks) ts) (sym (told.next ∙ ap (λ (o : Option SessionTalk). with_next (talk_told ms id payloads) o w.talks) is))
+          (replaced session outcome.talk t (talk_told ms id payloads t) talks w.talks is its.talk are);
+    }
 
 -- The sessions that end with an outcome.
 
-closed_is : (s : State) (h : History) (outcome : PlainOutcome) → IsPlainPlanned s h outcome → outcome.node.closed ≡ closed_between s.node.sessions (applied_plain outcome s).node.sessions
-closed_is s h outcome planned = ap (λ (a : Aside). a.closed) planned.node.1.1.1.aside ∙ ap (λ (n : NodeState). closed_between s.node.sessions n.sessions) (sym planned.node.1.1.1.state)
+closed_is : (s : State) (l : Ledger) (outcome : PlainOutcome) → IsPlainPlanned s l outcome → outcome.node.closed ≡ closed_between s.node.sessions (applied_plain outcome s).node.sessions
+closed_is s l outcome planned = ap (λ (a : Aside). a.closed) planned.node.1.1.1.aside ∙ ap (λ (n : NodeState). closed_between s.node.sessions n.sessions) (sym planned.node.1.1.1.state)
 
 -- The talks behind an event, of which those that end have let go.
-pub talks_applied : (given : Given) (w : Whole) (event : Event) (s : State) (h : History) (outcome : WholeOutcome) (talks behind : List code.SessionTalk) (closed : List ℕ) → s ≡ w.state → IsPlainPlanned s h outcome.plain → IsWholePlan given w event outcome
+pub talks_applied : (given : Given) (w : Whole) (event : Event) (s : State) (l : Ledger) (outcome : WholeOutcome) (talks behind : List code.SessionTalk) (closed : List ℕ) → s ≡ w.state → IsPlainPlanned s l outcome.plain → IsWholePlan given w event outcome
     → AreTalks talks w.talks → closed ≡ outcome.plain.node.closed → ((ts : List SessionTalk) → AreTalks (put outcome.talk talks) ts → AreTalks behind (map (without_ended closed) ts)) → AreTalks behind (next given w event).talks
-talks_applied given w event s h outcome talks behind closed same planned plan are ended lets_go =
+talks_applied given w event s l outcome talks behind closed same planned plan are ended lets_go =
     let ended_is : closed ≡ closed_between w.state.node.sessions (state_behind given w event).node.sessions =
     ended
-    ∙ closed_is s h outcome.plain planned
+    ∙ closed_is s l outcome.plain planned
     ∙ ap (λ (x : State). closed_between x.node.sessions (applied_plain outcome.plain x).node.sessions) same
     ∙ ap (λ (x : State). closed_between w.state.node.sessions x.node.sessions) plan.state in
     subst (λ (gone : List ℕ). AreTalks behind (map (without_ended gone) (talks_behind given w event))) ended_is (lets_go (talks_behind given w event) (plan.talks talks are))

@@ -11,18 +11,18 @@ use Rattle.mt_outside.specs.declared.network.Peer.{Peer}
 use Rattle.mt_frame.specs.declared.header.ProtocolHeader.{ProtocolHeader}
 use Rattle.mt_session.specs.Opening.{Arrival}
 use Rattle.mt_talk.specs.Hearing.{Said, fresh_by, received_in}
-use Rattle.mt_talk.specs.Talks.{IsTalkOf, Talk}
+use Rattle.mt_model.specs.declared.messages.message.Payload.{Payload}
+use Rattle.mt_talk.specs.Talks.{IsTalkOf, Talk, after_report, report_in, sent_by}
 use Rattle.mt_machine.specs.Given.{Given}
-use Rattle.mt_machine.specs.Lines as machine
 use Rattle.mt_machine.specs.Lines.{behind_action}
 use Rattle.mt_machine.specs.State.{State}
-use Rattle.mt_lines.specs.Datagrams.{Answer, action_said, answer_to, is_built_said, resent_over, resent_talk, said_to, sent_over, session_named, talked}
-use Rattle.mt_history.specs.Behind.{history_behind}
-use Rattle.mt_history.specs.History.{History}
-use Rattle.mt_lines.specs.Lines.{history_after, history_plainly, is_built, sent, sent_plainly, state_behind, talks_behind}
+use Rattle.mt_lines.specs.Datagrams.{Answer, all_sent, answer_to, doing_resent, doing_said, if_any, resent_over, resent_talk, said_to, sent_over, session_named, talked}
+use Rattle.mt_ledger.specs.Behind.{acts, action_in, ledger_behind}
+use Rattle.mt_ledger.specs.Ledger.{Ledger}
+use Rattle.mt_lines.specs.Lines.{is_built, ledger_after, sent, state_behind, talks_behind}
 use Rattle.mt_lines.specs.Whole.{SessionTalk, Whole, opened, talk_of}
 use Rattle.mt_plain.specs.Kept as plain
-use Rattle.mt_plain.specs.Plan.{IsPlainPlanned, applied_history, applied_plain}
+use Rattle.mt_plain.specs.Plan.{IsPlainPlanned, applied_ledger, applied_plain}
 use Rattle.mt_plain.specs.declared.outcome.PlainOutcome.{PlainOutcome}
 use Rattle.mt_whole.specs.declared.datagrams.Answering.{Answering}
 use Rattle.mt_whole.specs.declared.outcome.WholeOutcome.{WholeOutcome}
@@ -61,18 +61,18 @@ pub record IsWholePlan (given : Given) (w : Whole) (event : Event) (outcome : Wh
   pub sent : outcome.sent ≡ sent given w event
   pub fresh : told_fresh outcome.fresh ≡ fresh_by_line w event
   pub state : applied_plain outcome.plain w.state ≡ state_behind given w event
-  pub history : applied_history outcome.plain w.history ≡ history_after given w event
+  pub ledger : applied_ledger outcome.plain w.state w.ledger ≡ ledger_after given w event
   pub talks : (talks : List code.SessionTalk) → AreTalks talks w.talks → AreTalks (put outcome.talk talks) (talks_behind given w event)
 
 -- there is an outcome exactly where the event is built
 abbrev pub IsPlanIf : Given → Whole → Event → Option WholeOutcome → Type 0
-IsPlanIf given w event None = is_built w event ≡ false
-IsPlanIf given w event (Some outcome) = (is_built w event ≡ true) × IsWholePlan given w event outcome
+IsPlanIf given w event None = is_built event ≡ false
+IsPlanIf given w event (Some outcome) = (is_built event ≡ true) × IsWholePlan given w event outcome
 
 -- an outcome was made on this state
-abbrev pub IsPlannedIf : State → History → Option WholeOutcome → Type 0
-IsPlannedIf s h None = ⊤
-IsPlannedIf s h (Some outcome) = IsPlainPlanned s h outcome.plain
+abbrev pub IsPlannedIf : State → Ledger → Option WholeOutcome → Type 0
+IsPlannedIf s l None = ⊤
+IsPlannedIf s l (Some outcome) = IsPlainPlanned s l outcome.plain
 
 -- What comes over one session.
 
@@ -81,16 +81,12 @@ abbrev pub IsNewTalk : Option code.SessionTalk → SessionTalk → Talk → Type
 IsNewTalk None t talk = ⊥
 IsNewTalk (Some new) t talk = (new.id ≡ t.row.session) × IsTalkOf new.talk t.row talk
 
-pub record IsHeard (given : Given) (s : State) (h : History) (ms : ℕ) (from : Peer) (bytes : List ℕ) (t : SessionTalk) (outcome : WholeOutcome) : Type 0 where
-  pub sent : outcome.sent ≡ sent_over given s.node h ms from bytes t
+pub record IsHeard (given : Given) (s : State) (l : Ledger) (ms : ℕ) (from : Peer) (bytes : List ℕ) (t : SessionTalk) (outcome : WholeOutcome) : Type 0 where
+  pub sent : outcome.sent ≡ sent_over given s.node l ms from bytes t
   pub fresh : told_fresh outcome.fresh ≡ fresh_over bytes t
-  pub state : applied_plain outcome.plain s ≡ behind_action given s (action_said t.row.session (said_to s.node bytes t)) ms
-  pub history : applied_history outcome.plain h ≡ history_behind given s.node (action_said t.row.session (said_to s.node bytes t)) ms h
-  pub talk : IsNewTalk outcome.talk t (talked given s.node h ms from bytes t)
-
-abbrev pub IsHeardIf : Given → State → History → ℕ → Peer → List ℕ → SessionTalk → Option WholeOutcome → Type 0
-IsHeardIf given s h ms from bytes t None = is_built_said (said_to s.node bytes t) ≡ false
-IsHeardIf given s h ms from bytes t (Some outcome) = (is_built_said (said_to s.node bytes t) ≡ true) × IsHeard given s h ms from bytes t outcome
+  pub state : applied_plain outcome.plain s ≡ behind_action given s (action_in (doing_said s.node t.row.session (said_to s.node bytes t))) ms
+  pub ledger : applied_ledger outcome.plain s l ≡ ledger_behind given s.node (doing_said s.node t.row.session (said_to s.node bytes t)) ms l
+  pub talk : IsNewTalk outcome.talk t (talked given s.node l ms from bytes t)
 
 -- What is answered to what is said: on which exchange, with which acknowledgement, and what comes of it.
 
@@ -98,48 +94,44 @@ abbrev pub answer_as : Option Answering → Option Answer
 answer_as None = None
 answer_as (Some answer) = Some (record { key = answer.key; acknowledge = answer.acknowledge; payloads = answer.payloads })
 
-pub record IsAnswered (given : Given) (s : State) (h : History) (id ms : ℕ) (said : Said) (both : Option Answering × PlainOutcome) : Type 0 where
-  pub answer : answer_as both.0 ≡ answer_to given s.node h id ms said
-  pub state : applied_plain both.1 s ≡ behind_action given s (action_said id said) ms
-  pub history : applied_history both.1 h ≡ history_behind given s.node (action_said id said) ms h
-  pub planned : IsPlainPlanned s h both.1
+pub record IsAnswered (given : Given) (s : State) (l : Ledger) (id ms : ℕ) (said : Said) (both : Option Answering × PlainOutcome) : Type 0 where
+  pub answer : answer_as both.0 ≡ answer_to given s.node l id ms said
+  pub state : applied_plain both.1 s ≡ behind_action given s (action_in (doing_said s.node id said)) ms
+  pub ledger : applied_ledger both.1 s l ≡ ledger_behind given s.node (doing_said s.node id said) ms l
+  pub planned : IsPlainPlanned s l both.1
 
-abbrev pub IsAnsweredIf : Given → State → History → ℕ → ℕ → Said → Option (Option Answering × PlainOutcome) → Type 0
-IsAnsweredIf given s h id ms said None = is_built_said said ≡ false
-IsAnsweredIf given s h id ms said (Some both) = (is_built_said said ≡ true) × IsAnswered given s h id ms said both
+-- What is of no session, what passes, and what is sent again.
 
--- What passes, and what is sent again.
+-- what is sent is what the plain sends, and nothing is said
+pub record IsPlainly (made : PlainOutcome) (outcome : WholeOutcome) : Type 0 where
+  pub sent : outcome.sent ≡ made.sent
+  pub fresh : outcome.fresh ≡ None
+  pub plain : outcome.plain ≡ record made { sent = [] }
+  pub talk : outcome.talk ≡ None
 
 -- nothing is sent or said, and time passes
-pub record IsQuiet (given : Given) (s : State) (h : History) (ms : ℕ) (outcome : WholeOutcome) : Type 0 where
+pub record IsQuiet (given : Given) (s : State) (l : Ledger) (ms : ℕ) (outcome : WholeOutcome) : Type 0 where
   pub sent : outcome.sent ≡ []
   pub fresh : outcome.fresh ≡ None
   pub state : applied_plain outcome.plain s ≡ behind_action given s actions.Nothing ms
-  pub history : applied_history outcome.plain h ≡ history_behind given s.node actions.Nothing ms h
+  pub ledger : applied_ledger outcome.plain s l ≡ ledger_behind given s.node (acts actions.Nothing) ms l
   pub talk : outcome.talk ≡ None
-  pub planned : IsPlainPlanned s h outcome.plain
+  pub planned : IsPlainPlanned s l outcome.plain
 
 -- the talk that an outcome brings, if any, stands for this; where it brings none it stays
 abbrev pub IsTalkBehind : Option code.SessionTalk → SessionTalk → Talk → Type 0
 IsTalkBehind None t talk = talk ≡ t.talk
 IsTalkBehind (Some new) t talk = (new.id ≡ t.row.session) × IsTalkOf new.talk t.row talk
 
-pub record IsAgain (given : Given) (s : State) (h : History) (ms : ℕ) (t : SessionTalk) (outcome : WholeOutcome) : Type 0 where
+pub record IsAgain (given : Given) (s : State) (l : Ledger) (ms : ℕ) (t : SessionTalk) (outcome : WholeOutcome) : Type 0 where
   pub sent : outcome.sent ≡ resent_over s.node ms t
   pub fresh : outcome.fresh ≡ None
   pub state : applied_plain outcome.plain s ≡ behind_action given s actions.Nothing ms
-  pub history : applied_history outcome.plain h ≡ history_behind given s.node actions.Nothing ms h
+  pub ledger : applied_ledger outcome.plain s l ≡ ledger_behind given s.node (doing_resent s.node ms t) ms l
   pub talk : IsTalkBehind outcome.talk t (resent_talk s.node ms t)
 
--- An event that is of no session.
-pub record IsPlainLine (given : Given) (s : State) (h : History) (event : Event) (outcome : WholeOutcome) : Type 0 where
-  pub sent : outcome.sent ≡ sent_plainly given s h event
+-- these payloads are reported over a session
+pub record IsToldOver (ms id : ℕ) (payloads : List Payload) (t : SessionTalk) (outcome : WholeOutcome) : Type 0 where
+  pub sent : outcome.sent ≡ all_sent ms t.row.session t.talk.latest (if_any (sent_by (report_in t.row t.talk payloads)))
   pub fresh : outcome.fresh ≡ None
-  pub state : applied_plain outcome.plain s ≡ machine.next given s event
-  pub history : applied_history outcome.plain h ≡ history_plainly given s event h
-  pub talk : outcome.talk ≡ None
-  pub planned : IsPlainPlanned s h outcome.plain
-
-abbrev pub IsPlainLineIf : Given → State → History → Event → Option WholeOutcome → Type 0
-IsPlainLineIf given s h event None = machine.is_built event ≡ false
-IsPlainLineIf given s h event (Some outcome) = (machine.is_built event ≡ true) × IsPlainLine given s h event outcome
+  pub talk : IsNewTalk outcome.talk t (after_report t.row id payloads ms t.talk)

@@ -33,8 +33,8 @@ put None talks = talks
 put (Some new) [] = []
 put (Some new) (talk ∷ talks) = if talk.id == new.id then new ∷ talks else talk ∷ put (Some new) talks
 
--- THE WHOLE THAT THE CODE STANDS FOR: its node, its deadlines and its events, and lists of what was said, which nothing stores.
+-- THE WHOLE THAT THE CODE STANDS FOR: its node, its deadlines, its events and subscriptions, and lists of what was said, which nothing stores.
 pub record IsWholeOf (one : whole.Whole) (w : Whole) : Type 0 where
   pub state : one.plain.state ≡ w.state
-  pub history : one.plain.history ≡ w.history
+  pub ledger : one.plain.ledger ≡ w.ledger
   pub talks : AreTalks one.talks.items w.talks

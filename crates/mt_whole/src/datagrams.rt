@@ -1,13 +1,14 @@
 //! A datagram, from its bytes to what is sent.
 
-ghost use Rattle.std.specs.Prelude.{◌≡◌, ◌≢◌, ◌<◌, ◌^◌, ℕ, [], None, length, IfOk, OnOk};
+ghost use Rattle.std.specs.Prelude.{◌≡◌, ◌≢◌, ◌<◌, ◌^◌, None, length, IfOk, OnOk};
 ghost use Rattle.mt_model.specs.declared.texts.recording.Event.TheVariants.{Datagram};
 ghost use Rattle.mt_model.specs.declared.texts.config.SessionRow.{SessionRow};
-ghost use Rattle.mt_lines.specs.Datagrams.{behind_answer, datagram_of, session_named};
-ghost use Rattle.mt_lines.specs.Whole.{SessionTalk as ToldTalk, Whole as Told};
-ghost use Rattle.mt_talk.specs.Hearing.{answers, fresh_as, said_by};
+ghost use Rattle.mt_lines.specs.Datagrams.{behind_answer, datagram_of, ending, session_named};
+ghost use Rattle.mt_lines.specs.Whole.{SessionTalk as ToldTalk, Whole as Told, fabric_over};
+ghost use Rattle.mt_plain.specs.Plan.{IsDone, IsPlainPlanned};
+ghost use Rattle.mt_talk.specs.Hearing.{fresh_as, said_by};
 ghost use Rattle.mt_talk.specs.Talks.{IsTalkOf, Talk as Written};
-ghost use Rattle.mt_whole.specs.Plan.{IsAnsweredIf, answer_as, IsHeardIf, IsPlanIf, IsPlannedIf, given_to, told_fresh};
+ghost use Rattle.mt_whole.specs.Plan.{IsAnswered, IsHeard, IsWholePlan, answer_as, given_to, told_fresh};
 ghost use Rattle.mt_whole.specs.Talks.{IsTalkAt, IsWholeOf};
 
 use crate::outcome::WholeOutcome;
@@ -32,25 +33,24 @@ pub struct Answering {
     payloads: Payloads,
 }
 
-/// Plans a datagram from this address, None where it asks what is not built. Who names no session of this boot is not
-/// heard.
+/// Plans a datagram from this address. Who names no session of this boot is not heard.
 pub(crate) fn planned_datagram<V: Verdicts>(
     whole: &Whole,
     ms: u64,
     from: Peer,
     bytes: &Bytes,
     verdicts: &V,
-) -> Result<Option<WholeOutcome>, AllocError>
-    ensures planned { IfOk result (IsPlannedIf whole.now.plain.state whole.now.plain.history) }
+) -> Result<WholeOutcome, AllocError>
+    ensures planned { IfOk result (λ outcome. IsPlainPlanned whole.now.plain.state whole.now.plain.ledger outcome.plain) }
     ensures plan { let given = given_to whole.now (V.roots verdicts.now) (V.csrs verdicts.now) (V.joins verdicts.now) in
-        (w : Told) → IsWholeOf whole.now w → IfOk result (IsPlanIf given w (Datagram ms from bytes.now)) }
+        (w : Told) → IsWholeOf whole.now w → IfOk result (IsWholePlan given w (Datagram ms from bytes.now)) }
 {
     let Some(id) = session_named(bytes.as_slice()) else {
-        return Ok(Some(quiet(whole, ms, verdicts)?));
+        return quiet(whole, ms, verdicts);
     };
     match talk_of(&whole.talks, id) {
         Some(talk) => planned_heard(whole, ms, from, bytes, talk, verdicts),
-        None => Ok(Some(quiet(whole, ms, verdicts)?)),
+        None => quiet(whole, ms, verdicts),
     }
 }
 
@@ -76,11 +76,11 @@ fn planned_heard<V: Verdicts>(
     bytes: &Bytes,
     talk: &SessionTalk,
     verdicts: &V,
-) -> Result<Option<WholeOutcome>, AllocError>
+) -> Result<WholeOutcome, AllocError>
     requires { length bytes.now < 2 ^ 16 }
-    ensures planned { IfOk result (IsPlannedIf whole.now.plain.state whole.now.plain.history) }
+    ensures planned { IfOk result (λ outcome. IsPlainPlanned whole.now.plain.state whole.now.plain.ledger outcome.plain) }
     ensures heard { let given = given_to whole.now (V.roots verdicts.now) (V.csrs verdicts.now) (V.joins verdicts.now) in
-        (t : ToldTalk) → IsTalkAt talk.now t → IfOk result (IsHeardIf given whole.now.plain.state whole.now.plain.history ms from bytes.now t) }
+        (t : ToldTalk) → IsTalkAt talk.now t → IfOk result (IsHeard given whole.now.plain.state whole.now.plain.ledger ms from bytes.now t) }
 {
     let id = talk.id;
     let live = whole.plain.actor(id).is_some();
@@ -88,18 +88,16 @@ fn planned_heard<V: Verdicts>(
     let mut datagram = bytes.copy()?.into_vec();
     let hearing = talk.hear(live, from, &mut datagram)?;
     let fresh = fresh_of(whole.alloc, &hearing.fresh)?;
-    let Some((answer, plain)) = answered(whole, id, hearing.heard, ms, verdicts)? else {
-        return Ok(None);
-    };
+    let (answer, plain) = answered(whole, id, hearing.heard, ms, verdicts)?;
     let peer = talk.latest();
     let datagram = datagram_of(&mut talk, answer, ms)?;
     let sent = one_sent(whole.alloc, ms, id, peer, datagram)?;
-    Ok(Some(WholeOutcome {
+    Ok(WholeOutcome {
         sent,
         fresh,
         plain,
         talk: Some(SessionTalk { id, talk }),
-    }))
+    })
 }
 
 // The datagram that an answer sends, where it sends one.
@@ -117,19 +115,19 @@ fn datagram_of(
     }
 }
 
-// What is answered to what is said, and what comes of it. None where what is asked is not built.
+// What is answered to what is said, and what comes of it.
 fn answered<V: Verdicts>(
     whole: &Whole,
     id: u16,
     heard: Heard,
     ms: u64,
     verdicts: &V,
-) -> Result<Option<(Option<Answering>, PlainOutcome)>, AllocError>
+) -> Result<(Option<Answering>, PlainOutcome), AllocError>
     ensures { let given = given_to whole.now (V.roots verdicts.now) (V.csrs verdicts.now) (V.joins verdicts.now) in
-        IfOk result (IsAnsweredIf given whole.now.plain.state whole.now.plain.history id ms (said_by heard.entry)) }
+        IfOk result (IsAnswered given whole.now.plain.state whole.now.plain.ledger id ms (said_by heard.entry)) }
 {
     match heard {
-        Heard::Nothing => Ok(Some((None, whole.plain.pass(ms, verdicts)?))),
+        Heard::Nothing => Ok((None, whole.plain.pass(ms, verdicts)?)),
         Heard::Asks {
             key,
             acknowledge,
@@ -137,73 +135,66 @@ fn answered<V: Verdicts>(
             payload,
             timed,
         } => {
-            let Some(asked) = asked(whole.alloc, opcode, payload)? else {
-                return Ok(None);
-            };
+            let asked = asked(whole.alloc, opcode, payload)?;
             let (payloads, plain) = whole.plain.plan_over(id, &asked, timed, ms, verdicts)?;
-            Ok(Some((
-                Some(Answering {
-                    key,
-                    acknowledge,
-                    payloads,
-                }),
-                plain,
-            )))
+            Ok((Some(answering_with(key, acknowledge, payloads)), plain))
         },
         Heard::Confirms {
             key,
             acknowledge,
-            ..
-        } => acknowledged(whole, key, acknowledge, ms, verdicts),
+            subscription,
+        } => {
+            let (payloads, plain) = whole.plain.plan_confirm(id, subscription, ms, verdicts)?;
+            Ok((Some(answering_with(key, acknowledge, payloads)), plain))
+        },
         Heard::Ends {
             key,
             acknowledge,
-            ..
-        } => acknowledged(whole, key, acknowledge, ms, verdicts),
+            subscription,
+        } => {
+            let plain = ended(whole, id, subscription, ms, verdicts)?;
+            let none = Payloads::new(whole.alloc);
+            Ok((Some(answering_with(key, acknowledge, none)), plain))
+        },
         Heard::Answers {
             key,
             acknowledge,
             payloads,
-        } => told_at_once(whole, key, acknowledge, payloads, ms, verdicts),
+        } => {
+            let plain = whole.plain.pass(ms, verdicts)?;
+            Ok((Some(answering_with(key, acknowledge, payloads)), plain))
+        },
     }
 }
 
-// An answer that acknowledges, and says nothing else unless its exchange keeps a payload.
-fn acknowledged<V: Verdicts>(
-    whole: &Whole,
-    key: Key,
-    acknowledge: Option<u32>,
-    ms: u64,
-    verdicts: &V,
-) -> Result<Option<(Option<Answering>, PlainOutcome)>, AllocError>
-    ensures { let given = given_to whole.now (V.roots verdicts.now) (V.csrs verdicts.now) (V.joins verdicts.now) in
-        (id : ℕ) → IfOk result (IsAnsweredIf given whole.now.plain.state whole.now.plain.history id ms (answers key acknowledge [])) }
+fn answering_with(key: Key, acknowledge: Option<u32>, payloads: Payloads) -> Answering
+    ensures { result ≡ record { key = key; acknowledge = acknowledge; payloads = payloads } }
 {
-    let none = Payloads::new(whole.alloc);
-    told_at_once(whole, key, acknowledge, none, ms, verdicts)
+    Answering {
+        key,
+        acknowledge,
+        payloads,
+    }
 }
 
-// An answer for which nothing is asked of the node.
-fn told_at_once<V: Verdicts>(
+// What comes of a message in the place of a confirmation: the subscription ends whose report it was, where it was one.
+fn ended<V: Verdicts>(
     whole: &Whole,
-    key: Key,
-    acknowledge: Option<u32>,
-    payloads: Payloads,
+    id: u16,
+    subscription: Option<u32>,
     ms: u64,
     verdicts: &V,
-) -> Result<Option<(Option<Answering>, PlainOutcome)>, AllocError>
+) -> Result<PlainOutcome, AllocError>
     ensures { let given = given_to whole.now (V.roots verdicts.now) (V.csrs verdicts.now) (V.joins verdicts.now) in
-        (id : ℕ) → IfOk result (IsAnsweredIf given whole.now.plain.state whole.now.plain.history id ms (answers key acknowledge payloads)) }
+        IfOk result (IsDone given whole.now.plain.state whole.now.plain.ledger (ending (fabric_over whole.now.plain.state.node id) subscription) ms) }
 {
-    let plain = whole.plain.pass(ms, verdicts)?;
-    Ok(Some((
-        Some(Answering {
-            key,
-            acknowledge,
-            payloads,
-        }),
-        plain,
-    )))
+    match subscription {
+        Some(subscription) => {
+            let ids = vec![in whole.alloc; subscription]?;
+            whole.plain.plan_ends(id, ids, ms, verdicts)
+        },
+        None => whole.plain.pass(ms, verdicts),
+    }
 }
 
 // The message that is let in, in memory of its own.

@@ -4,6 +4,7 @@
 //! - `whole`: the whole, how it starts, plans and applies;
 //! - `outcome`: what comes of a line;
 //! - `datagrams`: a datagram, from its bytes to what is sent;
+//! - `reports`: a report step to a subscription;
 //! - `resends`: what is sent again;
 //! - `talks`: what is said over the sessions;
 //! - `sending`: what is sent to the peer of a session.
@@ -11,6 +12,7 @@
 
 mod datagrams;
 mod outcome;
+mod reports;
 mod resends;
 mod sending;
 mod talks;

@@ -1,6 +1,6 @@
 //! What is sent again.
 
-ghost use Rattle.std.specs.Prelude.{◌≡◌, IfOk};
+ghost use Rattle.std.specs.Prelude.{IfOk};
 ghost use Rattle.mt_model.specs.declared.texts.recording.Event.TheVariants.{Resend};
 ghost use Rattle.mt_lines.specs.Whole.{SessionTalk as ToldTalk, Whole as Told};
 ghost use Rattle.mt_plain.specs.Plan.{IsPlainPlanned};
@@ -21,7 +21,7 @@ pub(crate) fn planned_resend<V: Verdicts>(
     session: u16,
     verdicts: &V,
 ) -> Result<WholeOutcome, AllocError>
-    ensures planned { IfOk result (λ outcome. IsPlainPlanned whole.now.plain.state whole.now.plain.history outcome.plain) }
+    ensures planned { IfOk result (λ outcome. IsPlainPlanned whole.now.plain.state whole.now.plain.ledger outcome.plain) }
     ensures plan { let given = given_to whole.now (V.roots verdicts.now) (V.csrs verdicts.now) (V.joins verdicts.now) in
         (w : Told) → IsWholeOf whole.now w → IfOk result (IsWholePlan given w (Resend ms session)) }
 {
@@ -38,7 +38,7 @@ pub(crate) fn quiet<V: Verdicts>(
     verdicts: &V,
 ) -> Result<WholeOutcome, AllocError>
     ensures { let given = given_to whole.now (V.roots verdicts.now) (V.csrs verdicts.now) (V.joins verdicts.now) in
-        IfOk result (IsQuiet given whole.now.plain.state whole.now.plain.history ms) }
+        IfOk result (IsQuiet given whole.now.plain.state whole.now.plain.ledger ms) }
 {
     Ok(WholeOutcome {
         sent: SentList::new(whole.alloc),
@@ -48,27 +48,27 @@ pub(crate) fn quiet<V: Verdicts>(
     })
 }
 
-// Plans it on a copy of the talk, where the session is live.
+// Plans it on a copy of the talk, where the session is live. Subscriptions end whose reports were sent again in vain.
 fn planned_again<V: Verdicts>(
     whole: &Whole,
     ms: u64,
     talk: &SessionTalk,
     verdicts: &V,
 ) -> Result<WholeOutcome, AllocError>
-    ensures planned { IfOk result (λ outcome. IsPlainPlanned whole.now.plain.state whole.now.plain.history outcome.plain) }
+    ensures planned { IfOk result (λ outcome. IsPlainPlanned whole.now.plain.state whole.now.plain.ledger outcome.plain) }
     ensures again { let given = given_to whole.now (V.roots verdicts.now) (V.csrs verdicts.now) (V.joins verdicts.now) in
-        (t : ToldTalk) → IsTalkAt talk.now t → IfOk result (IsAgain given whole.now.plain.state whole.now.plain.history ms t) }
+        (t : ToldTalk) → IsTalkAt talk.now t → IfOk result (IsAgain given whole.now.plain.state whole.now.plain.ledger ms t) }
 {
     let id = talk.id;
     if whole.plain.actor(id).is_none() {
         return quiet(whole, ms, verdicts);
     }
     let mut talk = talk.talk.copy()?;
-    let (datagrams, _ends) = talk.resend(ms)?;
+    let (datagrams, ends) = talk.resend(ms)?;
     Ok(WholeOutcome {
         sent: all_sent(whole.alloc, ms, id, talk.latest(), datagrams.into_vec())?,
         fresh: None,
-        plain: whole.plain.pass(ms, verdicts)?,
+        plain: whole.plain.plan_ends(id, ends.into_vec(), ms, verdicts)?,
         talk: Some(SessionTalk { id, talk }),
     })
 }

@@ -6,20 +6,21 @@ ghost use Rattle.mt_model.specs.declared.texts.recording.Event.{Event as Line};
 ghost use Rattle.mt_plain.specs.Plan.{IsPlainPlanned};
 ghost use Rattle.mt_lines.specs.Lines.{next};
 ghost use Rattle.mt_lines.specs.Whole.{Whole as Told, fabric_live};
-ghost use Rattle.mt_whole.specs.Plan.{IsPlainLineIf, IsPlanIf, IsPlannedIf, IsStarted, IsWholePlan, given_to};
+ghost use Rattle.mt_whole.specs.Plan.{IsPlainly, IsPlanIf, IsPlannedIf, IsStarted, IsWholePlan, given_to};
 ghost use Rattle.mt_whole.specs.Talks.{IsWholeOf};
 
 use crate::datagrams::planned_datagram;
 use crate::outcome::WholeOutcome;
+use crate::reports::planned_report;
 use crate::resends::planned_resend;
 use crate::talks::{SessionTalk, begun, let_go, put_if_any};
 use mt_model::{Armed, Config, Event, SentList, Verdicts};
-use mt_plain::Plain;
+use mt_plain::{Plain, PlainOutcome};
 use std::alloc::{AllocError, Global};
 use std::mem::replace;
 
-/// The node, the deadlines of plain actors, and what is said over each session. Contracts speak of all that was said,
-/// which nothing stores: a whole stands for lists of it.
+/// The node, the deadlines of plain actors, its events and subscriptions, and what is said over each session. Contracts
+/// speak of all that was said, which nothing stores: a whole stands for lists of it.
 #[derive(Drop)]
 pub struct Whole {
     pub(crate) alloc: Global,
@@ -28,7 +29,8 @@ pub struct Whole {
 }
 
 impl Whole {
-    /// A new node with this configuration, in its first boot; nobody has a deadline, and nothing has been said.
+    /// A new node with this configuration, in its first boot; nobody has a deadline or has subscribed, and
+    /// nothing has been said.
     pub fn start(alloc: Global, config: &Config) -> Result<Whole, AllocError>
         ensures { IfOk result (IsStarted config.now) }
     {
@@ -46,39 +48,54 @@ impl Whole {
         event: &Event,
         verdicts: &V,
     ) -> Result<Option<WholeOutcome>, AllocError>
-        ensures planned { IfOk result (IsPlannedIf self.now.plain.state self.now.plain.history) }
+        ensures planned { IfOk result (IsPlannedIf self.now.plain.state self.now.plain.ledger) }
         ensures plan { let given = given_to self.now (V.roots verdicts.now) (V.csrs verdicts.now) (V.joins verdicts.now) in
             (w : Told) → IsWholeOf self.now w → IfOk result (IsPlanIf given w event.now) }
     {
         match event {
-            Event::Datagram { ms, peer, bytes } => planned_datagram(
+            Event::Ask {
+                ms,
+                fabric,
+                node,
+                cats,
+                opcode,
+                payload,
+            } => {
+                let plain = self
+                    .plain
+                    .plan_line(*ms, *fabric, *node, *cats, *opcode, payload, verdicts)?;
+                Ok(Some(self.plainly(plain)))
+            },
+            Event::Datagram { ms, peer, bytes } => Ok(Some(planned_datagram(
                 self, *ms, *peer, bytes, verdicts,
-            ),
+            )?)),
+            Event::Tick { ms } => {
+                let plain = self.plain.plan_tick(*ms, verdicts)?;
+                Ok(Some(self.plainly(plain)))
+            },
+            Event::Report {
+                ms,
+                fabric,
+                subscription,
+            } => Ok(Some(planned_report(self, *ms, *fabric, *subscription, verdicts)?)),
             Event::Resend { ms, session } => Ok(Some(planned_resend(
                 self, *ms, *session, verdicts,
             )?)),
-            _ => self.plan_plain(event, verdicts),
+            Event::Stop { .. } => Ok(None),
         }
     }
 
-    // Plans an event that is of no session.
-    fn plan_plain<V: Verdicts>(
-        &self,
-        event: &Event,
-        verdicts: &V,
-    ) -> Result<Option<WholeOutcome>, AllocError>
-        ensures { let given = given_to self.now (V.roots verdicts.now) (V.csrs verdicts.now) (V.joins verdicts.now) in
-            IfOk result (IsPlainLineIf given self.now.plain.state self.now.plain.history event.now) }
+    // The outcome of what is of no session.
+    pub(crate) fn plainly(&self, plain: PlainOutcome) -> WholeOutcome
+        ensures { IsPlainly plain result }
     {
-        let Some(mut plain) = self.plain.plan(event, verdicts)? else {
-            return Ok(None);
-        };
-        Ok(Some(WholeOutcome {
+        let mut plain = plain;
+        WholeOutcome {
             sent: replace(&mut plain.sent, SentList::new(self.alloc)),
             fresh: None,
             plain,
             talk: None,
-        }))
+        }
     }
 
     /// The fail-safe, None exactly where nobody has armed it.
@@ -99,7 +116,7 @@ impl Whole {
     /// Makes of the whole what a planned event makes of it. Sessions that end let go of their exchanges. It takes no
     /// memory, and cannot fail.
     pub fn apply(&mut self, outcome: WholeOutcome)
-        requires { IsPlainPlanned self.old.plain.state self.old.plain.history outcome.plain }
+        requires { IsPlainPlanned self.old.plain.state self.old.plain.ledger outcome.plain }
         ensures config { self.new.plain.config ≡ self.old.plain.config }
         ensures stands { (given : Given) (w : Told) (event : Line) → IsWholeOf self.old w → IsWholePlan given w event outcome → IsWholeOf self.new (next given w event) }
     {

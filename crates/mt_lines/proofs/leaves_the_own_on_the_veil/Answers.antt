@@ -1,7 +1,4 @@
 use Rattle.std.proofs.Common.{sym, ◌∙◌}
-use Rattle.mt_opcreds.specs.Laws.{KeepsRules}
-use Rattle.mt_model.specs.declared.texts.recording.Event.{Event}
-use Rattle.mt_machine.specs.Given.{Given}
 use Rattle.mt_lines.specs.Isolation.{own_part, seen_whole}
 use Rattle.mt_lines.specs.Laws.{LeavesTheOwnOnTheVeil}
 use Rattle.mt_lines.specs.Lines.{next}
@@ -10,9 +7,10 @@ use Rattle.mt_lines.proofs.leaves_the_own_on_the_veil.Goals as goal
 
 pub returns-clause-veil : goal.returns-clause-veil
 returns-clause-veil c = λ given w e rules valid.
-    leaves_on_veil c.sessions_keep_their_ids.ensures given w valid c.replies_are_the_same_on_the_veil.ensures.action c.veil_keeps_both_parts.ensures.own c.veils_keep_events.ensures.own c.leaves_the_own_on_the_veil.ensures.action c.keeps_the_own.ensures.time
-    c.events_are_left_on_the_veil.ensures.action c.others_events_are_kept.ensures.time c.others_events_are_kept.ensures.nobody rules
-    c.leaves_the_own_on_the_veil.ensures.event c.what_is_asked_is_the_same_on_the_veil.ensures.asker c.what_is_asked_is_the_same_on_the_veil.ensures.deadline c.events_are_left_on_the_veil.ensures.tick e
+    leaves_on_veil c.sessions_keep_their_ids.ensures given w valid c.subscribers_are_replied_the_same_on_the_veil.ensures.action c.veils_keep_ledgers.ensures.found c.veil_keeps_both_parts.ensures.own c.veils_keep_ledgers.ensures.own
+    c.leaves_the_own_on_the_veil.ensures.action c.keeps_the_own.ensures.time c.ledgers_are_left_on_the_veil.ensures.action c.ledgers_are_left_on_the_veil.ensures.confirm c.ledgers_are_left_on_the_veil.ensures.end rules
+    c.leaves_the_own_on_the_veil.ensures.event c.what_is_asked_is_the_same_on_the_veil.ensures.asker c.what_is_asked_is_the_same_on_the_veil.ensures.deadline c.ledgers_are_left_on_the_veil.ensures.tick
+    c.reports_are_the_same_on_the_veil.ensures.due c.reports_are_the_same_on_the_veil.ensures.told c.ledgers_are_left_on_the_veil.ensures.report e
 
 pub returns-clause-view : goal.returns-clause-view
 returns-clause-view c = λ given w v e rules valid_w valid_v fabric own public.

@@ -7,7 +7,8 @@ use Rattle.mt_lines.proofs.sends_on_the_veil.Goals as goal
 
 pub returns-clause-veil : goal.returns-clause-veil
 returns-clause-veil c = λ given w e valid.
-    sends_on_veil c.replies_are_the_same_on_the_veil.ensures.action given w valid c.what_is_asked_is_the_same_on_the_veil.ensures.asker c.replies_are_the_same_on_the_veil.ensures.line e
+    sends_on_veil c.subscribers_are_replied_the_same_on_the_veil.ensures.action c.veils_keep_ledgers.ensures.found given w valid c.what_is_asked_is_the_same_on_the_veil.ensures.asker c.subscribers_are_replied_the_same_on_the_veil.ensures.line
+    c.subscribers_are_replied_the_same_on_the_veil.ensures.response c.reports_are_the_same_on_the_veil.ensures.due c.reports_are_the_same_on_the_veil.ensures.told e
 
 pub returns-clause-view : goal.returns-clause-view
 returns-clause-view c = λ given w v e valid_w valid_v fabric own public.

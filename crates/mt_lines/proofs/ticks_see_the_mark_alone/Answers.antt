@@ -9,11 +9,11 @@ use Rattle.mt_lines.proofs.ticks_see_the_mark_alone.Goals as goal
 
 pub returns-clause-others : goal.returns-clause-others
 returns-clause-others c = λ given fabric w ms valid some added updated.
-    ticks_spare c.sessions_keep_their_ids.ensures given fabric w valid c.ticks_let_the_failsafe_expire.ensures.others c.others_events_are_kept.ensures.tick ms some added updated
+    ticks_spare c.sessions_keep_their_ids.ensures given fabric w valid c.ticks_let_the_failsafe_expire.ensures.others c.others_ledgers_are_kept.ensures.tick ms some added updated
 
 pub returns-clause-veil : goal.returns-clause-veil
 returns-clause-veil c = λ given fabric w ms valid.
-    ticks_on_veil c.sessions_keep_their_ids.ensures given w valid c.ticks_let_the_failsafe_expire.ensures.veil c.events_are_left_on_the_veil.ensures.tick fabric ms
+    ticks_on_veil c.sessions_keep_their_ids.ensures given w valid c.ticks_let_the_failsafe_expire.ensures.veil c.ledgers_are_left_on_the_veil.ensures.tick fabric ms
 
 pub returns-clause-mark : goal.returns-clause-mark
 returns-clause-mark c = λ given fabric w v ms valid_w valid_v own public.

@@ -24,17 +24,17 @@ returns g c =
     let node = c.in_ok-node.node in
     let inside = c.plain.inside in
     let timed : c.deadline_of-timed.result ≡ deadline_of asking inside.deadlines = c.deadline_of-timed.ensures ∙ ap (deadline_of asking) c.as_slice.ensures in
-    let here : Kept = record { state = record { node = inside.node.state; deadlines = inside.deadlines }; history = inside.history; config = inside.node.config } in
+    let here : Kept = record { state = record { node = inside.node.state; deadlines = inside.deadlines }; ledger = record { history = inside.history; subs = inside.subs }; config = inside.node.config } in
     let plan : IsPlan (given_to here roots csrs rows) here.state.node (Ask actor request (deadline_of asking here.state.deadlines)) ms node =
     subst (λ (d : Option ℕ). IsPlan (given_to here roots csrs rows) here.state.node (Ask actor request d) ms node) timed c.in_ok-node.ensures in
     let ds : c.as_slice-2.result.now ≡ kept.state.deadlines = c.as_slice-2.ensures ∙ ap (λ (k : Kept). k.state.deadlines) c.plain.view_is in
     let left : unwrap_or c.in_ok-deadlines.deadlines kept.state.deadlines ≡ left_without node.gone (unwrap_or c.args.deadlines kept.state.deadlines) =
     subst (λ (l : List PlainDeadline). unwrap_or c.in_ok-deadlines.deadlines l ≡ left_without node.gone (unwrap_or c.args.deadlines l)) ds c.in_ok-deadlines.ensures in
     let given = given_to kept roots csrs rows in
-    let made : PlainOutcome = record { sent = c.in_ok-sent.sent; ms = ms; node = node; deadlines = c.in_ok-deadlines.deadlines } in
-    if_both c.outcome.result (λ o. o ≡ made) (λ o. may_record node.told kept.history ≡ true) (IsLine given kept.state kept.history ms actor (Ok request))
-    (λ o is may. subst (λ (x : PlainOutcome). IsLine given kept.state kept.history ms actor (Ok request) x) (sym is)
-    (request_line given kept.state kept.history ms actor asking request made c.requires.asks
+    let made : PlainOutcome = record { sent = c.in_ok-sent.sent; ms = ms; node = node; deadlines = c.in_ok-deadlines.deadlines; subs = c.in_ok-sent.subs } in
+    if_both c.outcome.result (λ o. o ≡ made) (λ o. may_record node.told kept.ledger.history ≡ true) (IsLine given kept.state kept.ledger ms actor (Ok request))
+    (λ o is may. subst (λ (x : PlainOutcome). IsLine given kept.state kept.ledger ms actor (Ok request) x) (sym is)
+    (request_line given kept.state kept.ledger ms actor asking request made c.requires.asks
     (subst (λ (k : Kept). IsPlan (given_to k roots csrs rows) k.state.node (Ask actor request (deadline_of asking k.state.deadlines)) ms node) c.plain.view_is plan)
-    refl may c.in_ok-sent.ensures (left ∙ ap (left_without node.gone) c.requires.next)))
+    refl may c.in_ok-sent.ensures.sent c.in_ok-sent.ensures.subs (left ∙ ap (left_without node.gone) c.requires.next)))
     c.outcome.ensures.made c.outcome.ensures.recordable

@@ -1,8 +1,10 @@
-use Rattle.std.proofs.Common.{ap, sym, ◌∙◌}
+use Rattle.std.proofs.Common.{◌≡◌, [], ap, sym, ◌∙◌}
+use Rattle.mt_model.specs.declared.node.action.Action.TheVariants.{Nothing}
 use Rattle.mt_machine.specs.Step.{asker}
+use Rattle.mt_ledger.specs.Behind.{acts}
 use Rattle.mt_plain.specs.Kept.{Kept, given_to}
-use Rattle.mt_plain.specs.Plan.{IsLine, IsQuiet}
-use Rattle.mt_plain.proofs.Planned.{if_ok, quiet_line}
+use Rattle.mt_plain.specs.Plan.{IsDone, IsLine}
+use Rattle.mt_plain.proofs.Planned.{if_both, quiet_line}
 use Rattle.mt_plain.proofs.lines.planned_line.Goals as goal
 
 pub returns-in-None : goal.returns-in-None
@@ -14,6 +16,6 @@ returns-in-None g c =
     let kept : Kept = c.args.plain.now in
     let given = given_to kept roots csrs rows in
     let actor = c.args.actor.now in
-    if_ok c.quiet.result (IsQuiet given kept.state kept.history c.args.ms) (IsLine given kept.state kept.history c.args.ms actor c.args.asked.now)
-    (λ outcome quiet. quiet_line given kept.state kept.history c.args.ms actor c.args.asked.now outcome (ap (λ (k : Kept). asker k.state.node actor) (sym c.plain.view_is) ∙ sym c.asker.ensures ∙ c.in-None.is) quiet)
-    c.quiet.ensures
+    if_both c.pass.result (λ outcome. outcome.sent ≡ []) (IsDone given kept.state kept.ledger (acts Nothing) c.args.ms) (IsLine given kept.state kept.ledger c.args.ms actor c.args.asked.now)
+    (λ outcome sends done. quiet_line given kept.state kept.ledger c.args.ms actor c.args.asked.now outcome (ap (λ (k : Kept). asker k.state.node actor) (sym c.plain.view_is) ∙ sym c.asker.ensures ∙ c.in-None.is) sends done)
+    c.pass.ensures.sent c.pass.ensures.plan

@@ -5,6 +5,7 @@ use Rattle.mt_node.specs.Plan.{IsPlan}
 use Rattle.mt_plain.specs.Kept.{Kept, given_to}
 use Rattle.mt_plain.specs.Plan.{IsLine}
 use Rattle.mt_plain.specs.Recording.{may_record}
+use Rattle.mt_plain.specs.declared.behind.SubsBehind.TheVariants.{Same}
 use Rattle.mt_plain.specs.declared.outcome.PlainOutcome.{PlainOutcome}
 use Rattle.mt_plain.proofs.Planned.{if_both, refused_line}
 use Rattle.mt_plain.proofs.lines.refused.Goals as goal
@@ -20,11 +21,11 @@ returns g c =
     let ms = c.args.ms in
     let actor = c.args.actor.now in
     let node = c.in_ok-node.node in
-    let made : PlainOutcome = record { sent = c.in_ok-sent.sent; ms = ms; node = node; deadlines = c.args.deadlines } in
-    if_both c.outcome.result (λ o. o ≡ made) (λ o. may_record node.told kept.history ≡ true) (IsLine given kept.state kept.history ms actor (Err c.args.fault))
-    (λ o is may. subst (λ (x : PlainOutcome). IsLine given kept.state kept.history ms actor (Err c.args.fault) x) (sym is)
-    (refused_line given kept.state kept.history ms actor c.args.asking.now c.args.fault made c.requires.asks
+    let made : PlainOutcome = record { sent = c.in_ok-sent.sent; ms = ms; node = node; deadlines = c.args.deadlines; subs = Same } in
+    if_both c.outcome.result (λ o. o ≡ made) (λ o. may_record node.told kept.ledger.history ≡ true) (IsLine given kept.state kept.ledger ms actor (Err c.args.fault))
+    (λ o is may. subst (λ (x : PlainOutcome). IsLine given kept.state kept.ledger ms actor (Err c.args.fault) x) (sym is)
+    (refused_line given kept.state kept.ledger ms actor c.args.asking.now c.args.fault made c.requires.asks
     (subst (λ (k : Kept). IsPlan (given_to k roots csrs rows) k.state.node Nothing ms node) c.plain.view_is c.in_ok-node.ensures)
-    refl may (c.in_ok-sent.ensures ∙ ap (sent_as ms c.args.asking.now.fabric) c.fault_reply.ensures)
+    refl may (c.in_ok-sent.ensures ∙ ap (sent_as ms c.args.asking.now.fabric) c.fault_reply.ensures) refl
     c.requires.next))
     c.outcome.ensures.made c.outcome.ensures.recordable

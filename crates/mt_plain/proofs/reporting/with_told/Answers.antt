@@ -15,11 +15,13 @@ returns-then-is_empty c =
     let kept : Kept = c.args.plain.now in
     let zero : length c.args.paths.now ≡ 0 = search rules in
     let none : c.args.paths.now ≡ [] = nil_from_length c.args.paths.now zero in
-    sym (ap (λ (paths : List Path). with_events (answered (asking kept.state.node.entries c.args.actor.now c.args.minimum paths) kept.history.rings) c.args.reply.now) none
-    ∙ ap (λ (events : List Item). with_events events c.args.reply.now) (none_asked kept.state.node.entries c.args.actor.now c.args.minimum kept.history.rings)
+    sym (ap (λ (paths : List Path). with_events (answered (asking kept.state.node.entries c.args.actor.now c.args.minimum paths) kept.ledger.history.rings) c.args.reply.now) none
+    ∙ ap (λ (events : List Item). with_events events c.args.reply.now) (none_asked kept.state.node.entries c.args.actor.now c.args.minimum kept.ledger.history.rings)
     ∙ with_none c.args.reply.now)
 
 pub returns : goal.returns
 returns c =
-    let told = c.in_ok-told.ensures ∙ ap (λ (k : Kept). answered (asking k.state.node.entries c.args.actor.now c.args.minimum c.args.paths.now) k.history.rings) c.plain.view_is in
-    rw c.in-Report.is (ap (λ (all : List Item). replies.Report c.in-Report.subscription all c.in-Report.suppress) (c.in_ok-with_items.ensures ∙ ap (λ (events : List Item). c.in-Report.items ++ events) told))
+    let told = c.in_ok-told.ensures ∙ ap (λ (k : Kept). answered (asking k.state.node.entries c.args.actor.now c.args.minimum c.args.paths.now) k.ledger.history.rings) c.plain.view_is in
+    let copied : c.in_ok-copy.field-0 ≡ c.in-Report.items = c.in_ok-copy.ensures in
+    let all = c.in_ok-joined.ensures ∙ ap (λ (items : List Item). items ++ c.in_ok-told.told) copied ∙ ap (λ (events : List Item). c.in-Report.items ++ events) told in
+    rw c.in-Report.is (ap (λ (items : List Item). replies.Report c.in-Report.subscription items c.in-Report.suppress) all)

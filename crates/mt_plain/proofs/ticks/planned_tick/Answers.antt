@@ -6,6 +6,7 @@ use Rattle.mt_node.specs.Plan.{IsPlan}
 use Rattle.mt_plain.specs.Kept.{Kept, given_to}
 use Rattle.mt_plain.specs.Plan.{IsTick, left_without}
 use Rattle.mt_plain.specs.Recording.{may_record}
+use Rattle.mt_plain.specs.declared.behind.SubsBehind.TheVariants.{Same}
 use Rattle.mt_plain.specs.declared.outcome.PlainOutcome.{PlainOutcome}
 use Rattle.mt_plain.proofs.Planned.{if_both, tick_of}
 use Rattle.mt_plain.proofs.ticks.planned_tick.Goals as goal
@@ -21,11 +22,11 @@ returns g c =
     let ds : c.as_slice.result.now ≡ kept.state.deadlines = c.as_slice.ensures ∙ ap (λ (k : Kept). k.state.deadlines) c.plain.view_is in
     let given = given_to kept roots csrs rows in
     let ms = c.args.ms in
-    let made : PlainOutcome = record { sent = c.new.result; ms = ms; node = node; deadlines = c.in_ok-deadlines.deadlines } in
-    if_both c.outcome.result (λ o. o ≡ made) (λ o. may_record node.told kept.history ≡ true) (IsTick given kept.state kept.history ms)
-    (λ o is may. subst (λ (x : PlainOutcome). IsTick given kept.state kept.history ms x) (sym is)
-    (tick_of c.ticks_let_the_failsafe_expire.ensures.gone given kept.state kept.history ms made
-    (subst (λ (k : Kept). IsValid k.state.node) c.plain.view_is c.state_is_valid.ensures) c.new.ensures refl may
+    let made : PlainOutcome = record { sent = c.new.result; ms = ms; node = node; deadlines = c.in_ok-deadlines.deadlines; subs = Same } in
+    if_both c.outcome.result (λ o. o ≡ made) (λ o. may_record node.told kept.ledger.history ≡ true) (IsTick given kept.state kept.ledger ms)
+    (λ o is may. subst (λ (x : PlainOutcome). IsTick given kept.state kept.ledger ms x) (sym is)
+    (tick_of c.ticks_let_the_failsafe_expire.ensures.gone given kept.state kept.ledger ms made
+    (subst (λ (k : Kept). IsValid k.state.node) c.plain.view_is c.state_is_valid.ensures) c.new.ensures refl may refl
     (subst (λ (k : Kept). IsPlan (given_to k roots csrs rows) k.state.node Expire c.args.ms node) c.plain.view_is c.in_ok-node.ensures)
     (subst (λ (l : List PlainDeadline). unwrap_or c.in_ok-deadlines.deadlines l ≡ left_without node.gone (unwrap_or None l)) ds c.in_ok-deadlines.ensures)))
     c.outcome.ensures.made c.outcome.ensures.recordable

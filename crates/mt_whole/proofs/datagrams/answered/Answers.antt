@@ -1,13 +1,14 @@
-use Rattle.std.proofs.Common.{[], Some, None, IfOk, refl, sym, ap, subst, ◌∙◌}
-use Rattle.mt_im.specs.Reading.{request_in}
-use Rattle.mt_talk.specs.Hearing.{answers, confirms, ends, said_by}
+use Rattle.std.proofs.Common.{None, Some, Result, refl, sym, ap, subst, ◌∙◌}
+use Rattle.mt_im.specs.declared.fault.ImFault.{ImFault}
+use Rattle.mt_model.specs.declared.messages.message.Request.{Request}
+use Rattle.mt_talk.specs.Hearing.{answers, asks, confirms, ends, said_by}
 use Rattle.mt_talk.specs.declared.hearing.Heard.{Heard}
-use Rattle.mt_machine.specs.Lines.{action_of, behind_action}
-use Rattle.mt_history.specs.Behind.{history_behind}
+use Rattle.mt_machine.specs.Lines.{action_of}
+use Rattle.mt_ledger.specs.Behind.{acts}
 use Rattle.mt_lines.specs.Datagrams.{actor_on, payloads_over}
-use Rattle.mt_plain.specs.Plan.{AsksIf}
-use Rattle.mt_whole.specs.Plan.{IsAnsweredIf, given_to}
-use Rattle.mt_whole.proofs.Planned.{answered_alike, answering, if_ok}
+use Rattle.mt_plain.specs.Plan.{IsDone}
+use Rattle.mt_whole.specs.Plan.{IsAnswered, given_to}
+use Rattle.mt_whole.proofs.Planned.{answered_with, answering}
 use Rattle.mt_whole.proofs.datagrams.answered.Goals as goal
 
 pub returns-in_ok-pass-in-Nothing : goal.returns-in_ok-pass-in-Nothing
@@ -15,10 +16,9 @@ returns-in_ok-pass-in-Nothing g c =
     let verdicts = c.args.verdicts.now in
     let whole = c.args.whole.now in
     let given = given_to whole (g.V.Verdicts.roots verdicts) (g.V.Verdicts.csrs verdicts) (g.V.Verdicts.joins verdicts) in
-    let ms = c.args.ms in
     let plan = c.in_ok-pass-in-Nothing.ensures.plan in
-    subst (λ (heard : Heard). IsAnsweredIf given whole.plain.state whole.plain.history c.args.id ms (said_by heard) (Some (None, c.in_ok-pass-in-Nothing.field-0))) (sym c.in-Nothing.is)
-    (refl, record { answer = refl; state = plan.state; history = plan.history; planned = plan.planned })
+    subst (λ (heard : Heard). IsAnswered given whole.plain.state whole.plain.ledger c.args.id c.args.ms (said_by heard) (None, c.in_ok-pass-in-Nothing.field-0)) (sym c.in-Nothing.is)
+    (record { answer = refl; state = plan.state; ledger = plan.ledger; planned = plan.planned })
 
 pub returns-in_ok-payloads-in-Asks : goal.returns-in_ok-payloads-in-Asks
 returns-in_ok-payloads-in-Asks g c =
@@ -27,61 +27,65 @@ returns-in_ok-payloads-in-Asks g c =
     let given = given_to whole (g.V.Verdicts.roots verdicts) (g.V.Verdicts.csrs verdicts) (g.V.Verdicts.joins verdicts) in
     let ms = c.args.ms in
     let s = whole.plain.state in
-    let h = whole.plain.history in
+    let l = whole.plain.ledger in
     let id = c.args.id in
     let key = c.in-Asks.key in
     let acknowledge = c.in-Asks.acknowledge in
     let timed = c.in-Asks.timed in
     let plain = c.in_ok-payloads-in-Asks.plain in
-    let request = request_in c.in-Asks.opcode c.in-Asks.payload.now in
-    let asks = subst (AsksIf request) c.in-Some.is c.in_ok-asked-in-Asks.ensures.asks in
+    let payloads = c.in_ok-payloads-in-Asks.payloads in
+    let asked = c.in_ok-asked-in-Asks.ensures.asks in
     let made = c.in_ok-payloads-in-Asks.ensures in
-    subst (λ (heard : Heard). IsAnsweredIf given s h id ms (said_by heard) (Some (Some (record { key = key; acknowledge = acknowledge; payloads = c.in_ok-payloads-in-Asks.payloads }), plain))) (sym c.in-Asks.is) (
-      asks.1,
-      record {
-        answer = ap (answering key acknowledge) (made.payloads ∙ ap (payloads_over given s.node h id timed ms) asks.0);
-        state = made.outcome.state ∙ ap (λ asked. behind_action given s (action_of (actor_on id) timed asked) ms) asks.0;
-        history = made.outcome.history ∙ ap (λ asked. history_behind given s.node (action_of (actor_on id) timed asked) ms h) asks.0;
-        planned = made.outcome.planned;
-      },
-    )
+    subst (λ (heard : Heard). IsAnswered given s l id ms (said_by heard) (Some c.answering_with.result, plain)) (sym c.in-Asks.is)
+    (answered_with given s l id ms (asks key acknowledge c.in-Asks.opcode c.in-Asks.payload.now timed) key acknowledge payloads c.answering_with.result plain c.answering_with.ensures
+    (ap (answering key acknowledge) (made.payloads ∙ ap (payloads_over given s.node l id timed ms) asked))
+    (subst (λ (x : Result Request ImFault). IsDone given s l (acts (action_of (actor_on id) timed x)) ms plain) asked made.outcome))
 
-pub returns-in-Confirms : goal.returns-in-Confirms
-returns-in-Confirms g c =
+pub returns-in_ok-payloads-in-Confirms : goal.returns-in_ok-payloads-in-Confirms
+returns-in_ok-payloads-in-Confirms g c =
     let verdicts = c.args.verdicts.now in
     let whole = c.args.whole.now in
     let given = given_to whole (g.V.Verdicts.roots verdicts) (g.V.Verdicts.csrs verdicts) (g.V.Verdicts.joins verdicts) in
     let ms = c.args.ms in
     let s = whole.plain.state in
-    let h = whole.plain.history in
+    let l = whole.plain.ledger in
     let id = c.args.id in
     let key = c.in-Confirms.key in
     let acknowledge = c.in-Confirms.acknowledge in
-    let said = confirms key acknowledge c.in-Confirms.subscription in
-    subst (λ (heard : Heard). IfOk c.acknowledged.result (IsAnsweredIf given s h id ms (said_by heard))) (sym c.in-Confirms.is)
-    (if_ok c.acknowledged.result (IsAnsweredIf given s h id ms (answers key acknowledge [])) (IsAnsweredIf given s h id ms said)
-    (answered_alike given s h id ms (answers key acknowledge []) said refl refl refl) (c.acknowledged.ensures id))
+    let plain = c.in_ok-payloads-in-Confirms.plain in
+    let made = c.in_ok-payloads-in-Confirms.ensures in
+    subst (λ (heard : Heard). IsAnswered given s l id ms (said_by heard) (Some c.answering_with-in-Confirms.result, plain)) (sym c.in-Confirms.is)
+    (answered_with given s l id ms (confirms key acknowledge c.in-Confirms.subscription) key acknowledge c.in_ok-payloads-in-Confirms.payloads c.answering_with-in-Confirms.result plain c.answering_with-in-Confirms.ensures
+    (ap (answering key acknowledge) made.payloads) made.outcome)
 
-pub returns-in-Ends : goal.returns-in-Ends
-returns-in-Ends g c =
+pub returns-in_ok-plain-in-Ends : goal.returns-in_ok-plain-in-Ends
+returns-in_ok-plain-in-Ends g c =
     let verdicts = c.args.verdicts.now in
     let whole = c.args.whole.now in
     let given = given_to whole (g.V.Verdicts.roots verdicts) (g.V.Verdicts.csrs verdicts) (g.V.Verdicts.joins verdicts) in
     let ms = c.args.ms in
     let s = whole.plain.state in
-    let h = whole.plain.history in
+    let l = whole.plain.ledger in
     let id = c.args.id in
     let key = c.in-Ends.key in
     let acknowledge = c.in-Ends.acknowledge in
-    let said = ends key acknowledge c.in-Ends.subscription in
-    subst (λ (heard : Heard). IfOk c.acknowledged-in-Ends.result (IsAnsweredIf given s h id ms (said_by heard))) (sym c.in-Ends.is)
-    (if_ok c.acknowledged-in-Ends.result (IsAnsweredIf given s h id ms (answers key acknowledge [])) (IsAnsweredIf given s h id ms said)
-    (answered_alike given s h id ms (answers key acknowledge []) said refl refl refl) (c.acknowledged-in-Ends.ensures id))
+    let plain = c.in_ok-plain-in-Ends.plain in
+    subst (λ (heard : Heard). IsAnswered given s l id ms (said_by heard) (Some c.answering_with-in-Ends.result, plain)) (sym c.in-Ends.is)
+    (answered_with given s l id ms (ends key acknowledge c.in-Ends.subscription) key acknowledge c.new-none.result c.answering_with-in-Ends.result plain c.answering_with-in-Ends.ensures
+    (ap (answering key acknowledge) c.new-none.ensures) c.in_ok-plain-in-Ends.ensures)
 
-pub returns-in-Answers : goal.returns-in-Answers
-returns-in-Answers g c =
+pub returns-in_ok-plain-in-Answers : goal.returns-in_ok-plain-in-Answers
+returns-in_ok-plain-in-Answers g c =
     let verdicts = c.args.verdicts.now in
     let whole = c.args.whole.now in
     let given = given_to whole (g.V.Verdicts.roots verdicts) (g.V.Verdicts.csrs verdicts) (g.V.Verdicts.joins verdicts) in
     let ms = c.args.ms in
-    subst (λ (heard : Heard). IfOk c.told_at_once.result (IsAnsweredIf given whole.plain.state whole.plain.history c.args.id ms (said_by heard))) (sym c.in-Answers.is) (c.told_at_once.ensures c.args.id)
+    let s = whole.plain.state in
+    let l = whole.plain.ledger in
+    let id = c.args.id in
+    let key = c.in-Answers.key in
+    let acknowledge = c.in-Answers.acknowledge in
+    let payloads = c.in-Answers.payloads in
+    let plain = c.in_ok-plain-in-Answers.plain in
+    subst (λ (heard : Heard). IsAnswered given s l id ms (said_by heard) (Some c.answering_with-in-Answers.result, plain)) (sym c.in-Answers.is)
+    (answered_with given s l id ms (answers key acknowledge payloads) key acknowledge payloads c.answering_with-in-Answers.result plain c.answering_with-in-Answers.ensures refl c.in_ok-plain-in-Answers.ensures.plan)

@@ -1,11 +1,11 @@
-use Rattle.std.proofs.Common.{◌≡◌, ℕ, Bool, List, Option, Some, is_some, sym, ap, subst, ◌∙◌}
+use Rattle.std.proofs.Common.{◌≡◌, ℕ, Bool, List, Option, is_some, sym, ap, subst, ◌∙◌}
 use Rattle.mt_talk.specs.Hearing.{Said, after_datagram, fresh_by, received_in, said, said_by}
 use Rattle.mt_talk.specs.Talks.{IsTalkOf}
 use Rattle.mt_talk.specs.declared.talk.Talk as code
 use Rattle.mt_machine.specs.Step.{session_actor}
 use Rattle.mt_lines.specs.Datagrams.{Answer, behind_answer, datagram_of, heard, its_answer, said_to}
 use Rattle.mt_lines.specs.Whole.{is_live}
-use Rattle.mt_whole.specs.Plan.{IsAnsweredIf, answer_as, given_to}
+use Rattle.mt_whole.specs.Plan.{IsAnswered, answer_as, given_to}
 use Rattle.mt_whole.proofs.Planned.{sent_as_heard}
 use Rattle.mt_whole.proofs.datagrams.planned_heard.Goals as goal
 
@@ -15,7 +15,7 @@ returns-clause-heard g c t at =
     let whole = c.args.whole.now in
     let given = given_to whole (g.V.Verdicts.roots verdicts) (g.V.Verdicts.csrs verdicts) (g.V.Verdicts.joins verdicts) in
     let s = whole.plain.state in
-    let h = whole.plain.history in
+    let l = whole.plain.ledger in
     let ms = c.args.ms in
     let from = c.args.from in
     let bytes = c.args.bytes.now in
@@ -30,23 +30,20 @@ returns-clause-heard g c t at =
     let stands : IsTalkOf c.hear.new.self row (heard s.node from bytes t) =
     subst (λ (d : List ℕ). IsTalkOf c.hear.new.self row (after_datagram row (is_live s.node row.session) from d t.talk)) read_as
     (subst (λ (b : Bool). IsTalkOf c.hear.new.self row (after_datagram row b from c.deref_mut.result.now t.talk)) live (c.in_ok-hearing.ensures.stands row t.talk copied)) in
-    let answers : IsAnsweredIf given s h row.session ms (said_to s.node bytes t) (Some (c.in-Some.answer, c.in-Some.plain)) =
-    subst (λ (n : ℕ). IsAnsweredIf given s h n ms (said_to s.node bytes t) (Some (c.in-Some.answer, c.in-Some.plain))) at.id
-    (subst (λ (x : Said). IsAnsweredIf given s h c.args.talk.now.id ms x (Some (c.in-Some.answer, c.in-Some.plain))) says
-    (subst (IsAnsweredIf given s h c.args.talk.now.id ms (said_by c.in_ok-hearing.hearing.heard)) c.in-Some.is c.in_ok-answer.ensures)) in
-    let answer : answer_as c.in-Some.answer ≡ its_answer given s.node h ms bytes t = answers.1.answer in (
-      answers.0,
-      record {
-        sent = c.in_ok-sent.ensures
-            ∙ sent_as_heard given s h ms from bytes t c.args.talk.now.id c.latest-peer.result c.in_ok-datagram.datagram at.id (c.latest-peer.ensures ∙ stands.latest)
-            (c.in_ok-datagram.ensures.sent row (heard s.node from bytes t) stands ∙ ap (datagram_of row (heard s.node from bytes t)) answer);
-        fresh = c.in_ok-fresh.ensures ∙ c.in_ok-hearing.ensures.fresh row t.talk copied ∙ ap (λ (d : List ℕ). fresh_by (received_in row t.talk d)) read_as;
-        state = answers.1.state;
-        history = answers.1.history;
-        talk = (
-          at.id,
-          subst (λ (o : Option Answer). IsTalkOf c.datagram_of.new.talk row (behind_answer row ms (heard s.node from bytes t) o)) answer
-              (c.in_ok-datagram.ensures.stands row (heard s.node from bytes t) stands),
-        );
-      },
-    )
+    let answers : IsAnswered given s l row.session ms (said_to s.node bytes t) (c.in_ok-answer.answer, c.in_ok-answer.plain) =
+    subst (λ (n : ℕ). IsAnswered given s l n ms (said_to s.node bytes t) (c.in_ok-answer.answer, c.in_ok-answer.plain)) at.id
+    (subst (λ (x : Said). IsAnswered given s l c.args.talk.now.id ms x (c.in_ok-answer.answer, c.in_ok-answer.plain)) says c.in_ok-answer.ensures) in
+    let answer : answer_as c.in_ok-answer.answer ≡ its_answer given s.node l ms bytes t = answers.answer in
+    record {
+      sent = c.in_ok-sent.ensures
+          ∙ sent_as_heard given s l ms from bytes t c.args.talk.now.id c.latest-peer.result c.in_ok-datagram.datagram at.id (c.latest-peer.ensures ∙ stands.latest)
+          (c.in_ok-datagram.ensures.sent row (heard s.node from bytes t) stands ∙ ap (datagram_of row (heard s.node from bytes t)) answer);
+      fresh = c.in_ok-fresh.ensures ∙ c.in_ok-hearing.ensures.fresh row t.talk copied ∙ ap (λ (d : List ℕ). fresh_by (received_in row t.talk d)) read_as;
+      state = answers.state;
+      ledger = answers.ledger;
+      talk = (
+        at.id,
+        subst (λ (o : Option Answer). IsTalkOf c.datagram_of.new.talk row (behind_answer row ms (heard s.node from bytes t) o)) answer
+            (c.in_ok-datagram.ensures.stands row (heard s.node from bytes t) stands),
+      );
+    }
