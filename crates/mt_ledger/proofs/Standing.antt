@@ -5,8 +5,6 @@ use Rattle.std.proofs.lemmas.Bool.{and_parts}
 use Rattle.mt_fabrics.specs.Table.{has_index}
 use Rattle.mt_model.specs.declared.node.state.NodeSession.{NodeSession}
 use Rattle.mt_model.specs.declared.node.state.NodeState.{NodeState}
-use Rattle.mt_model.specs.declared.node.state.Standing.{Standing}
-use Rattle.mt_model.specs.declared.node.state.Standing.TheVariants.{Waits, Live, Ended}
 use Rattle.mt_model.specs.declared.tables.access.Auth.{Auth}
 use Rattle.mt_model.specs.declared.tables.access.Auth.TheVariants.{Case, Group, Pase}
 use Rattle.mt_model.specs.declared.tables.fabric.Fabric.{Fabric}
@@ -14,7 +12,7 @@ use Rattle.mt_subs.specs.Leaving.{is_live_as, is_live_over, is_there, left_in, s
 use Rattle.mt_subs.specs.Subscriptions.{is_of}
 use Rattle.mt_subs.specs.declared.subscription.SubState.{SubState}
 use Rattle.mt_subs.specs.declared.subscription.Subscription.{Subscription}
-use Rattle.mt_machine.specs.Isolation.{Own, is_live_for, own}
+use Rattle.mt_machine.specs.Isolation.{Own, own}
 use Rattle.mt_ledger.proofs.Alike.{Alike, staying_alike}
 use Rattle.mt_ledger.proofs.Filters.{any_within, whole}
 
@@ -22,16 +20,11 @@ use Rattle.mt_ledger.proofs.Filters.{any_within, whole}
 pub all_there : (s : NodeState) (a : SubState) → list_all (stands_in s) a.subscriptions ≡ true → left_in s a ≡ a
 all_there s a there = ap (λ (l : List Subscription). record a { subscriptions = l }) (whole (stands_in s) a.subscriptions there)
 
-live_for : (fabric : ℕ) (standing : Standing) → is_live_as fabric standing ≡ true → is_live_for fabric standing ≡ true
-live_for fabric Waits live = live
-live_for fabric (Live other) live = live
-live_for fabric Ended live = live
-
 -- sessions that are live for the fabric are its own
-live_own : (fabric id : ℕ) (sessions : List NodeSession) → list_any (is_live_over fabric id) (filter (λ (session : NodeSession). is_live_for fabric session.standing) sessions) ≡ list_any (is_live_over fabric id) sessions
+live_own : (fabric id : ℕ) (sessions : List NodeSession) → list_any (is_live_over fabric id) (filter (λ (session : NodeSession). is_live_as fabric session.standing) sessions) ≡ list_any (is_live_over fabric id) sessions
 live_own fabric id sessions =
-    any_within (is_live_over fabric id) (λ (session : NodeSession). is_live_for fabric session.standing)
-    (λ session live. live_for fabric session.standing (and_parts (session.session == id) (is_live_as fabric session.standing) live).1)
+    any_within (is_live_over fabric id) (λ (session : NodeSession). is_live_as fabric session.standing)
+    (λ session live. (and_parts (session.session == id) (is_live_as fabric session.standing) live).1)
     sessions
 
 -- and so is the fabric's row of the table

@@ -9,14 +9,15 @@ use Rattle.mt_model.specs.declared.node.state.NodeState.{NodeState}
 use Rattle.mt_model.specs.declared.node.state.Standing.{Standing}
 use Rattle.mt_model.specs.declared.node.state.Standing.TheVariants.{Waits, Live, Ended}
 use Rattle.mt_model.specs.declared.tables.access.Actor.{Actor}
-use Rattle.mt_machine.specs.Isolation.{is_live_for, own, veil}
+use Rattle.mt_subs.specs.Leaving.{is_live_as}
+use Rattle.mt_machine.specs.Isolation.{own, veil}
 use Rattle.mt_machine.specs.Step.{closed_between, is_live, live_actor, session_actor}
 use Rattle.mt_lines.specs.Isolation.{have_one_id}
 use Rattle.mt_lines.specs.Whole.{fabric_live}
 use Rattle.mt_lines.proofs.Ids.{any_found, found_kept, ids_of, if_kept, is_in, is_named, named_is_in, none_kept, or_parts, rest_differ, split_first}
 
 abbrev pub is_mine : ℕ → NodeSession → Bool
-is_mine fabric session = is_live_for fabric session.standing
+is_mine fabric session = is_live_as fabric session.standing
 
 abbrev actor_of : Option NodeSession → Option Actor
 actor_of found = option_and_then (λ (session : NodeSession). live_actor session session.standing) found
@@ -26,7 +27,7 @@ abbrev pub if_its : ℕ → Option Actor → Option Actor
 if_its fabric None = None
 if_its fabric (Some actor) = if actor.fabric == fabric then Some actor else None
 
-if_standing : (fabric : ℕ) (session : NodeSession) (standing : Standing) → actor_of (if is_live_for fabric standing then Some (record session { standing = standing }) else None) ≡ if_its fabric (live_actor session standing)
+if_standing : (fabric : ℕ) (session : NodeSession) (standing : Standing) → actor_of (if is_live_as fabric standing then Some (record session { standing = standing }) else None) ≡ if_its fabric (live_actor session standing)
 if_standing fabric session Waits = refl
 if_standing fabric session Ended = refl
 if_standing fabric session (Live other) = by_test (other == fabric)
@@ -49,7 +50,7 @@ abbrev pub is_its : ℕ → Option Actor → Bool
 is_its fabric None = false
 is_its fabric (Some actor) = actor.fabric == fabric
 
-its_standing : (fabric : ℕ) (session : NodeSession) (standing : Standing) → is_some (if is_live_for fabric standing then Some session else None) ≡ is_its fabric (live_actor session standing)
+its_standing : (fabric : ℕ) (session : NodeSession) (standing : Standing) → is_some (if is_live_as fabric standing then Some session else None) ≡ is_its fabric (live_actor session standing)
 its_standing fabric session Waits = refl
 its_standing fabric session Ended = refl
 its_standing fabric session (Live other) = by_test (other == fabric)
@@ -88,7 +89,7 @@ none_closed id (session ∷ sessions) (other ∷ others) none =
     by_test true apart none = any_eq id session.session (closed_between sessions others) apart none
     by_test false apart none = none
 
-mine_is_live : (fabric : ℕ) (standing : Standing) → is_live_for fabric standing ≡ true → is_live standing ≡ true
+mine_is_live : (fabric : ℕ) (standing : Standing) → is_live_as fabric standing ≡ true → is_live standing ≡ true
 mine_is_live fabric Waits mine = absurd (cc)
 mine_is_live fabric Ended mine = absurd (cc)
 mine_is_live fabric (Live other) mine = refl

@@ -6,8 +6,6 @@ use Rattle.std.specs.Option.{option_map}
 use Rattle.mt_model.specs.rows.Seen.{own_entries}
 use Rattle.mt_model.specs.declared.node.state.NodeSession.{NodeSession}
 use Rattle.mt_model.specs.declared.node.state.NodeState.{NodeState}
-use Rattle.mt_model.specs.declared.node.state.Standing.{Standing}
-use Rattle.mt_model.specs.declared.node.state.Standing.TheVariants.{Waits, Live, Ended}
 use Rattle.mt_model.specs.declared.rows.place.Place.{Place}
 use Rattle.mt_model.specs.declared.tables.access.Actor.{Actor}
 use Rattle.mt_subs.specs.Leaving.{is_live_as, is_live_over, is_there, stands_in}
@@ -15,7 +13,7 @@ use Rattle.mt_subs.specs.Owed.{due_of}
 use Rattle.mt_subs.specs.Subscriptions.{is_named as is_subscription, kept_at}
 use Rattle.mt_subs.specs.declared.subscription.Kept.{Kept}
 use Rattle.mt_subs.specs.declared.subscription.Subscription.{Subscription}
-use Rattle.mt_machine.specs.Isolation.{is_live_for, own}
+use Rattle.mt_machine.specs.Isolation.{own}
 use Rattle.mt_machine.specs.Step.{session_actor}
 use Rattle.mt_history.specs.History.{History}
 use Rattle.mt_ledger.specs.Ledger.{IsLedger, Ledger}
@@ -30,11 +28,6 @@ contradiction is = absurd (cc)
 
 -- A session that is live for a fabric is among its own.
 
-live_alike : (fabric : ℕ) (standing : Standing) → is_live_as fabric standing ≡ is_live_for fabric standing
-live_alike fabric Waits = refl
-live_alike fabric (Live other) = refl
-live_alike fabric Ended = refl
-
 or_with_first : (a b : Bool) → a ≡ true → (a || b) ≡ true
 or_with_first true b is = refl
 or_with_first false b is = absurd (contradiction (sym is))
@@ -48,7 +41,7 @@ live_among fabric id [] there = there
 live_among fabric id (session ∷ sessions) there = elim (cases_Bool (is_live_over fabric id session)) [
   | inl its ↦
       let both = and_parts (session.session == id) (is_live_as fabric session.standing) its in
-      let mine : is_mine fabric session ≡ true = sym (live_alike fabric session.standing) ∙ both.1 in
+      let mine : is_mine fabric session ≡ true = both.1 in
       rw mine (or_with_first (is_named id session) (list_any (is_named id) (filter (is_mine fabric) sessions)) both.0)
   | inr other ↦
       let rest = live_among fabric id sessions (subst (λ (b : Bool). (b || list_any (is_live_over fabric id) sessions) ≡ true) other there) in

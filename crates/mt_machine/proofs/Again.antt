@@ -13,7 +13,8 @@ use Rattle.mt_model.specs.declared.tables.network.Armed.{Armed}
 use Rattle.mt_model.specs.declared.rows.place.Row.{Row}
 use Rattle.mt_model.specs.declared.node.state.NodeSession.{NodeSession}
 use Rattle.mt_model.specs.declared.node.state.NodeState.{NodeState}
-use Rattle.mt_machine.specs.Isolation.{bare_fabric, descriptor_of, is_live_for, own, owns, public_view, saved_for, veil, with_saved}
+use Rattle.mt_subs.specs.Leaving.{is_live_as}
+use Rattle.mt_machine.specs.Isolation.{bare_fabric, descriptor_of, own, owns, public_view, saved_for, veil, with_saved}
 use Rattle.mt_machine.proofs.Entries.{apart, bare_others, own_entries-apart}
 use Rattle.mt_machine.proofs.Fabrics.{own_fabrics, rebuilt-known}
 use Rattle.mt_machine.proofs.Rows as rows
@@ -115,8 +116,8 @@ module _ (fabric : ℕ) where
       by_test false = refl
 
   live_again : (sessions : List NodeSession)
-      → filter (λ (session : NodeSession). is_live_for fabric session.standing) (filter (λ (session : NodeSession). is_live_for fabric session.standing) sessions)
-      ≡ filter (λ (session : NodeSession). is_live_for fabric session.standing) sessions
+      → filter (λ (session : NodeSession). is_live_as fabric session.standing) (filter (λ (session : NodeSession). is_live_as fabric session.standing) sessions)
+      ≡ filter (λ (session : NodeSession). is_live_as fabric session.standing) sessions
   live_again [] = refl
   live_again (session ∷ sessions) = grind (arith, live_again sessions)
 

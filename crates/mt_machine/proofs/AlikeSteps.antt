@@ -19,7 +19,8 @@ use Rattle.mt_model.specs.declared.tables.fabric.Credentials.{Credentials}
 use Rattle.mt_model.specs.declared.tables.fabric.Fabric.{Fabric}
 use Rattle.mt_model.specs.declared.tables.network.Armed.{Armed}
 use Rattle.mt_machine.specs.Effects.{after, completed, is_on, is_pase, is_plain, is_sound_step, joined, joined_as, labelled_in, may_leave, may_update, plain_joined, plain_without, session_completed, session_joined, session_without, updated_in, without_fabric}
-use Rattle.mt_machine.specs.Isolation.{Own, is_live_for, own, owns, saved_for, veil, with_saved}
+use Rattle.mt_subs.specs.Leaving.{is_live_as}
+use Rattle.mt_machine.specs.Isolation.{Own, own, owns, saved_for, veil, with_saved}
 use Rattle.mt_machine.specs.Rollback.{rollback, rolled_back}
 use Rattle.mt_machine.specs.State.{IsValid, is_among}
 use Rattle.mt_machine.specs.Touching.{is_its_step}
@@ -52,7 +53,7 @@ find-passing p (x ∷ xs) = elim (cases_Bool (p x)) [
 -- The own part behind each step, from the own part before it.
 module _ (fabric : ℕ) where
   abbrev is_mine : NodeSession → Bool
-  is_mine session = is_live_for fabric session.standing
+  is_mine session = is_live_as fabric session.standing
 
   own-changed : (index : ℕ) (change : Fabric → Fabric) → ((f : Fabric) → (change f).index ≡ f.index) → (fs : List Fabric) → filter (has_index fabric) (changed index change fs) ≡ changed index change (filter (has_index fabric) fs)
   own-changed index change keeps [] = refl

@@ -15,7 +15,7 @@ use Rattle.std.specs.Prelude.{is_none}
 use Rattle.mt_machine.specs.Effects.{after, after_all, completed, joined_as, may_join, may_leave, may_update, session_completed, session_joined, session_without}
 use Rattle.mt_machine.specs.Given.{Given}
 use Rattle.mt_machine.specs.Rollback.{ends, rolled_back, session_behind}
-use Rattle.mt_machine.specs.Isolation.{is_live_for}
+use Rattle.mt_subs.specs.Leaving.{is_live_as}
 use Rattle.mt_machine.specs.Step.{after_action, asker_of, at_time, steps_of}
 
 abbrev ids_of : List NodeSession → List ℕ
@@ -60,7 +60,7 @@ by_step asker (AddFabric fabric) s =
     either (may_join fabric s) (joined_as asker (least_unused s.fabrics) fabric s) s (ids_of s.sessions) (all_kept (session_joined asker (least_unused s.fabrics) fabric) (λ session. refl) s.sessions) refl
 by_step asker (UpdateFabric index given) s = either (may_update index given s) _ s (ids_of s.sessions) refl refl
 by_step asker (RemoveFabric index) s =
-    either (may_leave index s) _ s (ids_of s.sessions) (all_kept (session_without index) (λ session. ended (is_live_for index session.standing) session _ refl) s.sessions) refl
+    either (may_leave index s) _ s (ids_of s.sessions) (all_kept (session_without index) (λ session. ended (is_live_as index session.standing) session _ refl) s.sessions) refl
 by_step asker (Label index label) s = either (is_none (label_refusal index label s.fabrics)) _ s (ids_of s.sessions) refl refl
 by_step asker (Emit place priority fabric value) s = refl
 

@@ -25,7 +25,7 @@ use Rattle.mt_model.specs.declared.tables.access.Auth.TheVariants.{Pase, Case, G
 use Rattle.mt_model.specs.declared.tables.fabric.Fabric.{Fabric}
 use Rattle.mt_model.specs.declared.tables.network.Armed.{Armed}
 use Rattle.mt_machine.specs.Effects.{may_leave, plain_without, session_without, without_fabric}
-use Rattle.mt_machine.specs.Isolation.{is_live_for}
+use Rattle.mt_subs.specs.Leaving.{is_live_as}
 use Rattle.mt_machine.specs.State.{IsValid, follows, has_entries_up_to, has_one_row, is_among, is_plain_of, is_row, is_row_at, is_session, is_unscoped, plain_follows, stands_once, stands_rightly}
 use Rattle.mt_model.specs.tables.Holding.{is_owned}
 use Rattle.mt_machine.specs.State as states
@@ -40,7 +40,7 @@ use Rattle.mt_machine.proofs.Writes.{all-filter, all-kept, all-weaker, impossibl
 stays-other : (index n : ℕ) → stays (Some index) n ≡ true → (n == index) ≡ false
 stays-other index n stay = eq-turned n index ∙ not-true _ stay
 
-live-other : (index n : ℕ) (standing : Standing) → is_live_for index standing ≡ false → is_live_for n standing ≡ true → (n == index) ≡ false
+live-other : (index n : ℕ) (standing : Standing) → is_live_as index standing ≡ false → is_live_as n standing ≡ true → (n == index) ≡ false
 live-other index n Waits not_this live = impossible live
 live-other index n (Live m) not_this live = subst (λ k. (k == index) ≡ false) (eqb-true m n live) not_this
 live-other index n Ended not_this live = impossible live
@@ -163,7 +163,7 @@ module _
 
       session_stands : (session : NodeSession) → is_session s.fabrics session ≡ true → is_session left (session_without index session) ≡ true
       session_stands session stands =
-          cond_both (is_live_for index session.standing) (record session { standing = Ended }) session (λ (c : NodeSession). is_session left c ≡ true)
+          cond_both (is_live_as index session.standing) (record session { standing = Ended }) session (λ (c : NodeSession). is_session left c ≡ true)
           (λ over. ended_stands left (record session { standing = Ended }) session.auth)
           (λ lives. stands-still s.fabrics left session session.auth session.standing
           (λ n live. among-left index s.fabrics n (live-other index n session.standing lives live))
@@ -172,7 +172,7 @@ module _
 
       session_follows : (session : NodeSession) → follows s.armed session.auth session.standing ≡ true → follows s.armed (session_without index session).auth (session_without index session).standing ≡ true
       session_follows session follow =
-          cond_both (is_live_for index session.standing) (record session { standing = Ended }) session (λ (c : NodeSession). follows s.armed c.auth c.standing ≡ true)
+          cond_both (is_live_as index session.standing) (record session { standing = Ended }) session (λ (c : NodeSession). follows s.armed c.auth c.standing ≡ true)
           (λ over. ended_follows s.armed session.auth) (λ lives. follow)
 
       sessions_hold : SessionsHold left s.armed (map (session_without index) s.sessions)

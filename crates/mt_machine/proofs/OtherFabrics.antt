@@ -20,7 +20,7 @@ use Rattle.mt_model.specs.declared.tables.access.Auth.TheVariants.{Pase, Case, G
 use Rattle.mt_model.specs.declared.tables.fabric.Credentials.{Credentials}
 use Rattle.mt_model.specs.declared.tables.fabric.Fabric.{Fabric}
 use Rattle.mt_model.specs.declared.tables.network.Armed.{Armed}
-use Rattle.mt_machine.specs.Isolation.{is_live_for}
+use Rattle.mt_subs.specs.Leaving.{is_live_as}
 use Rattle.mt_machine.specs.State.{is_added, is_among, is_plain_of, is_row, is_row_at, is_row_of, is_updated, keeps_facts, stands_rightly}
 use Rattle.mt_model.specs.tables.Holding.{is_owned, saves_identity}
 use Rattle.mt_machine.proofs.Writes.{impossible}
@@ -72,8 +72,8 @@ module _ (fs gs : List Fabric) where
   ]
 
   pub stands-still : (session : NodeSession) (auth : Auth) (standing : Standing)
-      → ((n : ℕ) → is_live_for n standing ≡ true → is_among fs n ≡ true → is_among gs n ≡ true)
-      → ((n : ℕ) → is_live_for n standing ≡ true → list_any (is_its session.root_key session.fabric_id n) fs ≡ true → list_any (is_its session.root_key session.fabric_id n) gs ≡ true)
+      → ((n : ℕ) → is_live_as n standing ≡ true → is_among fs n ≡ true → is_among gs n ≡ true)
+      → ((n : ℕ) → is_live_as n standing ≡ true → list_any (is_its session.root_key session.fabric_id n) fs ≡ true → list_any (is_its session.root_key session.fabric_id n) gs ≡ true)
       → (list_any (has_identity session.root_key session.fabric_id) fs ≡ false → list_any (has_identity session.root_key session.fabric_id) gs ≡ false)
       → stands_rightly fs session auth standing ≡ true → stands_rightly gs session auth standing ≡ true
   stands-still session Pase Waits among its none stands = impossible stands

@@ -25,7 +25,8 @@ use Rattle.mt_model.specs.declared.tables.access.Auth.TheVariants.{Pase, Case, G
 use Rattle.mt_model.specs.declared.tables.fabric.Credentials.{Credentials}
 use Rattle.mt_model.specs.declared.tables.fabric.Fabric.{Fabric}
 use Rattle.mt_model.specs.declared.tables.network.Armed.{Armed}
-use Rattle.mt_machine.specs.Isolation.{is_live_for, own, owns, saved_for}
+use Rattle.mt_subs.specs.Leaving.{is_live_as}
+use Rattle.mt_machine.specs.Isolation.{own, owns, saved_for}
 use Rattle.mt_machine.specs.Rollback.{breadcrumb, ends, given_back, rolled_back, session_behind, undone}
 use Rattle.mt_machine.specs.State.{IsValid, follows, is_added, is_updated, keeps_facts, plain_follows}
 use Rattle.mt_machine.proofs.Order.{from_zero}
@@ -103,7 +104,7 @@ module _ (fabric : ℕ) (s : NodeState) (valid : IsValid s) (some : fabric ≢ 0
       let context = eqb-true armed.context updated (and_parts _ _ (and_parts (armed.owner == updated) _ is_u).1).0 in
       grind (arith, context, u)
 
-  lives_on : (auth : Auth) (standing : Standing) → is_live_for fabric standing ≡ true → follows (Some armed) auth standing ≡ true → ends armed auth standing ≡ false
+  lives_on : (auth : Auth) (standing : Standing) → is_live_as fabric standing ≡ true → follows (Some armed) auth standing ≡ true → ends armed auth standing ≡ false
   lives_on Pase Waits live follow = impossible live
   lives_on Pase (Live other) live follow = elim (or_cases (other == 0) (was_added other (Some armed)) follow) [
     | inl zero ↦ absurd (some (sym (eqb-true other fabric live) ∙ eqb-true other 0 zero))
@@ -122,7 +123,7 @@ module _ (fabric : ℕ) (s : NodeState) (valid : IsValid s) (some : fabric ≢ 0
   lives_on Group Ended live follow = refl
 
   abbrev mine_of : NodeSession → Bool
-  mine_of session = is_live_for fabric session.standing
+  mine_of session = is_live_as fabric session.standing
 
   sessions_same : (sessions : List NodeSession) → list_all (λ (session : NodeSession). follows (Some armed) session.auth session.standing) sessions ≡ true
       → filter mine_of (map (session_behind armed) sessions) ≡ filter mine_of sessions
@@ -130,7 +131,7 @@ module _ (fabric : ℕ) (s : NodeState) (valid : IsValid s) (some : fabric ≢ 0
   sessions_same (session ∷ sessions) follow =
       let both = and_parts (follows (Some armed) session.auth session.standing) (list_all (λ (other : NodeSession). follows (Some armed) other.auth other.standing) sessions) follow in
       let rest = sessions_same sessions both.1 in
-      elim (cases_Bool (is_live_for fabric session.standing)) [
+      elim (cases_Bool (is_live_as fabric session.standing)) [
         | inl live ↦ rw (lives_on session.auth session.standing live both.0, live) (ap (λ (l : List NodeSession). session ∷ l) rest)
         | inr not_live ↦ elim (cases_Bool (ends armed session.auth session.standing)) [
           | inl over ↦ rw (over, not_live) rest

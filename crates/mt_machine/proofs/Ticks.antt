@@ -20,7 +20,8 @@ use Rattle.mt_model.specs.declared.tables.fabric.Credentials.{Credentials}
 use Rattle.mt_model.specs.declared.tables.fabric.Fabric.{Fabric}
 use Rattle.mt_model.specs.declared.tables.network.Armed.{Armed}
 use Rattle.mt_machine.specs.Given.{Given}
-use Rattle.mt_machine.specs.Isolation.{Own, is_deadline_in, is_live_for, own, own_of_whole, owns, saved_for, veil, veil_of_whole, with_saved}
+use Rattle.mt_subs.specs.Leaving.{is_live_as}
+use Rattle.mt_machine.specs.Isolation.{Own, is_deadline_in, own, own_of_whole, owns, saved_for, veil, veil_of_whole, with_saved}
 use Rattle.mt_machine.specs.Lines.{next_tick}
 use Rattle.mt_machine.specs.Rollback.{breadcrumb, deadlines_left, ends, given_back, is_due, rolled_back, session_behind, undone}
 use Rattle.mt_machine.specs.State.{IsValid, State}
@@ -40,7 +41,7 @@ twice p (x ∷ xs) = elim (cases_Bool (p x)) [ inl its ↦ rw (its, its) (ap (λ
 
 module _ (fabric : ℕ) where
   abbrev is_mine : NodeSession → Bool
-  is_mine session = is_live_for fabric session.standing
+  is_mine session = is_live_as fabric session.standing
 
   -- the own part without what was done under the fail-safe
   abbrev own_undone : Armed → Own → Own
@@ -64,7 +65,7 @@ module _ (fabric : ℕ) where
 
   -- A session that is not its own does not become so.
 
-  mine_behind : (armed : Armed) (session : NodeSession) (rest others : List NodeSession) (over mine : Bool) → ends armed session.auth session.standing ≡ over → is_live_for fabric session.standing ≡ mine
+  mine_behind : (armed : Armed) (session : NodeSession) (rest others : List NodeSession) (over mine : Bool) → ends armed session.auth session.standing ≡ over → is_live_as fabric session.standing ≡ mine
       → filter is_mine rest ≡ filter is_mine others
       → filter is_mine (session_behind armed session ∷ rest) ≡ filter is_mine (if mine then session_behind armed session ∷ others else others)
   mine_behind armed session rest others true true over mine same = rw over same
@@ -80,8 +81,8 @@ module _ (fabric : ℕ) where
   behind_mine : (armed : Armed) (sessions : List NodeSession) → filter is_mine (map (session_behind armed) sessions) ≡ filter is_mine (map (session_behind armed) (filter is_mine sessions))
   behind_mine armed [] = refl
   behind_mine armed (session ∷ sessions) =
-      mine_behind armed session (map (session_behind armed) sessions) (map (session_behind armed) (filter is_mine sessions)) (ends armed session.auth session.standing) (is_live_for fabric session.standing) refl refl (behind_mine armed sessions)
-      ∙ ap (filter is_mine) (sym (behind_if armed session (filter is_mine sessions) (is_live_for fabric session.standing)))
+      mine_behind armed session (map (session_behind armed) sessions) (map (session_behind armed) (filter is_mine sessions)) (ends armed session.auth session.standing) (is_live_as fabric session.standing) refl refl (behind_mine armed sessions)
+      ∙ ap (filter is_mine) (sym (behind_if armed session (filter is_mine sessions) (is_live_as fabric session.standing)))
 
   undone_own : (armed : Armed) (s : NodeState) → own fabric (undone armed s) ≡ own_undone armed (own fabric s)
   undone_own armed s = λ i. record {

@@ -30,7 +30,8 @@ use Rattle.mt_model.specs.declared.tables.fabric.Fabric.{Fabric}
 use Rattle.mt_model.specs.declared.tables.network.Armed.{Armed}
 use Rattle.mt_model.specs.declared.tables.network.Network.{Network}
 use Rattle.mt_machine.specs.Effects.{after, armed_behind, completed, is_on, is_pase, is_plain, is_sound_step, joined, joined_as, labelled_in, may_join, may_leave, may_update, plain_joined, plain_without, session_completed, session_joined, session_without, standing_completed, standing_joined, trusting, updated_in, with_request, with_saved_credentials, without_fabric}
-use Rattle.mt_machine.specs.Isolation.{is_live_for, own, owns, saved_for}
+use Rattle.mt_subs.specs.Leaving.{is_live_as}
+use Rattle.mt_machine.specs.Isolation.{own, owns, saved_for}
 use Rattle.mt_machine.specs.Rollback.{rolled_back}
 use Rattle.mt_machine.specs.State.{IsValid, follows, is_added, is_updated, keeps_facts, plain_follows}
 use Rattle.mt_machine.specs.Touching.{may_touch}
@@ -111,7 +112,7 @@ request-own fabric nonce update s = elim (cases_Bool (notes.may_note_csr update 
 
 -- Commissioning is complete.
 module _ (fabric context : ℕ) where
-  pub completed-none : (auth : Auth) (standing : Standing) → is_live_for fabric standing ≡ false → is_live_for fabric (standing_completed context auth standing) ≡ false
+  pub completed-none : (auth : Auth) (standing : Standing) → is_live_as fabric standing ≡ false → is_live_as fabric (standing_completed context auth standing) ≡ false
   completed-none Pase Waits not_live = refl
   completed-none Pase (Live other) not_live = elim (cases_Bool (other == context)) [
     | inl over ↦ rw over refl
@@ -123,15 +124,15 @@ module _ (fabric context : ℕ) where
 
 -- For another fabric.
 module _ (fabric context : ℕ) (apart : (context == fabric) ≡ false) where
-  completed-stays : (auth : Auth) (standing : Standing) → is_live_for fabric standing ≡ true → standing_completed context auth standing ≡ standing
+  completed-stays : (auth : Auth) (standing : Standing) → is_live_as fabric standing ≡ true → standing_completed context auth standing ≡ standing
   completed-stays Pase Waits live = impossible live
   completed-stays Pase (Live other) live = rw (apart-from other context fabric live apart) refl
   completed-stays Pase Ended live = impossible live
   completed-stays Case standing live = refl
   completed-stays Group standing live = refl
 
-  completed-sessions : (sessions : List NodeSession) → filter (λ (session : NodeSession). is_live_for fabric session.standing) (map (session_completed context) sessions) ≡ filter (λ (session : NodeSession). is_live_for fabric session.standing) sessions
-  completed-sessions sessions = mine-stay (λ (session : NodeSession). is_live_for fabric session.standing) (λ (session : NodeSession). true) (session_completed context)
+  completed-sessions : (sessions : List NodeSession) → filter (λ (session : NodeSession). is_live_as fabric session.standing) (map (session_completed context) sessions) ≡ filter (λ (session : NodeSession). is_live_as fabric session.standing) sessions
+  completed-sessions sessions = mine-stay (λ (session : NodeSession). is_live_as fabric session.standing) (λ (session : NodeSession). true) (session_completed context)
       (λ session good live. ap (λ (standing : Standing). record session { standing = standing }) (completed-stays session.auth session.standing live))
       (λ session good not_live. completed-none fabric context session.auth session.standing not_live)
       sessions (all-any sessions)
@@ -181,7 +182,7 @@ placed-mine fabric f other (g ∷ fabrics) = elim (cases_Bool (nat_lt g.index f.
 ]
 
 module _ (fabric index : ℕ) (apart : (index == fabric) ≡ false) where
-  pub joined-none : (asks fits : Bool) (auth : Auth) (standing : Standing) → is_live_for fabric standing ≡ false → is_live_for fabric (standing_joined asks index fits auth standing) ≡ false
+  pub joined-none : (asks fits : Bool) (auth : Auth) (standing : Standing) → is_live_as fabric standing ≡ false → is_live_as fabric (standing_joined asks index fits auth standing) ≡ false
   joined-none asks true Pase Waits not_live = apart
   joined-none asks false Pase Waits not_live = refl
   joined-none asks true Case Waits not_live = apart
@@ -213,7 +214,7 @@ module _ (fabric index : ℕ) (some : (fabric == 0) ≡ false) (apart : (index =
       | inr joined ↦ impossible (sym (unused n) ∙ joined)
     ]
 
-    joined-stays : (asks fits : Bool) (auth : Auth) (standing : Standing) → follows armed auth standing ≡ true → is_live_for fabric standing ≡ true → standing_joined asks index fits auth standing ≡ standing
+    joined-stays : (asks fits : Bool) (auth : Auth) (standing : Standing) → follows armed auth standing ≡ true → is_live_as fabric standing ≡ true → standing_joined asks index fits auth standing ≡ standing
     joined-stays asks fits Pase Waits follow live = impossible live
     joined-stays asks fits Pase (Live other) follow live = impossible (nobodys-apart other (nobodys other follow) live)
     joined-stays asks fits Pase Ended follow live = impossible live
@@ -225,8 +226,8 @@ module _ (fabric index : ℕ) (some : (fabric == 0) ≡ false) (apart : (index =
     joined-stays asks fits Group Ended follow live = impossible live
 
     joined-sessions : (asker : Option Actor) (joins : Fabric) (sessions : List NodeSession) → list_all (λ (session : NodeSession). follows armed session.auth session.standing) sessions ≡ true
-        → filter (λ (session : NodeSession). is_live_for fabric session.standing) (map (session_joined asker index joins) sessions) ≡ filter (λ (session : NodeSession). is_live_for fabric session.standing) sessions
-    joined-sessions asker joins = mine-stay (λ (session : NodeSession). is_live_for fabric session.standing) (λ (session : NodeSession). follows armed session.auth session.standing) (session_joined asker index joins)
+        → filter (λ (session : NodeSession). is_live_as fabric session.standing) (map (session_joined asker index joins) sessions) ≡ filter (λ (session : NodeSession). is_live_as fabric session.standing) sessions
+    joined-sessions asker joins = mine-stay (λ (session : NodeSession). is_live_as fabric session.standing) (λ (session : NodeSession). follows armed session.auth session.standing) (session_joined asker index joins)
         (λ session follow live. ap (λ (standing : Standing). record session { standing = standing }) (joined-stays (is_on asker session) (has_identity session.root_key session.fabric_id joins) session.auth session.standing follow live))
         (λ session follow not_live. joined-none fabric index apart (is_on asker session) (has_identity session.root_key session.fabric_id joins) session.auth session.standing not_live)
 
@@ -301,7 +302,7 @@ updated-own fabric index given s apart = elim (cases_Bool (may_update index give
         entries = own_entries fabric s.entries;
         fabrics = fabrics i;
         saved = saved i;
-        sessions = filter (λ (session : NodeSession). is_live_for fabric session.standing) s.sessions;
+        sessions = filter (λ (session : NodeSession). is_live_as fabric session.standing) s.sessions;
         is_plain = is_that fabric s.plain;
       })
   | inr not_now ↦ rw not_now refl
@@ -324,8 +325,8 @@ saved-before index given s may =
 
 -- A fabric leaves.
 module _ (fabric index : ℕ) where
-  pub session-none : (session : NodeSession) → is_live_for fabric session.standing ≡ false → is_live_for fabric (session_without index session).standing ≡ false
-  session-none session not_live = elim (cases_Bool (is_live_for index session.standing)) [
+  pub session-none : (session : NodeSession) → is_live_as fabric session.standing ≡ false → is_live_as fabric (session_without index session).standing ≡ false
+  session-none session not_live = elim (cases_Bool (is_live_as index session.standing)) [
     | inl over ↦ rw over refl
     | inr lives ↦ rw lives not_live
   ]
@@ -341,16 +342,16 @@ module _ (fabric index : ℕ) (apart : (index == fabric) ≡ false) where
   left-fabrics : (fabrics : List Fabric) → filter (has_index fabric) (removed index fabrics) ≡ filter (has_index fabric) fabrics
   left-fabrics = both-filters (has_index fabric) (has_other_index index) (λ f mine. ap not (apart-from f.index index fabric mine apart))
 
-  left-stays : (standing : Standing) → is_live_for fabric standing ≡ true → is_live_for index standing ≡ false
+  left-stays : (standing : Standing) → is_live_as fabric standing ≡ true → is_live_as index standing ≡ false
   left-stays Waits live = refl
   left-stays (Live other) live = apart-from other index fabric live apart
   left-stays Ended live = refl
 
-  session-stays : (session : NodeSession) → is_live_for fabric session.standing ≡ true → session_without index session ≡ session
+  session-stays : (session : NodeSession) → is_live_as fabric session.standing ≡ true → session_without index session ≡ session
   session-stays session live = rw (left-stays session.standing live) refl
 
-  left-sessions : (sessions : List NodeSession) → filter (λ (session : NodeSession). is_live_for fabric session.standing) (map (session_without index) sessions) ≡ filter (λ (session : NodeSession). is_live_for fabric session.standing) sessions
-  left-sessions sessions = mine-stay (λ (session : NodeSession). is_live_for fabric session.standing) (λ (session : NodeSession). true) (session_without index)
+  left-sessions : (sessions : List NodeSession) → filter (λ (session : NodeSession). is_live_as fabric session.standing) (map (session_without index) sessions) ≡ filter (λ (session : NodeSession). is_live_as fabric session.standing) sessions
+  left-sessions sessions = mine-stay (λ (session : NodeSession). is_live_as fabric session.standing) (λ (session : NodeSession). true) (session_without index)
       (λ session good live. session-stays session live) (λ session good not_live. session-none fabric index session not_live) sessions (all-any sessions)
 
   left-own : (s : NodeState) → own fabric (without_fabric index s) ≡ own fabric s

@@ -27,7 +27,7 @@ use Rattle.mt_model.specs.declared.node.state.NodeSession.{NodeSession}
 use Rattle.mt_model.specs.declared.node.state.NodeState.{NodeState}
 use Rattle.mt_model.specs.declared.node.state.Standing.{Standing}
 use Rattle.mt_model.specs.declared.node.state.Standing.TheVariants.{Waits, Live, Ended}
-use Rattle.mt_machine.specs.Isolation.{is_live_for}
+use Rattle.mt_subs.specs.Leaving.{is_live_as}
 use Rattle.mt_machine.specs.Rollback.{rollback, roots_behind}
 use Rattle.mt_machine.specs.State as states
 
@@ -164,7 +164,7 @@ abbrev pub may_leave : ℕ → NodeState → Bool
 may_leave index s = is_used index s.fabrics && not (is_context index s.armed)
 
 abbrev pub session_without : ℕ → NodeSession → NodeSession
-session_without index session = if is_live_for index session.standing then record session { standing = Ended } else session
+session_without index session = if is_live_as index session.standing then record session { standing = Ended } else session
 
 abbrev pub without_fabric : ℕ → NodeState → NodeState
 without_fabric index s = if may_leave index s then record s {

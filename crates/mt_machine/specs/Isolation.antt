@@ -19,9 +19,8 @@ use Rattle.mt_model.specs.declared.rows.place.Row.{Row}
 use Rattle.mt_model.specs.declared.node.state.ChangeNumber.{ChangeNumber}
 use Rattle.mt_model.specs.declared.node.state.NodeSession.{NodeSession}
 use Rattle.mt_model.specs.declared.node.state.NodeState.{NodeState}
-use Rattle.mt_model.specs.declared.node.state.Standing.{Standing}
-use Rattle.mt_model.specs.declared.node.state.Standing.TheVariants.{Waits, Live, Ended}
 use Rattle.mt_model.specs.declared.node.state.Version.{Version}
+use Rattle.mt_subs.specs.Leaving.{is_live_as}
 use Rattle.mt_machine.specs.State.{State}
 
 -- A fabric's own part.
@@ -29,11 +28,6 @@ use Rattle.mt_machine.specs.State.{State}
 -- a row of a fabric's own; a row of fabric 0 is nobody's
 abbrev pub owns : ℕ → Row → Bool
 owns fabric row = row.fabric == fabric && not (row.fabric == 0)
-
-abbrev pub is_live_for : ℕ → Standing → Bool
-is_live_for fabric Waits = false
-is_live_for fabric (Live other) = other == fabric
-is_live_for fabric Ended = false
 
 -- the credentials that the fabric had before it was updated under the fail-safe
 abbrev pub saved_for : ℕ → Option Armed → Option Credentials
@@ -56,7 +50,7 @@ own fabric s = record {
   entries = own_entries fabric s.entries;
   fabrics = filter (has_index fabric) s.fabrics;
   saved = saved_for fabric s.armed;
-  sessions = filter (λ (session : NodeSession). is_live_for fabric session.standing) s.sessions;
+  sessions = filter (λ (session : NodeSession). is_live_as fabric session.standing) s.sessions;
   is_plain = is_that fabric s.plain;
 }
 

@@ -1,5 +1,5 @@
 -- One line of a recording: the action that it makes, what is sent, and the state behind it.
-use Rattle.std.specs.Prelude.{ℕ, ◌+◌, ◌-◌, ◌^◌, ◌==◌, ◌&&◌, not, nat_lt, Bool, true, false, List, [], ◌∷◌, ◌++◌, Option, Some, None, Result, Ok, Err, bytes_eq, filter, if◌then◌else◌, length, map, min, take_while, unwrap_or}
+use Rattle.std.specs.Prelude.{ℕ, ◌+◌, ◌-◌, ◌^◌, ◌==◌, ◌&&◌, not, nat_lt, Bool, true, false, List, [], ◌∷◌, ◌++◌, Option, Some, None, Result, Ok, Err, bytes_eq, filter, if◌then◌else◌, length, map, min, unwrap_or}
 use Rattle.std.specs.List.{find}
 use Rattle.std.specs.Option.{option_map}
 use Rattle.mt_im.specs.Reading.{request_in}
@@ -26,7 +26,7 @@ use Rattle.mt_machine.specs.Isolation.{is_deadline_in}
 use Rattle.mt_machine.specs.Rollback.{deadlines_left, is_due}
 use Rattle.mt_machine.specs.Leaving.{has_left}
 use Rattle.mt_machine.specs.State.{State}
-use Rattle.mt_machine.specs.Step.{after_action, asker, case_actor, is_built_request, is_late, pase_actor, refusal, reply_of}
+use Rattle.mt_machine.specs.Step.{after_action, asker, case_actor, is_late, pase_actor, refusal, reply_of}
 
 -- Whom a plain line names: the plain PASE session where its fabric is 0, otherwise a node of its fabric.
 abbrev pub line_actor : ℕ → ℕ → List ℕ → Actor
@@ -182,26 +182,3 @@ next given s (events.Tick ms) = next_tick given s ms
 next given s (events.Report ms fabric subscription) = s
 next given s (events.Resend ms session) = s
 next given s (events.Stop calls fate) = s
-
--- all that a list of events sends
-abbrev pub run : Given → State → List Event → List Sent
-run given s [] = []
-run given s (event ∷ events) = sent given s event ++ run given (next given s event) events
-
--- Which events are built: payloads that are no request, and requests that are built.
-
-abbrev pub is_built_payload : Result Request ImFault → Bool
-is_built_payload (Ok request) = is_built_request request
-is_built_payload (Err fault) = true
-
-abbrev pub is_built : Event → Bool
-is_built (events.Ask ms fabric node cats opcode payload) = is_built_payload (request_in opcode payload)
-is_built (events.Datagram ms peer bytes) = false
-is_built (events.Tick ms) = true
-is_built (events.Report ms fabric subscription) = false
-is_built (events.Resend ms session) = false
-is_built (events.Stop calls fate) = false
-
--- the events before the first that is not built
-abbrev pub built_events : List Event → List Event
-built_events events = take_while is_built events

@@ -129,7 +129,7 @@ reply_to given o actor stood (requests.Write suppress timed items) = write_reply
 reply_to given o actor stood (requests.Invoke suppress timed command fields) = invoke_reply given o actor stood suppress timed command fields
 reply_to given o actor stood (requests.Timed ms) = refusal (code_of Success)
 
--- what a reply makes of the state: of the requests that are built writes and commands alone change anything
+-- what a reply makes of the state: writes and commands alone make anything change anything
 abbrev pub steps_to : Given → Observation → Actor → Bool → Request → List NodeStep
 steps_to given o actor stood (requests.Status code) = []
 steps_to given o actor stood (requests.Read paths wanted minimum filtered versions) = []
@@ -232,18 +232,3 @@ aside_between session before now = record {
 
 abbrev pub aside_of : Given → NodeState → Action → ℕ → Aside
 aside_of given s action now = aside_between (session_asking s action) s (after_action given s action now)
-
--- Which actions are built: all requests but subscriptions.
-
-abbrev pub is_built_request : Request → Bool
-is_built_request (requests.Status code) = true
-is_built_request (requests.Read paths wanted minimum filtered versions) = true
-is_built_request (requests.Subscribe keep floor ceiling paths wanted minimum filtered versions) = false
-is_built_request (requests.Write suppress timed items) = true
-is_built_request (requests.Invoke suppress timed command fields) = true
-is_built_request (requests.Timed ms) = true
-
-abbrev pub is_built_action : Action → Bool
-is_built_action (Ask actor request deadline) = is_built_request request
-is_built_action Expire = true
-is_built_action Nothing = true

@@ -35,4 +35,3 @@ mod writes;
 pub use mt_model::{Action, SessionIds};
 pub use node::Node;
 pub use outcome::Outcome;
-pub use requests::is_built_request;

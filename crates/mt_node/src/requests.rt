@@ -3,7 +3,7 @@
 ghost use Rattle.std.specs.Prelude.{◌≡◌, [], IfOk};
 ghost use Rattle.mt_model.specs.messages.Status.{code_of};
 ghost use Rattle.mt_model.specs.declared.messages.message.Reply.TheVariants.{Nothing};
-ghost use Rattle.mt_machine.specs.Step.{is_built_request, is_untimely, refusal, unless_suppressed};
+ghost use Rattle.mt_machine.specs.Step.{is_untimely, refusal, unless_suppressed};
 ghost use Rattle.mt_node.specs.Answered.{IsAnswer};
 ghost use Rattle.mt_node.specs.Kept.{given_to};
 
@@ -11,21 +11,6 @@ use crate::node::Node;
 use crate::{commands, reads, writes};
 use mt_model::{Actor, Effect, Reply, Request, Status, Steps, Verdicts};
 use std::alloc::{AllocError, Global};
-
-/// Whether a request is one of those that the node answers by itself: statuses, reads, writes, commands, and requests that
-/// set a time. What subscribes is answered by whoever keeps the subscriptions.
-pub fn is_built_request(request: &Request) -> bool
-    ensures { result ≡ is_built_request request.now }
-{
-    match request {
-        Request::Status { .. } => true,
-        Request::Read { .. } => true,
-        Request::Subscribe { .. } => false,
-        Request::Write { .. } => true,
-        Request::Invoke { .. } => true,
-        Request::Timed { .. } => true,
-    }
-}
 
 /// What a request of whoever is taken as asking is answered, where a deadline stood for it or none did. What subscribes is
 /// answered by whoever keeps the subscriptions.

@@ -2,7 +2,7 @@
 
 ghost use Rattle.std.specs.Prelude.{◌≡◌, IfOk, map};
 ghost use Rattle.mt_machine.specs.Effects.{is_on, is_pase, is_plain, plain_joined, plain_without, session_completed, session_joined, session_without, standing_completed, standing_joined};
-ghost use Rattle.mt_machine.specs.Isolation.{is_live_for};
+ghost use Rattle.mt_subs.specs.Leaving.{is_live_as};
 
 use mt_model::{Actor, Auth, ExactCopy, Fabric, NodeSession, NodeSessions, Standing};
 use std::alloc::{AllocError, Global};
@@ -144,14 +144,14 @@ pub(crate) fn sessions_without(
 fn session_without(index: u8, session: &NodeSession) -> Result<NodeSession, AllocError>
     ensures { IfOk result (λ behind. behind ≡ session_without index session.now) }
 {
-    if is_live_for(index, session.standing) {
+    if is_live_as(index, session.standing) {
         return with_standing(session, Standing::Ended);
     }
     session.copy()
 }
 
-fn is_live_for(index: u8, standing: Standing) -> bool
-    ensures { result ≡ is_live_for index standing }
+fn is_live_as(index: u8, standing: Standing) -> bool
+    ensures { result ≡ is_live_as index standing }
 {
     match standing {
         Standing::Live(fabric) => fabric == index,
