@@ -1,0 +1,4 @@
+pub mod Laws
+pub mod Marks
+pub mod Messages
+pub mod Replay

@@ -1,0 +1,58 @@
+//! Whole runs, as they are written: what each fabric is sent of a run, its marks, which are what it may learn beside its own
+//! part, and what is made of these two. The definitions stand in `specs/`, a chapter a file; the functions here do nothing,
+//! and their contracts are the laws.
+//!
+//! - `Messages`: all that a run sends, each message with the fabric to which it is sent;
+//! - `Marks`: the marks of a fabric in a run;
+//! - `Replay`: what a fabric is sent, made of its own part and its marks and of nothing else;
+//! - `Laws`: the laws.
+#![tactic(auto)]
+
+ghost use Rattle.mt_runs.specs.Laws.{EqualMarksEqualMessages, EqualMarksEqualParts, LinesNameTheirFabric, RunsAreReplayed, RunsAreTheirMessages, RunsLeaveWhatIsReplayed, RunsNameTheirFabrics, RunsStayValid, StrangersAreSentNothing};
+
+use mt_lines::{
+    keeps_the_own, leaves_the_own_on_the_veil, sends_on_the_veil, ticks_see_the_mark_alone,
+    veil_keeps_the_own, wholes_are_valid,
+};
+
+/// What is written of a run is its messages in their order, each once; and a run leaves a valid whole.
+pub fn runs_are_their_messages()
+    ensures messages { RunsAreTheirMessages }
+    ensures valid { RunsStayValid }
+{
+    wholes_are_valid();
+}
+
+/// A message to a plain actor names the fabric to which it is sent.
+pub fn plain_messages_name_their_fabric()
+    ensures line { LinesNameTheirFabric }
+    ensures run { RunsNameTheirFabrics }
+{}
+
+/// A line that acts for a fabric which is not in the table sends nothing.
+pub fn strangers_are_sent_nothing()
+    ensures { StrangersAreSentNothing }
+{}
+
+/// What a fabric is sent in a run, and what it holds at the end, is made of its own part and its marks, and of nothing else.
+pub fn runs_are_replayed()
+    ensures sent { RunsAreReplayed }
+    ensures held { RunsLeaveWhatIsReplayed }
+{
+    wholes_are_valid();
+    veil_keeps_the_own();
+    sends_on_the_veil();
+    leaves_the_own_on_the_veil();
+    keeps_the_own();
+    ticks_see_the_mark_alone();
+    strangers_are_sent_nothing();
+}
+
+/// Two runs in which a fabric has the same own part and the same marks send it the same, byte for byte, and leave it the same.
+/// The two may differ in all else: other fabrics, their data, what they ask, and when, so far as no mark shows it.
+pub fn equal_marks_have_equal_messages()
+    ensures messages { EqualMarksEqualMessages }
+    ensures parts { EqualMarksEqualParts }
+{
+    runs_are_replayed();
+}
