@@ -1,0 +1,6 @@
+pub mod Commanded
+pub mod Forms
+pub mod Names
+pub mod Numbers
+pub mod Places
+pub mod Walks

@@ -1,0 +1,120 @@
+-- Which words are a command, which of them name its files, and what they ask for.
+use Rattle.std.specs.Prelude.{ℕ, ◌+◌, ◌^◌, ◌-◌, ◌==◌, nat_lt, nat_le, ◌&&◌, not, Bool, false, List, [], ◌∷◌, Option, Some, None, codes, drop, length, map, nat_eq, string_bytes, String, if◌then◌else◌}
+use Rattle.std.specs.Char.{is_ascii_digit}
+use Rattle.std.specs.Cmp.Lexicographic.{pointwise}
+use Rattle.std.specs.Global.{Global}
+use Rattle.std.specs.List.{list_all, slice_index_or}
+use Rattle.std.specs.Option.{option_and_then, option_map}
+use Rattle.std.specs.Str.Parse.{digits_value}
+use Rattle.mt_words.specs.declared.asked.Asked.{Asked}
+use Rattle.mt_words.specs.declared.asked.Asked.TheVariants as asks
+use Rattle.mt_words.specs.declared.command.Command.{Command}
+use Rattle.mt_words.specs.declared.command.Command.TheVariants.{Replay, Soak}
+use Rattle.mt_words.specs.declared.files.Files.{Files}
+
+-- Words.
+
+-- the words as bytes
+abbrev pub words_of : List (String Global) → List (List ℕ)
+words_of words = map string_bytes words
+
+abbrev pub is_word : List ℕ → List ℕ → Bool
+is_word word wanted = pointwise nat_eq word wanted
+
+-- whether a word begins with `-` and is longer than that
+abbrev pub is_option : List ℕ → Bool
+is_option [] = false
+is_option (first ∷ others) = nat_eq first 45 && nat_lt 0 (length others)
+
+-- whether a word before `--` is positional
+abbrev pub is_name : List ℕ → Bool
+is_name word = not (is_option word)
+
+-- Positional words.
+
+-- the places of words, from this one on
+abbrev pub places_from : ℕ → List (List ℕ) → List ℕ
+places_from place [] = []
+places_from place (word ∷ words) = place ∷ places_from (place + 1) words
+
+-- The places of the positional words, the first of which has this place. A word `--` is none, and
+-- all behind it are; before it no word may be an option, since no command has one.
+abbrev pub positional_from : ℕ → List (List ℕ) → Option (List ℕ)
+positional_from place [] = Some []
+positional_from place (word ∷ words) =
+    if is_word word (codes "--") then Some (places_from (place + 1) words)
+    else if is_option word then None
+    else option_map (λ places. place ∷ places) (positional_from (place + 1) words)
+
+-- so many, and no more
+abbrev pub exactly : {A : Type 0} → ℕ → Option (List A) → Option (List A)
+exactly count found = option_and_then (λ items. if length items == count then Some items else None) found
+
+-- the words at these places
+abbrev pub words_at : List (List ℕ) → List ℕ → List (List ℕ)
+words_at words places = map (λ place. slice_index_or words place []) places
+
+-- the positional words behind the first word
+abbrev pub names_of : List (List ℕ) → Option (List (List ℕ))
+names_of words = option_map (words_at words) (positional_from 1 (drop 1 words))
+
+-- Commands. What stands at the head of each rule below is what the command takes, in this order:
+-- `replay CONFIG RECORDING`, `soak BEGIN COUNT CONFIG`.
+
+abbrev pub command_of : List ℕ → Option Command
+command_of word =
+    if is_word word (codes "replay") then Some Replay
+    else if is_word word (codes "soak") then Some Soak
+    else None
+
+-- Files.
+
+-- the files of a command, by the places of its positional words
+abbrev pub files_at : Command → List ℕ → Option Files
+files_at Replay (config ∷ recording ∷ []) = Some (record { config = config; first = Some recording; second = None; journal = None; bind = None })
+files_at Soak (begin ∷ count ∷ config ∷ []) = Some (record { config = config; first = None; second = None; journal = None; bind = None })
+files_at _ places = None
+
+-- the files that the words name, None where they have no form
+abbrev pub files_of : List (List ℕ) → Option Files
+files_of [] = None
+files_of (command ∷ words) = option_and_then (λ command. option_and_then (files_at command) (positional_from 1 words)) (command_of command)
+
+-- Numbers.
+
+-- decimal digits with no sign and no leading zero
+abbrev pub is_numeral : List ℕ → Bool
+is_numeral [] = false
+is_numeral (digit ∷ []) = is_ascii_digit digit
+is_numeral (first ∷ second ∷ digits) = not (first == 48) && list_all is_ascii_digit (first ∷ second ∷ digits)
+
+-- a number of a range
+abbrev pub number_between : ℕ → ℕ → List ℕ → Option ℕ
+number_between least most word =
+    let number = digits_value 10 word in
+    if is_numeral word && (nat_le least number && nat_le number most) then Some number else None
+
+-- a number of 64 bits
+abbrev pub begin_of : List ℕ → Option ℕ
+begin_of word = number_between 0 (2 ^ 64 - 1) word
+
+-- how long a soak is
+abbrev pub count_of : List ℕ → Option ℕ
+count_of word = number_between 1 100000 word
+
+-- What is asked for.
+
+abbrev pub soak_of : Option ℕ → Option ℕ → Option Asked
+soak_of (Some begin) (Some count) = Some (asks.Soak begin count)
+soak_of _ _ = None
+
+-- what a command asks for, by its positional words
+abbrev pub asked_by : Command → List (List ℕ) → Option Asked
+asked_by Replay (config ∷ recording ∷ []) = Some asks.Replay
+asked_by Soak (begin ∷ count ∷ config ∷ []) = soak_of (begin_of begin) (count_of count)
+asked_by _ words = None
+
+-- what the words ask for, None where they have no form
+abbrev pub asked : List (List ℕ) → Option Asked
+asked [] = None
+asked (command ∷ words) = option_and_then (λ found. option_and_then (asked_by found) (names_of (command ∷ words))) (command_of command)

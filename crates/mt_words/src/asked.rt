@@ -1,0 +1,99 @@
+//! What the words ask for.
+
+ghost use Rattle.std.specs.Prelude.{◌≡◌, IfErr, IfOk};
+ghost use Rattle.std.specs.Option.{ok_or, option_and_then};
+ghost use Rattle.mt_words.specs.Words.{asked, asked_by, begin_of, count_of, names_of, soak_of, words_of};
+
+use crate::command::{Command, command_of};
+use crate::number::{begin_of, count_of};
+use crate::parse::{parse, replay_command, soak_command};
+use std::alloc::Global;
+
+/// What a command line asks for.
+#[derive(Clone, Copy, Debug, PartialEq, Eq)]
+pub enum Asked {
+    /// A recording is replayed.
+    Replay,
+    /// Events that are made from a number are played, and what is sent is summed up.
+    Soak {
+        /// The number from which they are made.
+        begin: u64,
+        /// How many there are, 1 to `MOST_COUNT`.
+        count: u32,
+    },
+}
+
+/// Why words ask for nothing.
+#[derive(Clone, Copy, Debug, PartialEq, Eq)]
+pub enum WordsFault {
+    /// The words have no form.
+    Bad,
+    /// Memory ran out.
+    Memory,
+}
+
+/// What the words of a command line ask for, the first being the command. Where memory runs out for the
+/// parser, that is no answer on the words.
+pub fn asked_of(alloc: Global, words: &[String]) -> Result<Asked, WordsFault>
+    ensures ok { IfOk result (λ found. asked (words_of words.now) ≡ Some found) }
+    ensures bad { IfErr result (λ fault. fault ≡ WordsFault.Bad → asked (words_of words.now) ≡ None) }
+{
+    let [first, ..] = words else {
+        return Err(WordsFault::Bad);
+    };
+    match command_of(first.as_str()) {
+        Some(Command::Replay) => replay_asked(alloc, words),
+        Some(Command::Soak) => soak_asked(alloc, words),
+        None => Err(WordsFault::Bad),
+    }
+}
+
+fn replay_asked(alloc: Global, words: &[String]) -> Result<Asked, WordsFault>
+    ensures ok { IfOk result (λ found. option_and_then (asked_by Command.Replay)
+        (names_of (words_of words.now)) ≡ Some found) }
+    ensures bad { IfErr result (λ fault. fault ≡ WordsFault.Bad
+        → option_and_then (asked_by Command.Replay) (names_of (words_of words.now)) ≡ None) }
+{
+    let Ok(command) = replay_command(alloc) else {
+        return Err(WordsFault::Memory);
+    };
+    match parse(command, words) {
+        Ok(_) => {}
+        Err(fault) => return Err(fault),
+    }
+    Ok(Asked::Replay)
+}
+
+fn soak_asked(alloc: Global, words: &[String]) -> Result<Asked, WordsFault>
+    ensures ok { IfOk result (λ found. option_and_then (asked_by Command.Soak)
+        (names_of (words_of words.now)) ≡ Some found) }
+    ensures bad { IfErr result (λ fault. fault ≡ WordsFault.Bad
+        → option_and_then (asked_by Command.Soak) (names_of (words_of words.now)) ≡ None) }
+{
+    let Ok(command) = soak_command(alloc) else {
+        return Err(WordsFault::Memory);
+    };
+    let found = match parse(command, words) {
+        Ok(found) => found,
+        Err(fault) => return Err(fault),
+    };
+    let Some(begin) = found.get_str("begin") else {
+        return Err(WordsFault::Bad);
+    };
+    let Some(count) = found.get_str("count") else {
+        return Err(WordsFault::Bad);
+    };
+    soak(begin, count)
+}
+
+fn soak(begin: &str, count: &str) -> Result<Asked, WordsFault>
+    ensures { result ≡ ok_or (soak_of (begin_of begin.now) (count_of count.now)) WordsFault.Bad }
+{
+    let Some(begin) = begin_of(begin) else {
+        return Err(WordsFault::Bad);
+    };
+    let Some(count) = count_of(count) else {
+        return Err(WordsFault::Bad);
+    };
+    Ok(Asked::Soak { begin, count })
+}

@@ -1,0 +1,74 @@
+//! Which words name files.
+
+ghost use Rattle.std.specs.Prelude.{◌≡◌};
+ghost use Rattle.std.specs.Option.{option_and_then};
+ghost use Rattle.std.specs.Result.{result_ok};
+ghost use Rattle.mt_words.specs.Words.{files_at, files_of, positional_from, words_of};
+
+use crate::command::{Command, command_of, places};
+
+/// Which words name the files of a command, by their places from 0; None where the command has no
+/// such word.
+#[derive(Clone, Copy, Debug, PartialEq, Eq)]
+pub struct Files {
+    /// The configuration.
+    pub config: usize,
+    /// The first recording.
+    pub first: Option<usize>,
+    /// The second recording.
+    pub second: Option<usize>,
+    pub journal: Option<usize>,
+    /// The address at which the node is served.
+    pub bind: Option<usize>,
+}
+
+/// The words have no form.
+#[derive(Clone, Copy, Debug, PartialEq, Eq)]
+pub struct BadWords;
+
+/// The files that the words of a command line name, its first word being the command. It takes no
+/// memory. Numbers among the words are not looked at.
+pub fn files_of(words: &[String]) -> Result<Files, BadWords>
+    ensures { result_ok result ≡ files_of (words_of words.now) }
+{
+    let [command, others @ ..] = words else {
+        return Err(BadWords);
+    };
+    match command_of(command.as_str()) {
+        Some(Command::Replay) => replay_files(others),
+        Some(Command::Soak) => soak_files(others),
+        None => Err(BadWords),
+    }
+}
+
+fn replay_files(words: &[String]) -> Result<Files, BadWords>
+    ensures { result_ok result
+        ≡ option_and_then (files_at Command.Replay) (positional_from 1 (words_of words.now)) }
+{
+    match places::<2>(words) {
+        Some(places) => Ok(Files {
+            config: places[0],
+            first: Some(places[1]),
+            second: None,
+            journal: None,
+            bind: None,
+        }),
+        None => Err(BadWords),
+    }
+}
+
+fn soak_files(words: &[String]) -> Result<Files, BadWords>
+    ensures { result_ok result
+        ≡ option_and_then (files_at Command.Soak) (positional_from 1 (words_of words.now)) }
+{
+    match places::<3>(words) {
+        Some(places) => Ok(Files {
+            config: places[2],
+            first: None,
+            second: None,
+            journal: None,
+            bind: None,
+        }),
+        None => Err(BadWords),
+    }
+}
