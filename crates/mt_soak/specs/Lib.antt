@@ -1,0 +1,3 @@
+pub mod Requests
+pub mod Generated
+pub mod Summary
