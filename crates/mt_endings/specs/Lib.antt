@@ -1,0 +1,7 @@
+pub mod Endings
+pub mod Faults
+pub mod Laws
+pub mod Moments
+pub mod Parts
+pub mod Run
+pub mod Statuses
