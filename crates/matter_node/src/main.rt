@@ -2,9 +2,11 @@
 #![tactic(auto)]
 
 mod adapters;
+mod progress;
 
 use adapters::{ReaderSource, WriterSink};
-use mt_top::{files_of, run};
+use mt_top::{files_of, run_watched};
+use progress::TerminalProgress;
 use std::fs::File;
 use std::process::ExitCode;
 use std::rt::Env;
@@ -29,7 +31,15 @@ fn main(rt: HostRuntime) -> ExitCode {
     let mut config = ReaderSource::new(named(&rt, &words, config));
     let mut first = ReaderSource::new(named(&rt, &words, first));
     let mut out = WriterSink::new(io::writer(&rt));
-    ExitCode::from(run(rt.alloc(), &words, &mut config, &mut first, &mut out))
+    let mut progress = TerminalProgress::new(&rt);
+    ExitCode::from(run_watched(
+        rt.alloc(),
+        &words,
+        &mut config,
+        &mut first,
+        &mut out,
+        &mut progress,
+    ))
 }
 
 // The file that the word at this place names; None where there is none, or it can't be opened.

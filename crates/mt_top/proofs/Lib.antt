@@ -1,3 +1,5 @@
-pub mod Counts
+pub mod Faults
+pub mod Isolated
 pub mod Plays
-pub mod Rows
+pub mod Soaks
+pub mod Wanted

@@ -10,8 +10,8 @@ use Rattle.mt_files.specs.Output.{output_text, sent_line}
 use Rattle.mt_lines.specs.Lines.{run}
 use Rattle.mt_top.specs.Begun.{Begun, IsPlayerOf, behind, is_built, sent_by}
 use Rattle.mt_top.specs.declared.playing.Player.{Player}
-use Rattle.mt_top.specs.declared.fault.Fault.TheVariants.{Unbuilt}
-use Rattle.mt_top.specs.Endings.{unbuilt_from}
+use Rattle.mt_endings.specs.declared.fault.Fault.TheVariants.{Unbuilt}
+use Rattle.mt_top.specs.Asked.{unbuilt_from}
 
 -- what is sent for events, up to the first that is not built
 abbrev pub sent_of : Begun → List Event → List Sent

@@ -1,8 +1,4 @@
+pub mod Asked
 pub mod Begun
-pub mod Endings
-pub mod Faults
-pub mod Moments
-pub mod Parts
-pub mod Run
-pub mod Statuses
-pub mod Words
+pub mod Denials
+pub mod Isolated

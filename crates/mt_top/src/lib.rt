@@ -1,11 +1,22 @@
 //! The top calls: what the program does, from the words of the command line to the bytes on its
 //! output and its exit status.
+//!
+//! - `playing`: a node that plays events, and what is sent for each;
+//! - `replaying`: a recording, with a configuration in hand;
+//! - `soaking`: a long input made from a number, and the summary of what is sent for it;
+//! - `running`: what the words ask for;
+//! - `isolation`: laws of every run: what each fabric is sent of it is its own matter, and denials are exact.
 #![tactic(auto)]
 
-mod fault;
+mod isolation;
 mod playing;
+mod progress;
 mod replaying;
-mod words;
+mod running;
+mod soaking;
 
-pub use replaying::{replay_with, run};
-pub use words::{BadWords, Files, files_of};
+pub use isolation::{denials_are_exact, runs_are_isolated};
+pub use mt_words::{BadWords, Files, files_of};
+pub use progress::{Progress, Unwatched};
+pub use replaying::replay_with;
+pub use running::{run, run_watched};

@@ -1,13 +1,15 @@
-//! A node that plays the lines of a recording, and what each makes it send, as text.
+//! A node that plays the lines of a recording, and what each makes it send: as text, or told to a tally.
 
-ghost use Rattle.std.specs.Prelude.{◌≡◌, IfOk};
+ghost use Rattle.std.specs.Prelude.{◌≡◌, List, IfOk};
 ghost use Rattle.mt_files.specs.Output.{output_text};
+ghost use Rattle.mt_model.specs.declared.texts.recording.Sent.{Sent};
 ghost use Rattle.mt_model.specs.texts.Contents.{contents_of};
-ghost use Rattle.mt_top.specs.Begun.{Begun, IsPlayerOf, begun_with};
-ghost use Rattle.mt_top.specs.Parts.{StepsIf};
+ghost use Rattle.mt_soak.specs.Summary.{IsTallyOf};
+ghost use Rattle.mt_top.specs.Begun.{Begun, IsPlayerOf, StepsIf, TellsIf, begun_with};
 
 use mt_files::write_sent;
 use mt_model::{Config, Event, Sent, TableVerdicts};
+use mt_soak::Tally;
 use mt_whole::Whole;
 use std::alloc::{AllocError, Global};
 
@@ -45,6 +47,19 @@ impl Player {
         let text = text_of(self.alloc, outcome.sent.as_slice())?;
         self.whole.apply(outcome);
         Ok(Some(text))
+    }
+
+    /// Makes of the node what the event makes of it, and tells the tally what is sent; false where the event is not
+    /// built.
+    pub fn tell(&mut self, event: &Event, tally: &mut Tally) -> Result<bool, AllocError>
+        ensures { (begun : Begun) (before : List Sent) → IsPlayerOf self.old begun → IsTallyOf tally.old before → IfOk result (TellsIf begun before self.new tally.new event.now) }
+    {
+        let Some(outcome) = self.whole.plan(event, &self.verdicts)? else {
+            return Ok(false);
+        };
+        tally.note(self.alloc, outcome.sent.as_slice())?;
+        self.whole.apply(outcome);
+        Ok(true)
     }
 }
 

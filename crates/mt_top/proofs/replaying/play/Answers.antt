@@ -1,8 +1,10 @@
 use Rattle.std.proofs.Common.{◌++◌, ◌+◌, ◌≤◌, length, drop, [], ap, refl, sym, ◌∙◌, append_assoc, subst, arith, rules}
 use Rattle.mt_outside.specs.Stream.{one_more}
-use Rattle.mt_top.specs.Endings.{unbuilt_from}
-use Rattle.mt_top.specs.Parts.{StepsIf}
-use Rattle.mt_top.specs.Begun.{behind, sent_by}
+use Rattle.std.proofs.lemmas.List.{map-append}
+use Rattle.std.specs.Prelude.{map}
+use Rattle.mt_files.specs.Output.{sent_line}
+use Rattle.mt_top.specs.Asked.{unbuilt_from}
+use Rattle.mt_top.specs.Begun.{StepsIf, behind, sent_by}
 use Rattle.mt_top.proofs.Plays.{sent_of, sent-step, sent-stop, unbuilt-step, unbuilt-stop, sent-end, unbuilt-end, took-all, took-less, took-more}
 use Rattle.mt_top.proofs.replaying.play.Goals as goal
 
@@ -24,7 +26,8 @@ pub returns-in_default-clause-err : goal.returns-in_default-clause-err
 returns-in_default-clause-err g c = λ begun stands.
     let l = c.loop-event in
     let i = l.invariant.so_far begun stands in
-    (i.told, sent_of i.at (drop l.event-index c.as_slice-event-items.result.now), i.sent, i.took)
+    let rest = sent_of i.at (drop l.event-index c.as_slice-event-items.result.now) in
+    (map sent_line i.told, map sent_line rest, ap (map sent_line) i.sent ∙ map-append sent_line i.told rest, i.took)
 
 pub returns-in_default-answer-clause-err : goal.returns-in_default-answer-clause-err
 returns-in_default-answer-clause-err g c = λ begun stands.

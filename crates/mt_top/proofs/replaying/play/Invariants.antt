@@ -1,10 +1,6 @@
-use Rattle.std.proofs.Common.{◌≡◌, ◌+◌, ◌++◌, List, drop}
-use Rattle.mt_outside.specs.Stream.{Took}
-use Rattle.mt_model.specs.declared.texts.recording.Sent.{Sent}
-use Rattle.mt_files.specs.Output.{output_text}
+use Rattle.std.proofs.Common.{◌≡◌, ◌+◌, drop}
 use Rattle.mt_top.specs.Begun.{Begun, IsPlayerOf}
-use Rattle.mt_top.specs.Endings.{unbuilt_from}
-use Rattle.mt_top.proofs.Plays.{SoFar, sent_of}
+use Rattle.mt_top.proofs.Plays.{SoFar}
 use Rattle.mt_top.proofs.replaying.play.Given as goal
 
 -- what was told so far, and what is told for the rest

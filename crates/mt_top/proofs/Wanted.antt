@@ -1,0 +1,58 @@
+-- How many events the words may ask for.
+use Rattle.std.specs.Prelude.{⊤, ◌&&◌}
+use Rattle.std.proofs.Common.{◌≡◌, ℕ, Bool, true, false, cond, nat_le, List, [], ◌∷◌, Option, Some, None, refl, subst}
+use Rattle.std.proofs.lemmas.Bool.{and_parts}
+use Rattle.std.specs.Option.{option_and_then}
+use Rattle.std.specs.Str.Parse.{digits_value}
+use Rattle.mt_words.specs.Words.{asked, asked_by, begin_of, command_of, count_of, is_numeral, names_of, soak_of}
+use Rattle.mt_words.specs.declared.asked.Asked.{Asked}
+use Rattle.mt_words.specs.declared.command.Command.{Command}
+use Rattle.mt_words.specs.declared.command.Command.TheVariants.{Replay, Soak}
+use Rattle.mt_top.specs.Asked.{is_within}
+
+-- whatever is wanted is within
+Within : Option Asked → Type 0
+Within None = ⊤
+Within (Some wanted) = is_within wanted ≡ true
+
+if_within : (t : Bool) (number begin : ℕ) → (t ≡ true → nat_le number 100000 ≡ true) → Within (soak_of (Some begin) (cond t (Some number) None))
+unfolding Within
+if_within true number begin le = le refl
+if_within false number begin le = tt
+
+count_within : (begin : ℕ) (word : List ℕ) → Within (soak_of (Some begin) (count_of word))
+count_within begin word =
+    let number = digits_value 10 word in
+    if_within (is_numeral word && (nat_le 1 number && nat_le number 100000)) number begin
+    (λ is. (and_parts (nat_le 1 number) (nat_le number 100000) (and_parts (is_numeral word) (nat_le 1 number && nat_le number 100000) is).1).1)
+
+soak_within : (begin : Option ℕ) (word : List ℕ) → Within (soak_of begin (count_of word))
+unfolding Within
+soak_within None word = tt
+soak_within (Some begin) word = count_within begin word
+
+by_within : (command : Command) (words : List (List ℕ)) → Within (asked_by command words)
+unfolding Within
+by_within Replay [] = tt
+by_within Replay (a ∷ []) = tt
+by_within Replay (a ∷ b ∷ []) = refl
+by_within Replay (a ∷ b ∷ c ∷ others) = tt
+by_within Soak [] = tt
+by_within Soak (a ∷ []) = tt
+by_within Soak (a ∷ b ∷ []) = tt
+by_within Soak (a ∷ b ∷ c ∷ []) = soak_within (begin_of a) b
+by_within Soak (a ∷ b ∷ c ∷ d ∷ others) = tt
+
+then_within : {X : Type 0} (found : X → Option Asked) (o : Option X) → ((x : X) → Within (found x)) → Within (option_and_then found o)
+unfolding Within
+then_within found None all = tt
+then_within found (Some x) all = all x
+
+any_within : (words : List (List ℕ)) → Within (asked words)
+unfolding Within
+any_within [] = tt
+any_within (command ∷ words) = then_within (λ found. option_and_then (asked_by found) (names_of (command ∷ words))) (command_of command) (λ found. then_within (asked_by found) (names_of (command ∷ words)) (by_within found))
+
+pub wanted_within : (words : List (List ℕ)) (wanted : Asked) → asked words ≡ Some wanted → is_within wanted ≡ true
+unfolding Within
+wanted_within words wanted is = subst Within is (any_within words)

@@ -1,7 +1,0 @@
-use Rattle.std.proofs.Common.{refl}
-use Rattle.mt_top.specs.Faults.{fault_line, fault_text}
-use Rattle.mt_top.proofs.replaying.finish.Goals as goal
-
-pub tell-requires-clause-line : goal.tell-requires-clause-line
-unfolding fault_line fault_text
-tell-requires-clause-line g c = rw c.in-ReadFault.is refl

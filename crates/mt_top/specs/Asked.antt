@@ -1,0 +1,55 @@
+-- What the words ask for comes to, by what the files hold.
+use Rattle.std.specs.Prelude.{ℕ, ◌+◌, nat_le, Bool, true, List, [], ◌∷◌, Option, Some, None, if◌then◌else◌, length, map}
+use Rattle.std.specs.Option.{option_map}
+use Rattle.mt_files.specs.Output.{sent_line}
+use Rattle.mt_model.specs.declared.texts.recording.Event.{Event}
+use Rattle.mt_model.specs.texts.Contents.{Contents}
+use Rattle.mt_lines.specs.Lines.{run}
+use Rattle.mt_soak.specs.Generated.{generated}
+use Rattle.mt_soak.specs.Summary.{summary_lines}
+use Rattle.mt_words.specs.Words.{asked}
+use Rattle.mt_words.specs.declared.asked.Asked.{Asked}
+use Rattle.mt_words.specs.declared.asked.Asked.TheVariants.{Replay, Soak}
+use Rattle.mt_endings.specs.Endings.{Ending, Played, of_files, of_none, of_recording}
+use Rattle.mt_endings.specs.declared.fault.Fault.{Fault}
+use Rattle.mt_endings.specs.declared.fault.Fault.TheVariants.{Unbuilt}
+use Rattle.mt_top.specs.Begun.{Begun, begun_with, behind, is_built}
+
+-- REPLAY: what the node sends over the events of a recording, up to the first that is not built.
+
+-- the first line that is not built, where the first event stands in this line
+abbrev pub unbuilt_from : ℕ → Begun → List Event → Option Fault
+unbuilt_from line begun [] = None
+unbuilt_from line begun (event ∷ events) = if is_built begun event then unbuilt_from (line + 1) (behind begun event) events else Some (Unbuilt line)
+
+-- a line for each message; the first event stands in line 2
+abbrev pub played : Begun → List Event → Played
+played begun events = record { lines = map sent_line (run begun.given begun.whole events); fault = unbuilt_from 2 begun events }
+
+abbrev pub replayed : Contents → List ℕ → Ending
+replayed contents = of_recording (played (begun_with contents))
+
+-- SOAK: the summary of what the node sends over so many events made from a number.
+
+abbrev pub summary_of : Begun → ℕ → List Event → Played
+summary_of begun count events = record { lines = summary_lines count (run begun.given begun.whole events); fault = None }
+
+abbrev pub summarized : ℕ → ℕ → Contents → Played
+summarized begin count contents = summary_of (begun_with contents) count (generated begin (length contents.fabrics) count)
+
+abbrev pub soaked : ℕ → ℕ → Contents → List ℕ → Ending
+soaked begin count contents = of_none (summarized begin count contents)
+
+-- What is asked for comes to this, with what the configuration says, by the bytes of the recording.
+abbrev pub comes_to : Asked → Contents → List ℕ → Ending
+comes_to Replay = replayed
+comes_to (Soak begin count) = soaked begin count
+
+-- how many events may be asked for
+abbrev pub is_within : Asked → Bool
+is_within Replay = true
+is_within (Soak begin count) = nat_le count 100000
+
+-- what the words come to, by the bytes of the two files; None where they have no form
+abbrev pub asked_of : List (List ℕ) → Option (List ℕ → List ℕ → Ending)
+asked_of words = option_map (λ (wanted : Asked). of_files (comes_to wanted)) (asked words)

@@ -1,0 +1,28 @@
+//! Laws of every run. The functions do nothing, and their contracts are the laws.
+
+ghost use Rattle.mt_top.specs.Denials.{DenialsAreExact};
+ghost use Rattle.mt_top.specs.Isolated.{RunsAreIsolated};
+
+use mt_lines::wholes_are_valid;
+use mt_runs::{equal_marks_have_equal_messages, runs_are_their_messages};
+
+/// Of every configuration and every recording: the lines to which they come are the messages of the written run, each to one
+/// fabric; and whatever other run there is in which a fabric begins with the same own part and has the same marks, that fabric
+/// is sent the same in it, byte for byte.
+pub fn runs_are_isolated()
+    ensures { RunsAreIsolated }
+{
+    wholes_are_valid();
+    runs_are_their_messages();
+    equal_marks_have_equal_messages();
+}
+
+/// Whatever is asked in a run, it is denied exactly where neither the implicit entry nor one of the asker's own fabric grants
+/// what is asked there.
+pub fn denials_are_exact()
+    ensures { DenialsAreExact }
+{
+    mt_read::denials_are_exact();
+    mt_write::denials_are_exact();
+    mt_invoke::denials_are_exact();
+}

@@ -1,0 +1,97 @@
+//! What the words of the command line ask for.
+
+ghost use Rattle.std.specs.Prelude.{◌≡◌, Some, true};
+ghost use Rattle.mt_model.specs.texts.Contents.{contents_of};
+ghost use Rattle.mt_endings.specs.Endings.{in_hand_of};
+ghost use Rattle.mt_endings.specs.Moments.{in_hand, input, moment};
+ghost use Rattle.mt_endings.specs.Run.{Ends};
+ghost use Rattle.mt_words.specs.Words.{words_of};
+ghost use Rattle.mt_top.specs.Asked.{asked_of, comes_to, is_within};
+ghost use Rattle.mt_top.specs.Denials.{DenialsAreExact};
+ghost use Rattle.mt_top.specs.Isolated.{RunsAreIsolated};
+
+use crate::isolation::{denials_are_exact, runs_are_isolated};
+use crate::progress::{Progress, Unwatched};
+use crate::replaying::replay_with;
+use crate::soaking::soak_with;
+use mt_endings::{endings_add_up, finish, read_configuration, tell_bad_words, tell_memory};
+use mt_model::Config;
+use mt_outside::{Sink, Source};
+use mt_words::{Asked, WordsFault, asked_of};
+use std::alloc::Global;
+
+/// Does what the words say: `replay CONFIG RECORDING` starts a node with the configuration that
+/// `config` gives, runs the recording that `first` gives, and writes the output lines to `out`;
+/// `soak BEGIN COUNT CONFIG` runs COUNT events that are made from the number BEGIN, and writes a
+/// summary of what is sent. The answer is the exit status.
+///
+/// Status 0 means that all was written; 2 that the words have no form; 3 that the configuration is
+/// none; 4 that the recording is none; 5 that `config` or `first` failed; 6 that `out` failed; 7 that
+/// there was no memory; 10 that the recording is too long; 14 that one of its lines is not built. All
+/// but 0 and 6 end the output with a line that names the fault.
+pub fn run<C: Source, A: Source, W: Sink>(
+    alloc: Global,
+    words: &[String],
+    config: &mut C,
+    first: &mut A,
+    out: &mut W,
+) -> u8
+    ensures ends { Ends result (asked_of (words_of words.now))
+        (moment (input (C.left config.old) (C.faults config.old)) (input (A.left first.old) (A.faults first.old)) (W.written out.old) (W.faults out.old))
+        (moment (input (C.left config.new) (C.faults config.new)) (input (A.left first.new) (A.faults first.new)) (W.written out.new) (W.faults out.new)) }
+    ensures isolated { RunsAreIsolated }
+    ensures denied { DenialsAreExact }
+{
+    runs_are_isolated();
+    denials_are_exact();
+    run_watched(alloc, words, config, first, out, &mut Unwatched)
+}
+
+/// The same, and tells `progress` how far a soak is.
+pub fn run_watched<C: Source, A: Source, W: Sink, P: Progress>(
+    alloc: Global,
+    words: &[String],
+    config: &mut C,
+    first: &mut A,
+    out: &mut W,
+    progress: &mut P,
+) -> u8
+    ensures ends { Ends result (asked_of (words_of words.now))
+        (moment (input (C.left config.old) (C.faults config.old)) (input (A.left first.old) (A.faults first.old)) (W.written out.old) (W.faults out.old))
+        (moment (input (C.left config.new) (C.faults config.new)) (input (A.left first.new) (A.faults first.new)) (W.written out.new) (W.faults out.new)) }
+    ensures isolated { RunsAreIsolated }
+    ensures denied { DenialsAreExact }
+{
+    runs_are_isolated();
+    denials_are_exact();
+    endings_add_up();
+    let asked = match asked_of(alloc, words) {
+        Ok(asked) => asked,
+        Err(WordsFault::Bad) => return tell_bad_words(out),
+        Err(WordsFault::Memory) => return tell_memory(out),
+    };
+    match read_configuration(alloc, config) {
+        Ok(config) => carry_out(alloc, asked, &config, first, out, progress),
+        Err(fault) => finish(alloc, fault, out),
+    }
+}
+
+// Does what is asked for, with the configuration in hand.
+fn carry_out<A: Source, W: Sink, P: Progress>(
+    alloc: Global,
+    asked: Asked,
+    config: &Config,
+    first: &mut A,
+    out: &mut W,
+    progress: &mut P,
+) -> u8
+    requires { is_within asked ≡ true }
+    ensures ends { Ends result (Some (in_hand_of (comes_to asked (contents_of config.now))))
+        (moment in_hand (input (A.left first.old) (A.faults first.old)) (W.written out.old) (W.faults out.old))
+        (moment in_hand (input (A.left first.new) (A.faults first.new)) (W.written out.new) (W.faults out.new)) }
+{
+    match asked {
+        Asked::Replay => replay_with(alloc, config, first, out),
+        Asked::Soak { begin, count } => soak_with(alloc, config, begin, count, out, progress),
+    }
+}
