@@ -16,6 +16,7 @@ mod running;
 mod soaking;
 
 pub use isolation::{denials_are_exact, runs_are_isolated};
+pub use mt_soak::Generator;
 pub use mt_words::{BadWords, Files, files_of};
 pub use progress::{Progress, Unwatched};
 pub use replaying::replay_with;
