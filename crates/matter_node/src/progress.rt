@@ -1,5 +1,7 @@
 //! How far a long run is, told to whoever looks at a terminal.
 
+ghost use Rattle.std.specs.Prelude.{◌≡◌, None, false};
+
 use mt_top::Progress;
 use std::io::IsTerminal;
 use std::time::{Duration, Instant};
@@ -22,7 +24,10 @@ pub struct TerminalProgress<'a> {
 
 impl<'a> TerminalProgress<'a> {
     /// Of a run that has not begun.
-    pub fn new(rt: &'a HostRuntime) -> Self {
+    pub fn new(rt: &'a HostRuntime) -> Self
+        ensures begun { result.last ≡ None }
+        ensures line { result.has_line ≡ false }
+    {
         TerminalProgress {
             rt,
             is_terminal: rt.stderr().is_terminal(),
