@@ -82,15 +82,16 @@ impl Rings {
         }
     }
 
-    // An event of those that all may see, by its place in the ring.
-    pub(crate) fn shared_at(&self, index: usize) -> Option<&Happened>
+    /// An event of those that all may see, by its place in the ring, the oldest first; None behind the last.
+    pub fn shared_at(&self, index: usize) -> Option<&Happened>
         ensures { option_copied result ≡ slice_get (ring_of 0 self.now) index }
     {
         self.rings[0].get(index)
     }
 
-    // An event that is private to a fabric, by its place in the ring.
-    pub(crate) fn own_at(&self, fabric: u8, index: usize) -> Option<&Happened>
+    /// An event that is private to a fabric, by its place in its ring, the oldest first; None behind the last. What is no
+    /// fabric has none.
+    pub fn own_at(&self, fabric: u8, index: usize) -> Option<&Happened>
         ensures { option_copied result ≡ slice_get (own_of fabric self.now) index }
     {
         let ring = usize::from(fabric);

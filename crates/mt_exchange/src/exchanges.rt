@@ -1,5 +1,8 @@
 //! The exchanges of a session.
 
+ghost use Rattle.std.specs.Prelude.{◌≡◌, option_copied, slice_get};
+
+use crate::exchange::Exchange;
 use crate::table::Table;
 use mt_model::ExactCopy;
 use std::alloc::{AllocError, Global};
@@ -10,6 +13,25 @@ pub struct Exchanges {
     pub(crate) alloc: Global,
     pub(crate) table: Table,
     pub(crate) next_id: u16,
+}
+
+impl Exchanges {
+    /// An open exchange by its place, by rising key; None behind the last.
+    pub fn at(&self, index: usize) -> Option<&Exchange>
+        ensures { option_copied result ≡ slice_get self.now.table index }
+    {
+        if index < self.table.len() {
+            return Some(self.table.at(index));
+        }
+        None
+    }
+
+    /// The id that the node's next exchange tries first.
+    pub fn next_id(&self) -> u16
+        ensures { result ≡ self.now.next_id }
+    {
+        self.next_id
+    }
 }
 
 impl ExactCopy for Exchanges {

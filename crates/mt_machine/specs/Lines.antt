@@ -165,7 +165,7 @@ next_tick given s ms = record {
   deadlines = if is_due s.node.armed ms then deadlines_left s.node.armed s.deadlines else s.deadlines;
 }
 
--- what an event sends; a time step sends nothing; other events than these and lines of plain actors are not built
+-- what an event sends: a plain actor's line is answered, a time step sends nothing; all other events stand above this crate
 abbrev pub sent : Given → State → Event → List Sent
 sent given s (events.Ask ms fabric node cats opcode payload) = sent_for given s (line_actor fabric node cats) ms (request_in opcode payload)
 sent given s (events.Datagram ms peer bytes) = []

@@ -120,7 +120,8 @@ abbrev pub invoke_steps : Given → Observation → Actor → Bool → Bool → 
 invoke_steps given o actor stood timed command fields = if is_untimely stood timed then [] else (command_effect given o actor timed command fields).steps
 
 -- The reply to a request but for the events that it asks for, made of what the asker's fabric observes and of whether a deadline stood
--- for the request. A status is no request; what sets a time is answered with success. Subscriptions are not built.
+-- for the request. A status is no request; what sets a time is answered with success. What opens a
+-- subscription stands with those that are open, above this crate.
 abbrev pub reply_to : Given → Observation → Actor → Bool → Request → Reply
 reply_to given o actor stood (requests.Status code) = refusal (code_of InvalidAction)
 reply_to given o actor stood (requests.Read paths wanted minimum filtered versions) = read_reply o actor paths filtered versions
@@ -129,7 +130,7 @@ reply_to given o actor stood (requests.Write suppress timed items) = write_reply
 reply_to given o actor stood (requests.Invoke suppress timed command fields) = invoke_reply given o actor stood suppress timed command fields
 reply_to given o actor stood (requests.Timed ms) = refusal (code_of Success)
 
--- what a reply makes of the state: writes and commands alone make anything change anything
+-- what a request makes of the state: writes and commands alone change anything
 abbrev pub steps_to : Given → Observation → Actor → Bool → Request → List NodeStep
 steps_to given o actor stood (requests.Status code) = []
 steps_to given o actor stood (requests.Read paths wanted minimum filtered versions) = []

@@ -3,6 +3,7 @@
 ghost use Rattle.std.specs.Prelude.{◌≡◌, ◌+◌, ◌≤◌, ◌^◌, IfOk, length, true};
 ghost use Rattle.std.specs.List.{list_all, list_any};
 ghost use Rattle.mt_events.specs.Reading.{asking, is_told};
+ghost use Rattle.mt_events.specs.Rings.{AreRings};
 ghost use Rattle.mt_events.specs.Telling.{answered, events_for, told};
 ghost use Rattle.mt_history.specs.History.{happened, opened, recorded, recorded_all, start_up, without_left};
 ghost use Rattle.mt_tlv.specs.declared.value.Tag.TheVariants.{Context};
@@ -62,6 +63,19 @@ impl History {
         let started = started(alloc, numbers.take())?;
         rings.push(started);
         Ok(History { rings, numbers })
+    }
+
+    pub(crate) fn rings(&self) -> &Rings
+        ensures same { result.now ≡ self.now.rings }
+        ensures kept { AreRings result.now }
+    {
+        &self.rings
+    }
+
+    pub(crate) fn numbers(&self) -> Numbers
+        ensures { result ≡ self.now.numbers }
+    {
+        self.numbers
     }
 
     /// What a read of an actor is answered of events.

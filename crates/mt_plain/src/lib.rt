@@ -14,7 +14,8 @@
 //! - `telling`: the attributes and events that a subscriber is told;
 //! - `behind`: what is made of the subscriptions;
 //! - `deadlines`: until when the next requests of plain actors must come;
-//! - `sending`: the messages of a reply.
+//! - `sending`: the messages of a reply;
+//! - `seeing`: what it is, lent to whoever compares.
 #![tactic(auto)]
 
 mod behind;
@@ -25,6 +26,7 @@ mod outcome;
 mod plain;
 mod reporting;
 mod reports;
+mod seeing;
 mod sending;
 mod sessions;
 mod subscribing;

@@ -46,6 +46,13 @@ impl Subs {
         }
     }
 
+    /// The subscriptions, in the order in which they were added.
+    pub fn as_slice(&self) -> &[Subscription]
+        ensures { result.now ≡ self.now.subscriptions }
+    {
+        &self.subscriptions
+    }
+
     /// The subscriptions that a node has kept, in the same memory.
     pub fn from_state(state: SubState) -> Subs
         requires { IsSubs state }

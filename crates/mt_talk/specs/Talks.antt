@@ -1,5 +1,5 @@
 -- What is said over a session of the node, in lists that nothing stores.
-use Rattle.std.specs.Prelude.{◌≡◌, ℕ, List, [], ◌∷◌, ◌++◌, Option, None, Result, Ok, Err}
+use Rattle.std.specs.Prelude.{◌≡◌, ℕ, List, [], ◌∷◌, ◌++◌, Option, Some, None, Result, Ok, Err}
 use Rattle.mt_outside.specs.declared.network.Peer.{Peer}
 use Rattle.mt_model.specs.declared.texts.config.SessionRow.{SessionRow}
 use Rattle.mt_model.specs.declared.messages.message.Payload.{Payload}
@@ -35,6 +35,11 @@ answer_in row t key acknowledge payloads = answer_of row (run row t.happenings) 
 abbrev pub sent_by : Result (Option (List ℕ)) SealFault → Option (List ℕ)
 sent_by (Ok sent) = sent
 sent_by (Err fault) = None
+
+-- why the session refuses it, where it does
+abbrev pub refusal_in : Result (Option (List ℕ)) SealFault → Option SealFault
+refusal_in (Ok sent) = None
+refusal_in (Err fault) = Some fault
 
 -- with a message that is too long nothing has happened
 abbrev pub behind_unless_too_long : Result (Option (List ℕ)) SealFault → Happening → Talk → Talk

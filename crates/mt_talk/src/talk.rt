@@ -37,6 +37,13 @@ impl Talk {
         }
     }
 
+    /// Its open exchanges.
+    pub fn exchanges(&self) -> &Exchanges
+        ensures { result.now ≡ self.now.exchanges }
+    {
+        &self.exchanges
+    }
+
     /// From where the latest fresh message came, None before the first. To there all is sent.
     pub fn latest(&self) -> Option<Peer>
         ensures { result ≡ self.now.latest }
