@@ -1,0 +1,5 @@
+mod Back
+mod Differing
+mod Kept
+mod Placed
+mod Seeing
