@@ -1,0 +1,3 @@
+mod Indexed
+mod Owning
+mod Placed
