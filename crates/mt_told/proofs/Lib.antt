@@ -1,0 +1,4 @@
+mod Among
+mod Back
+mod Beginning
+mod Edited
