@@ -1,2 +1,4 @@
 pub mod Listed
+pub mod Noted
 pub mod Planned
+pub mod Seen

@@ -311,6 +311,11 @@ reported_as_planned given w ms fabric id session payloads plain t outcome made i
 closed_is : (s : State) (l : Ledger) (outcome : PlainOutcome) → IsPlainPlanned s l outcome → outcome.node.closed ≡ closed_between s.node.sessions (applied_plain outcome s).node.sessions
 closed_is s l outcome planned = ap (λ (a : Aside). a.closed) planned.node.1.1.1.aside ∙ ap (λ (n : NodeState). closed_between s.node.sessions n.sessions) (sym planned.node.1.1.1.state)
 
+pub closed_behind : (given : Given) (w : Whole) (event : Event) (outcome : WholeOutcome) → IsPlainPlanned w.state w.ledger outcome.plain → IsWholePlan given w event outcome
+    → outcome.plain.node.closed ≡ closed_between w.state.node.sessions (state_behind given w event).node.sessions
+closed_behind given w event outcome planned plan =
+    closed_is w.state w.ledger outcome.plain planned ∙ ap (λ (x : State). closed_between w.state.node.sessions x.node.sessions) plan.state
+
 -- The talks behind an event, of which those that end have let go.
 pub talks_applied : (given : Given) (w : Whole) (event : Event) (s : State) (l : Ledger) (outcome : WholeOutcome) (talks behind : List code.SessionTalk) (closed : List ℕ) → s ≡ w.state → IsPlainPlanned s l outcome.plain → IsWholePlan given w event outcome
     → AreTalks talks w.talks → closed ≡ outcome.plain.node.closed → ((ts : List SessionTalk) → AreTalks (put outcome.talk talks) ts → AreTalks behind (map (without_ended closed) ts)) → AreTalks behind (next given w event).talks

@@ -25,12 +25,12 @@ use mt_talk::{Heard, Key, Talk};
 use mt_tlv::Bytes;
 use std::alloc::{AllocError, Global};
 
-// What is answered on an exchange, and the counter that is acknowledged.
+/// What is answered on an exchange, and the counter that is acknowledged.
 #[derive(Drop)]
-pub struct Answering {
-    key: Key,
-    acknowledge: Option<u32>,
-    payloads: Payloads,
+pub(crate) struct Answering {
+    pub(crate) key: Key,
+    pub(crate) acknowledge: Option<u32>,
+    pub(crate) payloads: Payloads,
 }
 
 /// Plans a datagram from this address. Who names no session of this boot is not heard.
@@ -54,8 +54,8 @@ pub(crate) fn planned_datagram<V: Verdicts>(
     }
 }
 
-// The session that a datagram names in its message header.
-fn session_named(bytes: &[u8]) -> Option<u16>
+/// The session that a datagram names in its message header.
+pub(crate) fn session_named(bytes: &[u8]) -> Option<u16>
     ensures exact { result ≡ session_named bytes.now }
     ensures short { result ≢ None → length bytes.now < 2 ^ 16 }
 {
@@ -115,8 +115,8 @@ fn datagram_of(
     }
 }
 
-// What is answered to what is said, and what comes of it.
-fn answered<V: Verdicts>(
+/// What is answered to what is said, and what comes of it.
+pub(crate) fn answered<V: Verdicts>(
     whole: &Whole,
     id: u16,
     heard: Heard,

@@ -7,16 +7,25 @@
 //! - `reports`: a report step to a subscription;
 //! - `resends`: what is sent again;
 //! - `talks`: what is said over the sessions;
-//! - `sending`: what is sent to the peer of a session.
+//! - `sending`: what is sent to the peer of a session;
+//! - `seeing`: what a fabric sees of a whole, and whether its own part is the same in two;
+//! - `standing`: what stands over the sessions of a fabric;
+//! - `noting`: what a line adds to what is said over a session;
+//! - `laws`: what follows from a plan, and what a fabric's own part is made of.
 #![tactic(auto)]
 
 mod datagrams;
+mod laws;
+mod noting;
 mod outcome;
 mod reports;
 mod resends;
+mod seeing;
 mod sending;
+mod standing;
 mod talks;
 mod whole;
 
+pub use laws::{closed_sessions_are_those_that_end, own_parts_are_standings_and_talks};
 pub use outcome::WholeOutcome;
 pub use whole::Whole;

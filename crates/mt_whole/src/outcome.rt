@@ -1,5 +1,7 @@
 //! What comes of a line.
 
+ghost use Rattle.std.specs.Prelude.{◌≡◌};
+
 use crate::talks::SessionTalk;
 use mt_frame::ProtocolHeader;
 use mt_model::SentList;
@@ -17,4 +19,13 @@ pub struct WholeOutcome {
     pub(crate) plain: PlainOutcome,
     // the talk that is another behind the event, where one is
     pub(crate) talk: Option<SessionTalk>,
+}
+
+impl WholeOutcome {
+    /// The sessions that end with it.
+    pub fn closed(&self) -> &[u16]
+        ensures { result.now ≡ self.now.plain.node.closed }
+    {
+        self.plain.closed()
+    }
 }
