@@ -1,6 +1,6 @@
 //! The exchanges of a session.
 
-ghost use Rattle.std.specs.Prelude.{◌≡◌, option_copied, slice_get};
+ghost use Rattle.std.specs.Prelude.{◌≡◌, ◌<◌, ◌^◌, length, option_copied, slice_get};
 
 use crate::exchange::Exchange;
 use crate::table::Table;
@@ -16,9 +16,10 @@ pub struct Exchanges {
 }
 
 impl Exchanges {
-    /// An open exchange by its place, by rising key; None behind the last.
+    /// An open exchange by its place, by rising key; None behind the last. There are fewer than 2^64.
     pub fn at(&self, index: usize) -> Option<&Exchange>
         ensures { option_copied result ≡ slice_get self.now.table index }
+        ensures within { length self.now.table < 2 ^ 64 }
     {
         if index < self.table.len() {
             return Some(self.table.at(index));
