@@ -1,3 +1,4 @@
+pub mod Denials
 pub mod Keeping
 pub mod Merging
 pub mod Rising

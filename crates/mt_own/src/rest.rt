@@ -1,6 +1,6 @@
 //! Whether the rest of a fabric's own part is the same: deadlines, events, subscriptions and exchanges.
 
-ghost use Rattle.std.specs.Prelude.{◌≡◌, ◌↔◌, ◌<◌, ◌^◌, IsTrue, filter, length};
+ghost use Rattle.std.specs.Prelude.{◌≡◌, ◌↔◌, IsTrue, filter};
 ghost use Rattle.mt_events.specs.Rings.{AreRings};
 ghost use Rattle.mt_events.specs.Telling.{own_of};
 ghost use Rattle.mt_machine.specs.Isolation.{is_deadline_in};
@@ -46,20 +46,17 @@ pub fn are_subscriptions_same(fabric: u8, one: &Subs, other: &Subs) -> bool
         && one.next_id(fabric) == other.next_id(fabric)
 }
 
-/// Whether the exchanges of two sessions are the same: those that are open, and the id that the next one tries first. True
-/// is answered of the same alone, and of all that are the same where fewer than 2^64 are open, as of all that memory holds.
-/// It takes no memory.
+/// Whether the exchanges of two sessions are the same: those that are open, and the id that the next one tries first. It
+/// takes no memory.
 pub fn are_exchanges_same(one: &Exchanges, other: &Exchanges) -> bool
-    ensures same { IsTrue result → (one.now.table ≡ other.now.table) × (one.now.next_id ≡ other.now.next_id) }
-    ensures all { length one.now.table < 2 ^ 64 → (one.now.table ≡ other.now.table) × (one.now.next_id ≡ other.now.next_id) → IsTrue result }
+    ensures { IsTrue result ↔ ((one.now.table ≡ other.now.table) × (one.now.next_id ≡ other.now.next_id)) }
 {
     one.next_id() == other.next_id() && are_open_same(one, other)
 }
 
 // Whether the open exchanges are the same.
 fn are_open_same(one: &Exchanges, other: &Exchanges) -> bool
-    ensures same { IsTrue result → one.now.table ≡ other.now.table }
-    ensures all { length one.now.table < 2 ^ 64 → one.now.table ≡ other.now.table → IsTrue result }
+    ensures { IsTrue result ↔ (one.now.table ≡ other.now.table) }
 {
     let mut index: usize = 0;
     'exchanges: while let Some(mine) = one.at(index) {
@@ -67,9 +64,6 @@ fn are_open_same(one: &Exchanges, other: &Exchanges) -> bool
             return false;
         };
         if !mine.is_same(theirs) {
-            return false;
-        }
-        if index == usize::MAX {
             return false;
         }
         index += 1;

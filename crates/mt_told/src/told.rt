@@ -1,6 +1,6 @@
 //! All that was said, as it begins, grows and is compared.
 
-ghost use Rattle.std.specs.Prelude.{◌≡◌, ◌↔◌, ◌==◌, ◌<◌, ◌∷◌, [], filter, map, length, position, IfOk, OnOk, IsTrue, MatchOption};
+ghost use Rattle.std.specs.Prelude.{◌≡◌, ◌↔◌, ◌==◌, ◌<◌, ◌∷◌, [], filter, map, length, position, IfOk, OnErr, OnOk, IsTrue, MatchOption};
 ghost use Rattle.mt_model.specs.declared.texts.config.SessionRow.{SessionRow as Row};
 ghost use Rattle.mt_lines.specs.Isolation.{is_talk_among, talks_among};
 ghost use Rattle.mt_lines.specs.Whole.{begun, without_ended};
@@ -50,9 +50,10 @@ impl ToldTalks {
     }
 
     /// What a line adds to what was said over the session that the note names, where there is a note and such a session.
-    /// It takes memory; nothing is copied.
+    /// It takes memory; nothing is copied. Where memory is wanting all stays.
     pub fn note(&mut self, note: Option<Note>) -> Result<(), AllocError>
-        ensures { OnOk result (self.new ≡ noted_if note self.old) }
+        ensures noted { OnOk result (self.new ≡ noted_if note self.old) }
+        ensures kept { OnErr result (self.new ≡ self.old) }
     {
         match note {
             Some(note) => add_note(&mut self.talks, note),
@@ -110,7 +111,8 @@ fn place_of(talks: &[Told], id: u16) -> Option<usize>
 }
 
 fn add_note(talks: &mut [Told], note: Note) -> Result<(), AllocError>
-    ensures { OnOk result (talks_in talks.new ≡ noted note (talks_in talks.old)) }
+    ensures noted { OnOk result (talks_in talks.new ≡ noted note (talks_in talks.old)) }
+    ensures kept { OnErr result (talks_in talks.new ≡ talks_in talks.old) }
 {
     match place_of(talks, note.session) {
         Some(place) => add_to(&mut talks[place], note),
@@ -119,7 +121,8 @@ fn add_note(talks: &mut [Told], note: Note) -> Result<(), AllocError>
 }
 
 fn add_to(told: &mut Told, note: Note) -> Result<(), AllocError>
-    ensures { OnOk result (talk_in told.new ≡ record (talk_in told.old) { talk = noted_talk note (talk_in told.old) }) }
+    ensures noted { OnOk result (talk_in told.new ≡ record (talk_in told.old) { talk = noted_talk note (talk_in told.old) }) }
+    ensures kept { OnErr result (talk_in told.new ≡ talk_in told.old) }
 {
     let mut happenings = note.happenings.into_vec();
     told.happenings.append(&mut happenings)?;

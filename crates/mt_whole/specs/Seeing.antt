@@ -1,6 +1,6 @@
 -- What a fabric sees of a whole, and what is its own of it.
-use Rattle.std.specs.Prelude.{ℕ, ◌==◌, ◌&&◌, ◌^◌, nat_lt, Bool, List, Option, Some, None, filter, length, map, if◌then◌else◌}
-use Rattle.std.specs.List.{list_all, list_any}
+use Rattle.std.specs.Prelude.{ℕ, ◌==◌, ◌&&◌, Bool, List, Option, Some, None, filter, map, if◌then◌else◌}
+use Rattle.std.specs.List.{list_any}
 use Rattle.mt_model.specs.declared.node.state.NodeSession.{NodeSession}
 use Rattle.mt_model.specs.declared.texts.recording.Event.{Event}
 use Rattle.mt_outside.specs.declared.network.Peer.{Peer}
@@ -54,10 +54,3 @@ standings_in fabric sessions talks = map standing_in (filter (λ (talk : code.Se
 -- those of a whole
 abbrev pub standings_of : ℕ → whole.Whole → List Standing
 standings_of fabric one = standings_in fabric one.plain.state.node.sessions one.talks.items
-
--- fewer exchanges are open than memory holds
-abbrev pub is_within_memory : Standing → Bool
-is_within_memory standing = nat_lt (length standing.open_ones) (2 ^ 64)
-
-abbrev pub are_within_memory : List Standing → Bool
-are_within_memory standings = list_all is_within_memory standings

@@ -1,6 +1,6 @@
 //! What a fabric sees of a whole, and whether its own part is the same in two.
 
-ghost use Rattle.std.specs.Prelude.{◌≡◌, ◌↔◌, IfOk, IsTrue, filter, true};
+ghost use Rattle.std.specs.Prelude.{◌≡◌, ◌↔◌, IfOk, IsTrue, filter};
 ghost use Rattle.std.specs.Option.{option_map};
 ghost use Rattle.mt_events.specs.Telling.{own_of};
 ghost use Rattle.mt_subs.specs.Subscriptions.{is_of, next_id};
@@ -11,7 +11,7 @@ ghost use Rattle.mt_lines.specs.Lines.{fabric_of};
 ghost use Rattle.mt_lines.specs.Whole.{Whole as Told};
 ghost use Rattle.mt_marks.specs.Seen.{seen_in};
 ghost use Rattle.mt_runs.specs.Marks.{is_seen};
-ghost use Rattle.mt_whole.specs.Seeing.{are_within_memory, mark_of, own_standing};
+ghost use Rattle.mt_whole.specs.Seeing.{mark_of, own_standing};
 ghost use Rattle.mt_whole.specs.Talks.{IsWholeOf};
 
 use crate::datagrams::session_named;
@@ -104,11 +104,9 @@ impl Whole {
     }
 
     /// Whether the fabric's own part is the same in two wholes, all that was said over its sessions left aside but for what
-    /// stands over them. True is answered of the same alone, and of all that are the same where no session has 2^64 open
-    /// exchanges, as none has that memory holds. It takes no memory.
+    /// stands over them. It takes no memory.
     pub fn alike(&self, other: &Whole, fabric: u8) -> bool
-        ensures same { (w v : Told) → IsWholeOf self.now w → IsWholeOf other.now v → IsTrue result → own_standing fabric w ≡ own_standing fabric v }
-        ensures all { (w v : Told) → IsWholeOf self.now w → IsWholeOf other.now v → are_within_memory (own_standing fabric w).standings ≡ true → own_standing fabric w ≡ own_standing fabric v → IsTrue result }
+        ensures { (w v : Told) → IsWholeOf self.now w → IsWholeOf other.now v → IsTrue result ↔ (own_standing fabric w ≡ own_standing fabric v) }
     {
         if is_plain_same(fabric, &self.plain, &other.plain) {
             return are_standings_same(fabric, self, other);

@@ -1,19 +1,17 @@
 //! What stands over the sessions of a fabric, and whether it is the same in two wholes.
 
-ghost use Rattle.std.specs.Prelude.{◌≡◌, ◌∷◌, ◌<◌, ◌^◌, [], IfNone, IfSome, IsTrue, length, true};
+ghost use Rattle.std.specs.Prelude.{◌≡◌, ◌↔◌, ◌∷◌, ◌<◌, [], IfNone, IfSome, IsTrue, length};
 ghost use Rattle.mt_subs.specs.Leaving.{is_live_as};
-ghost use Rattle.mt_whole.specs.Seeing.{are_within_memory, is_live_for, standing_in, standings_in, standings_of};
+ghost use Rattle.mt_whole.specs.Seeing.{is_live_for, standing_in, standings_in, standings_of};
 
 use crate::talks::SessionTalk;
 use crate::whole::Whole;
 use mt_model::{NodeSession, Standing};
 use mt_own::are_exchanges_same;
 
-/// Whether what stands over a fabric's live sessions is the same in two wholes. True is answered of the same alone, and of all
-/// that are the same where no session has 2^64 open exchanges, as none has that memory holds.
+/// Whether what stands over a fabric's live sessions is the same in two wholes.
 pub(crate) fn are_standings_same(fabric: u8, one: &Whole, other: &Whole) -> bool
-    ensures same { IsTrue result → standings_of fabric one.now ≡ standings_of fabric other.now }
-    ensures all { are_within_memory (standings_of fabric one.now) ≡ true → standings_of fabric one.now ≡ standings_of fabric other.now → IsTrue result }
+    ensures { IsTrue result ↔ (standings_of fabric one.now ≡ standings_of fabric other.now) }
 {
     let mine = one.sessions();
     let theirs = other.sessions();
@@ -27,8 +25,7 @@ fn are_own_same(
     theirs: &[NodeSession],
     others: &[SessionTalk],
 ) -> bool
-    ensures same { IsTrue result → standings_in fabric mine.now talks.now ≡ standings_in fabric theirs.now others.now }
-    ensures all { are_within_memory (standings_in fabric mine.now talks.now) ≡ true → standings_in fabric mine.now talks.now ≡ standings_in fabric theirs.now others.now → IsTrue result }
+    ensures { IsTrue result ↔ (standings_in fabric mine.now talks.now ≡ standings_in fabric theirs.now others.now) }
 {
     let mut rest = talks;
     let mut other_rest = others;
@@ -82,8 +79,7 @@ fn is_live_as(fabric: u8, standing: Standing) -> bool
 }
 
 fn is_standing_same(talk: &SessionTalk, other: &SessionTalk) -> bool
-    ensures same { IsTrue result → standing_in talk.now ≡ standing_in other.now }
-    ensures all { length talk.now.talk.exchanges.table < 2 ^ 64 → standing_in talk.now ≡ standing_in other.now → IsTrue result }
+    ensures { IsTrue result ↔ (standing_in talk.now ≡ standing_in other.now) }
 {
     talk.id == other.id
         && talk.talk.latest() == other.talk.latest()
