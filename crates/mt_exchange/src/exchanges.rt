@@ -18,7 +18,7 @@ pub struct Exchanges {
 impl Exchanges {
     /// An open exchange by its place, by rising key; None behind the last. There are fewer than 2^64.
     pub fn at(&self, index: usize) -> Option<&Exchange>
-        ensures { option_copied result ≡ slice_get self.now.table index }
+        ensures found { option_copied result ≡ slice_get self.now.table index }
         ensures within { length self.now.table < 2 ^ 64 }
     {
         if index < self.table.len() {

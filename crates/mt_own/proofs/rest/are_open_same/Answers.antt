@@ -10,8 +10,8 @@ exchanges-preserved c =
     let n = c.exchanges.index in
     let x = c.in-Some.mine.now in
     let y = c.in-Some-at.theirs.now in
-    let got : slice_get mine n ≡ Some x = sym c.at.ensures.0 ∙ ap option_copied c.in-Some.is in
-    let got_too : slice_get theirs n ≡ Some y = sym c.at-in-Some.ensures.0 ∙ ap option_copied c.in-Some-at.is in
+    let got : slice_get mine n ≡ Some x = sym c.at.ensures.found ∙ ap option_copied c.in-Some.is in
+    let got_too : slice_get theirs n ≡ Some y = sym c.at-in-Some.ensures.found ∙ ap option_copied c.in-Some-at.is in
     let same : x ≡ y = c.if-not-is_same.ensures.0 refl in
     next_same mine theirs n x y got got_too same c.exchanges.invariant
 
@@ -20,5 +20,5 @@ returns c =
     let mine = c.args.one.now.table in
     let theirs = c.args.other.now.table in
     let n = c.exchanges.index in
-    let none : slice_get mine n ≡ None = sym c.at.ensures.0 ∙ ap option_copied c.in_default.is in
-    ends_too mine theirs n c.at-2.result c.is_none.result c.is_none.ensures c.at-2.ensures.0 none c.exchanges.invariant
+    let none : slice_get mine n ≡ None = sym c.at.ensures.found ∙ ap option_copied c.in_default.is in
+    ends_too mine theirs n c.at-2.result c.is_none.result c.is_none.ensures c.at-2.ensures.found none c.exchanges.invariant
