@@ -51,6 +51,12 @@ noted_at note talks i d new place said =
     ∙ ap (λ (id : ℕ). with_talk id (noted_talk note t) (talks_in talks)) (sym named)
     ∙ ap (λ (found : Option SessionTalk). with_next (noted_talk note) found (talks_in talks)) (sym (found_at note.session d talks i at.0 at.1 at.2))
 
+-- one that says the same in its place
+pub kept_at : (talks : List Told) (i : ℕ) (d new : Told) → talk_in new ≡ talk_in (get_or talks i d) → talks_in (set talks i new) ≡ talks_in talks
+kept_at [] i d new same = refl
+kept_at (t ∷ talks) zero d new same = ap (λ (told : SessionTalk). told ∷ talks_in talks) same
+kept_at (t ∷ talks) (suc i) d new same = ap (λ (rest : List SessionTalk). talk_in t ∷ rest) (kept_at talks i d new same)
+
 pub noted_nowhere : (note : Note) (talks : List Told) → position (is_told_of note.session) talks ≡ None → talks_in talks ≡ noted note (talks_in talks)
 noted_nowhere note talks none =
     let past = ltb-false _ _ (no_place (nat_lt (position_or_len (is_told_of note.session) talks) (length talks)) (position_or_len (is_told_of note.session) talks) none) in
