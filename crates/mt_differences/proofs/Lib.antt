@@ -1,0 +1,5 @@
+mod Codes
+mod Differing
+mod Parted
+mod Placing
+mod Standing

@@ -1,0 +1,14 @@
+use Rattle.mt_differences.proofs.Parted.{marks_have_no_part, own_differ, parts_in_order, same_parts}
+use Rattle.mt_differences.proofs.parts_come_in_order.Goals as goal
+
+pub returns-clause-same : goal.returns-clause-same
+returns-clause-same c = same_parts
+
+pub returns-clause-first : goal.returns-clause-first
+returns-clause-first c = parts_in_order
+
+pub returns-clause-own : goal.returns-clause-own
+returns-clause-own c = own_differ
+
+pub returns-clause-marks : goal.returns-clause-marks
+returns-clause-marks c = marks_have_no_part
