@@ -15,7 +15,7 @@ returns-then-is_plain_same c w v is its =
 pub returns : goal.returns
 returns c w v is its =
     let other_half = λ (same : _). (
-      let both = alike_in c.args.fabric c.args.self.now c.args.other.now w v is its same in
-      sym c.if-is_plain_same.false ∙ c.is_plain_same.ensures.1 (ap (λ (o : OwnStanding). o.whole) both, ap (λ (o : OwnStanding). o.ledger) both)
+    let both = alike_in c.args.fabric c.args.self.now c.args.other.now w v is its same in
+    sym c.if-is_plain_same.false ∙ c.is_plain_same.ensures.1 (ap (λ (o : OwnStanding). o.whole) both, ap (λ (o : OwnStanding). o.ledger) both)
     ) in
     (λ yes. absurd (cc), other_half)
