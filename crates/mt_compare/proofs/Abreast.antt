@@ -1,0 +1,70 @@
+-- Two sides that go on together, mark by mark.
+use Rattle.std.proofs.Common.{◌≡◌, ℕ, ◌+◌, [], Option, Some, None, sym, ap, ap₂, ◌∙◌}
+use Rattle.std.specs.Option.{option_copied}
+use Rattle.mt_model.specs.declared.texts.recording.Event.{Event}
+use Rattle.mt_machine.specs.Given.{Given}
+use Rattle.mt_lines.specs.Whole.{Whole}
+use Rattle.mt_runs.specs.Marks.{Mark}
+use Rattle.mt_marks.specs.declared.difference.Part.{Part}
+use Rattle.mt_marks.specs.declared.difference.Part.TheVariants as parts
+use Rattle.mt_differences.specs.Difference.{Difference, difference_from, differs, or_further, part_between}
+use Rattle.mt_differences.specs.Marked.{marked_at}
+use Rattle.mt_compare.specs.Runs.{IsRunning}
+use Rattle.mt_compare.specs.Sides.{GoesTo, left_of, mark_in}
+use Rattle.mt_compare.specs.declared.side.Side.{Side}
+
+-- They stand for two wholes, and what is found of all their marks is what is found of those that are left, of which the first have this number.
+pub record Abreast (given : Given) (fabric : ℕ) (w v : Whole) (mine theirs : Side) (one other : Side) (number : ℕ) : Type 0 where
+  pub mine_now : Whole
+  pub theirs_now : Whole
+  pub mine_stands : IsRunning one.running given mine_now
+  pub theirs_stands : IsRunning other.running given theirs_now
+  pub same : difference_from 1 (left_of given fabric w mine) (left_of given fabric v theirs) ≡ difference_from number (left_of given fabric mine_now one) (left_of given fabric theirs_now other)
+
+module _ (given : Given) (fabric : ℕ) (w v : Whole) (mine theirs one other : Side) (number : ℕ) (a : Abreast given fabric w v mine theirs one other number) where
+  abbrev all : Option Difference
+  all = difference_from 1 (left_of given fabric w mine) (left_of given fabric v theirs)
+
+  -- neither goes on
+  pub both_end : left_of given fabric a.mine_now one ≡ [] → left_of given fabric a.theirs_now other ≡ [] → None ≡ all
+  both_end mine_ends theirs_end = sym (a.same ∙ ap₂ (difference_from number) mine_ends theirs_end)
+
+  -- one does
+  pub mine_goes : (new : Side) → GoesTo given fabric a.mine_now one new → left_of given fabric a.theirs_now other ≡ [] → Some (differs number parts.Event (option_copied new.event) None) ≡ all
+  mine_goes new goes theirs_end =
+      ap (λ (event : Option Event). Some (differs number parts.Event event None)) goes.at
+      ∙ sym (a.same ∙ ap₂ (difference_from number) goes.left theirs_end)
+
+  pub theirs_goes : (new : Side) → left_of given fabric a.mine_now one ≡ [] → GoesTo given fabric a.theirs_now other new → Some (differs number parts.Event None (option_copied new.event)) ≡ all
+  theirs_goes new mine_ends goes =
+      ap (λ (event : Option Event). Some (differs number parts.Event None event)) goes.at
+      ∙ sym (a.same ∙ ap₂ (difference_from number) mine_ends goes.left)
+
+  -- both do
+  module _ (new_one new_other : Side) (goes : GoesTo given fabric a.mine_now one new_one) (go_too : GoesTo given fabric a.theirs_now other new_other) where
+    abbrev mark : Mark
+    mark = mark_in fabric goes.now new_one.here
+
+    abbrev other_mark : Mark
+    other_mark = mark_in fabric go_too.now new_other.here
+
+    abbrev further : Option Difference
+    further = difference_from (number + 1) (left_of given fabric goes.now new_one) (left_of given fabric go_too.now new_other)
+
+    headed : all ≡ or_further number (marked_at goes.event mark) (marked_at go_too.event other_mark) (part_between mark other_mark) further
+    headed = a.same ∙ ap₂ (difference_from number) goes.left go_too.left
+
+    pub differ_here : (part : Part) → Some part ≡ part_between mark other_mark → Some (differs number part (option_copied new_one.event) (option_copied new_other.event)) ≡ all
+    differ_here part found =
+        ap₂ (λ (first second : Option Event). Some (differs number part first second)) goes.at go_too.at
+        ∙ ap (λ (o : Option Part). or_further number (marked_at goes.event mark) (marked_at go_too.event other_mark) o further) found
+        ∙ sym headed
+
+    pub go_abreast : None ≡ part_between mark other_mark → Abreast given fabric w v mine theirs new_one new_other (number + 1)
+    go_abreast none = record {
+      mine_now = goes.now;
+      theirs_now = go_too.now;
+      mine_stands = goes.stands;
+      theirs_stands = go_too.stands;
+      same = headed ∙ ap (λ (o : Option Part). or_further number (marked_at goes.event mark) (marked_at go_too.event other_mark) o further) (sym none);
+    }

@@ -1,0 +1,7 @@
+pub mod Abreast
+pub mod Changing
+pub mod Going
+pub mod Looking
+pub mod Owning
+pub mod Parting
+pub mod Stepping

@@ -1,0 +1,15 @@
+use Rattle.std.proofs.Common.{◌≡◌, sym, subst}
+use Rattle.std.specs.Prelude.{IfOk}
+use Rattle.mt_lines.specs.Isolation.{own_part}
+use Rattle.mt_runs.specs.Marks.{born}
+use Rattle.mt_differences.specs.Difference.{part_between}
+use Rattle.mt_compare.specs.Sides.{mark_in}
+use Rattle.mt_compare.specs.declared.side.Here.{Here}
+use Rattle.mt_compare.proofs.between.part_between.Goals as goal
+
+pub returns-in-Enters-Enters : goal.returns-in-Enters-Enters
+returns-in-Enters-Enters c given w v is its =
+    let fabric = c.args.fabric in
+    let found = c.born_between.result in
+    subst (λ (h : Here). IfOk found (λ part. part ≡ part_between (mark_in fabric w h) (mark_in fabric v c.args.theirs.now.here))) (sym c.in-Enters-Enters.is-0)
+    (subst (λ (h : Here). IfOk found (λ part. part ≡ part_between (born (own_part fabric w)) (mark_in fabric v h))) (sym c.in-Enters-Enters.is-1) (c.born_between.ensures given w v is its))

@@ -1,0 +1,20 @@
+use Rattle.std.proofs.Common.{◌≡◌, List, subst}
+use Rattle.std.specs.Prelude.{IfOk}
+use Rattle.std.specs.Option.{option_map}
+use Rattle.mt_model.specs.texts.Contents.{contents_of}
+use Rattle.mt_machine.specs.Given.{given_by}
+use Rattle.mt_lines.specs.Whole.{opened}
+use Rattle.mt_differences.specs.Difference.{difference_from}
+use Rattle.mt_differences.specs.Marked.{Marked, marked}
+use Rattle.mt_compare.specs.Found.{difference_in}
+use Rattle.mt_compare.specs.Sides.{left}
+use Rattle.mt_compare.proofs.comparing.compare.Goals as goal
+
+pub returns : goal.returns
+returns c =
+    let given = given_by (contents_of c.args.config.now) in
+    let begun = opened c.args.config.now in
+    let mine = c.in_ok-mine.ensures in
+    subst (λ (ones : List Marked). IfOk c.compare_with.result (λ found. option_map difference_in found ≡ difference_from 1 ones (marked given c.args.fabric begun c.args.second.now)))
+    (λ i. left given c.args.fabric begun (mine.unseen i) (mine.events i).now)
+    (c.compare_with.ensures begun mine.running)

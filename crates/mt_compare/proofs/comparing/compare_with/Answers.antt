@@ -1,0 +1,20 @@
+use Rattle.std.proofs.Common.{◌≡◌, List, subst}
+use Rattle.std.specs.Prelude.{IfOk}
+use Rattle.std.specs.Option.{option_map}
+use Rattle.mt_model.specs.texts.Contents.{contents_of}
+use Rattle.mt_machine.specs.Given.{given_by}
+use Rattle.mt_lines.specs.Whole.{opened}
+use Rattle.mt_differences.specs.Difference.{difference_from}
+use Rattle.mt_differences.specs.Marked.{Marked}
+use Rattle.mt_compare.specs.Found.{difference_in}
+use Rattle.mt_compare.specs.Sides.{left, left_of}
+use Rattle.mt_compare.proofs.comparing.compare_with.Goals as goal
+
+pub returns : goal.returns
+returns c w is =
+    let given = given_by (contents_of c.args.config.now) in
+    let begun = opened c.args.config.now in
+    let theirs = c.in_ok-theirs.ensures in
+    subst (λ (others : List Marked). IfOk c.first_between.result (λ found. option_map difference_in found ≡ difference_from 1 (left_of given c.args.fabric w c.args.mine.now) others))
+    (λ i. left given c.args.fabric begun (theirs.unseen i) (theirs.events i).now)
+    (c.first_between.ensures given w begun is theirs.running)

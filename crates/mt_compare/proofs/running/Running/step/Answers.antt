@@ -1,0 +1,32 @@
+use Rattle.std.proofs.Common.{◌≡◌, subst}
+use Rattle.mt_machine.specs.Given.{Given}
+use Rattle.mt_machine.specs.State.{State}
+use Rattle.mt_ledger.specs.Ledger.{Ledger}
+use Rattle.mt_lines.specs.Lines.{talks_behind}
+use Rattle.mt_plain.specs.Plan.{IsPlainPlanned}
+use Rattle.mt_told.specs.Noted.{noted_if}
+use Rattle.mt_whole.specs.Plan.{IsPlanIf, IsPlannedIf, IsWholePlan, given_to}
+use Rattle.mt_compare.proofs.Stepping.{told_behind}
+use Rattle.mt_compare.proofs.running.Running.step.Goals as goal
+
+pub returns : goal.returns
+returns c given w is =
+    let self = c.args.self.now in
+    let event = c.args.event.now in
+    let outcome = c.in-Some.outcome in
+    let mine = given_to self.whole self.verdicts.roots self.verdicts.csrs self.verdicts.joins in
+    let both = subst (IsPlanIf mine w event) c.in-Some.is (c.in_ok-outcome.ensures.plan w is.whole) in
+    let plan : IsWholePlan given w event outcome = subst (λ (g : Given). IsWholePlan g w event outcome) is.by both.1 in
+    let here : IsPlainPlanned self.whole.plain.state self.whole.plain.ledger outcome.plain = subst (IsPlannedIf self.whole.plain.state self.whole.plain.ledger) c.in-Some.is c.in_ok-outcome.ensures.planned in
+    let planned : IsPlainPlanned w.state w.ledger outcome.plain =
+    subst (λ (l : Ledger). IsPlainPlanned w.state l outcome.plain) is.whole.ledger (subst (λ (s : State). IsPlainPlanned s self.whole.plain.ledger outcome.plain) is.whole.state here) in
+    let adds : noted_if c.in_ok-note.note w.talks ≡ talks_behind given w event =
+    subst (λ (g : Given). noted_if c.in_ok-note.note w.talks ≡ talks_behind g w event) is.by (c.in_ok-note.ensures w is.whole) in (
+      both.0,
+      record {
+        by = (let config = c.apply.ensures.config in let old = is.by in cc);
+        whole = c.apply.ensures.stands given w event is.whole plan;
+        told = told_behind c.closed_sessions_are_those_that_end.ensures.talks given w event outcome planned plan c.in_ok-note.note self.told c.note-2.new.self c.let_go.new.self c.closed.result.now
+            is.told adds c.in_ok-note-2.ensures.noted c.closed.ensures c.in_ok-let_go.ensures;
+      },
+    )

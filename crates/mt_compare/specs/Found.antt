@@ -1,0 +1,7 @@
+-- For which difference one that the code has stands.
+use Rattle.std.specs.Option.{option_copied}
+use Rattle.mt_differences.specs.Difference.{Difference}
+use Rattle.mt_compare.specs.declared.comparing.Difference as code
+
+abbrev pub difference_in : code.Difference → Difference
+difference_in d = record { number = d.number; part = d.part; first = option_copied d.first; second = option_copied d.second }

@@ -1,0 +1,104 @@
+//! The first mark that differs.
+
+ghost use Rattle.std.specs.Prelude.{◌≡◌, IfOk, None, Some};
+ghost use Rattle.std.specs.Option.{option_map};
+ghost use Rattle.mt_model.specs.texts.Contents.{contents_of};
+ghost use Rattle.mt_machine.specs.Given.{Given, given_by};
+ghost use Rattle.mt_lines.specs.Whole.{Whole as Told, opened};
+ghost use Rattle.mt_differences.specs.Difference.{difference, difference_from};
+ghost use Rattle.mt_differences.specs.Marked.{marked};
+ghost use Rattle.mt_compare.specs.Found.{difference_in};
+ghost use Rattle.mt_compare.specs.Runs.{IsRunning};
+ghost use Rattle.mt_compare.specs.Sides.{left_of};
+
+use crate::between::part_between;
+use crate::side::Side;
+use mt_marks::Part;
+use mt_model::{Config, Event};
+use std::alloc::{AllocError, Global};
+
+/// Where two runs first differ for a fabric.
+#[derive(Clone, Copy)]
+pub struct Difference<'a> {
+    /// The number of the first mark that differs, from 1.
+    pub number: u64,
+    /// The first part in which it does.
+    pub part: Part,
+    /// The event at whose line it stands in the first run, None where that has no further mark.
+    pub first: Option<&'a Event>,
+    /// The same in the second run.
+    pub second: Option<&'a Event>,
+}
+
+/// Plays the events of two recordings, each on a new node with this configuration, and tells where they first differ by the
+/// marks of a fabric; None exactly where its marks are equal. Of each run one mark is held at a time.
+pub fn compare<'a>(
+    alloc: Global,
+    fabric: u8,
+    config: &Config,
+    first: &'a [Event],
+    second: &'a [Event],
+) -> Result<Option<Difference<'a>>, AllocError>
+    ensures { IfOk result (λ found. option_map difference_in found
+        ≡ difference (given_by (contents_of config.now)) fabric (opened config.now) first.entry.now second.entry.now) }
+{
+    let mut mine = Side::start(alloc, config, first)?;
+    compare_with(alloc, fabric, config, &mut mine, second)
+}
+
+// The same of the marks that are left of a run, and of all marks of another. Each of the two functions owns one run, since
+// letting go of both in one would be proved along every way on which either ends.
+fn compare_with<'a>(
+    alloc: Global,
+    fabric: u8,
+    config: &Config,
+    mine: &mut Side<'a>,
+    second: &'a [Event],
+) -> Result<Option<Difference<'a>>, AllocError>
+    ensures { (w : Told) → IsRunning mine.old.running (given_by (contents_of config.now)) w
+        → IfOk result (λ found. option_map difference_in found ≡ difference_from 1 (left_of (given_by (contents_of config.now)) fabric w mine.old) (marked (given_by (contents_of config.now)) fabric (opened config.now) second.entry.now)) }
+{
+    let mut theirs = Side::start(alloc, config, second)?;
+    first_between(alloc, fabric, mine, &mut theirs)
+}
+
+// The first of the marks that are left that differs.
+fn first_between<'a>(
+    alloc: Global,
+    fabric: u8,
+    mine: &mut Side<'a>,
+    theirs: &mut Side<'a>,
+) -> Result<Option<Difference<'a>>, AllocError>
+    ensures { (given : Given) (w v : Told) → IsRunning mine.old.running given w → IsRunning theirs.old.running given v
+        → IfOk result (λ found. option_map difference_in found ≡ difference_from 1 (left_of given fabric w mine.old) (left_of given fabric v theirs.old)) }
+{
+    for number in 1..u64::MAX {
+        match (mine.next(fabric)?, theirs.next(fabric)?) {
+            (true, true) => {
+                if let Some(part) = part_between(alloc, fabric, mine, theirs)? {
+                    return Ok(Some(differs(number, part, mine.event, theirs.event)));
+                }
+            }
+            (true, false) => return Ok(Some(differs(number, Part::Event, mine.event, None))),
+            (false, true) => return Ok(Some(differs(number, Part::Event, None, theirs.event))),
+            (false, false) => return Ok(None),
+        }
+    }
+    Err(AllocError)
+}
+
+fn differs<'a>(
+    number: u64,
+    part: Part,
+    first: Option<&'a Event>,
+    second: Option<&'a Event>,
+) -> Difference<'a>
+    ensures { result ≡ record { number = number; part = part; first = first.entry; second = second.entry } }
+{
+    Difference {
+        number,
+        part,
+        first,
+        second,
+    }
+}

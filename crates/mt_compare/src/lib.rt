@@ -1,0 +1,17 @@
+//! Two recordings, played over one configuration and compared by what a fabric sees of each: its marks, one after the other.
+//!
+//! - `running`: a node that plays events, and beside it all that is said over its sessions;
+//! - `side`: one of the two runs, which goes on from mark to mark;
+//! - `between`: the first part in which two marks differ;
+//! - `comparing`: the first mark that differs;
+//! - `text`: how that is told.
+#![tactic(auto)]
+
+mod between;
+mod comparing;
+mod running;
+mod side;
+mod text;
+
+pub use comparing::{Difference, compare};
+pub use text::comparison_text;
