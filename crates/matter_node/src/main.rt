@@ -24,12 +24,13 @@ fn main(rt: HostRuntime) -> ExitCode {
         // A word that is not UTF-8 is in no command, and neither is no word at all.
         Err(_) => Vec::new(rt.alloc()),
     };
-    let (config, first) = match files_of(&words) {
-        Ok(files) => (Some(files.config), files.first),
-        Err(_) => (None, None),
+    let (config, first, second) = match files_of(&words) {
+        Ok(files) => (Some(files.config), files.first, files.second),
+        Err(_) => (None, None, None),
     };
     let mut config = ReaderSource::new(named(&rt, &words, config));
     let mut first = ReaderSource::new(named(&rt, &words, first));
+    let mut second = ReaderSource::new(named(&rt, &words, second));
     let mut out = WriterSink::new(io::writer(&rt));
     let mut progress = TerminalProgress::new(&rt);
     ExitCode::from(run_watched(
@@ -37,6 +38,7 @@ fn main(rt: HostRuntime) -> ExitCode {
         &words,
         &mut config,
         &mut first,
+        &mut second,
         &mut out,
         &mut progress,
     ))

@@ -16,13 +16,13 @@ use Rattle.mt_config.specs.declared.configuration.ConfigField.TheVariants.{Size}
 use Rattle.mt_files.specs.declared.line_fault.LineFault.{LineFault}
 use Rattle.mt_files.specs.declared.line_fault.LineFault.TheVariants as lines
 use Rattle.mt_endings.specs.declared.fault.Fault.{Fault}
-use Rattle.mt_endings.specs.declared.fault.Fault.TheVariants.{BadWords, BadConfig, BadRecord, ReadFault, WriteFault, Memory, TooLong, Unbuilt}
+use Rattle.mt_endings.specs.declared.fault.Fault.TheVariants.{BadWords, BadConfig, BadRecord, ReadFault, WriteFault, Memory, TooLong, Differ, Unbuilt}
 use Rattle.mt_endings.specs.Faults.{fault_line, fault_of, status_of}
-use Rattle.mt_endings.specs.Endings.{Ending, Played, all_text, configured, exit_status, in_hand_of, last_line, nothing_but, of_files, of_none, of_recording, recorded, with_recording, without_recording}
-use Rattle.mt_endings.specs.Moments.{Input, in_hand, Moment, moment, AreCalm, AreSourcesCalm, HasSinkFailed, IsLeft, IsSinkCalm, HasRead, to_end, too_many, HasReadFirst, Reads}
-use Rattle.mt_endings.specs.Parts.{Done, Finishes, IsTold, PlayedTo, Recorded, Stops, StopsCalmly, StopsConfiguring, StopsPlaying, StopsRecording, TellsThere, TookFirst, is_memory, is_read_fault, is_write_fault, no_memory, no_sink, part_of_line, told_line, whole_line}
+use Rattle.mt_endings.specs.Endings.{Ending, Played, Recordings, all_text, configured, exit_status, in_hand_of, last_line, nothing_but, of_files, of_none, of_recording, of_recordings, recorded, recorded_both, recorded_second, without_recording}
+use Rattle.mt_endings.specs.Moments.{Input, in_hand, Moment, moment, AreCalm, AreSourcesCalm, HasSinkFailed, IsLeft, IsSinkCalm, HasRead, to_end, too_many, HasReadIf, Reads}
+use Rattle.mt_endings.specs.Parts.{Done, Finishes, IsTold, PlayedTo, Recorded, Stops, StopsCalmly, StopsConfiguring, StopsPlaying, StopsRecording, TellsThere, TookFirst, is_memory, is_read_fault, is_write_fault, no_memory, no_sink, part_of_line, told_line, wants_no_memory, whole_line}
 use Rattle.mt_endings.specs.Run.{Ends}
-use Rattle.mt_endings.specs.Statuses.{Told, HadNoMemory, NoMemory, SourceFailed, config_failed, first_failed, Cut, text_cut, read_fault_cut, ReadsNothing, CouldNotWrite, is_told, is_status, TellsMemory}
+use Rattle.mt_endings.specs.Statuses.{Told, HadNoMemory, NoMemory, SourceFailed, config_failed, first_failed, second_failed, Cut, text_cut, read_fault_cut, ReadsNothing, CouldNotWrite, is_told, is_status, TellsMemory}
 
 -- What a source may have held.
 
@@ -41,6 +41,10 @@ IsLeft-read (Some left) after bytes h = h.0
 IsLeft-HasRead : (most : ℕ) (old new : Input) (bytes : List ℕ) → HasRead most old new bytes → IsLeft old.left bytes
 IsLeft-HasRead most old new bytes (to_end read within) = IsLeft-read old.left new.left bytes read
 IsLeft-HasRead most old new bytes (too_many left more) = left
+
+-- the recordings that two sources may have held
+abbrev left_in_both : Input → Input → Recordings
+left_in_both first second = record { first = left_in first.left; second = left_in second.left }
 
 longer_than : (most : ℕ) → (bytes : List ℕ) × (most < length bytes)
 longer_than zero = (0 ∷ [], omega arith)
@@ -78,12 +82,29 @@ recorded_badly lines.Memory old new bytes read why = tt
 hand_read : HasRead CONFIGURATION_BYTES in_hand in_hand []
 hand_read = to_end (refl, refl) (omega arith)
 
+-- What the recordings of a run come to that has a configuration in hand.
+
+abbrev with_reads : Bool → Bool → Played → Ending
+with_reads first second all = record { lines = all.lines; fault = all.fault; reads_first = first; reads_second = second }
+
+-- Each was read, or was not touched, as that says, and they come to this.
+record ComesTo (comes : Recordings → Ending) (first_old first_new second_old second_new : Input) (first second : Bool) (all : Played) : Type 0 where
+  recordings : Recordings
+  is : comes recordings ≡ with_reads first second all
+  first_read : HasReadIf first first_old first_new recordings.first
+  second_read : HasReadIf second second_old second_new recordings.second
+
+-- no bytes were written
+pub took_nothing : (written : Option (List ℕ)) → Took written written []
+took_nothing None = tt
+took_nothing (Some bytes) = ap Some (sym (append-nil bytes))
+
 -- Each row of the table of statuses, as the end of a run.
 
 not_told_as : (status other : ℕ) → is_told status ≡ true → is_told other ≡ false → status ≡ other → ⊥
 not_told_as status other told not is = let h : is_told other ≡ true = subst (λ n. is_told n ≡ true) is told in absurd (cc)
 
-ends_told : (status : ℕ) (ending : List ℕ → List ℕ → Ending) (old new : Moment) → is_told status ≡ true → is_status status ≡ true → Told status ending old new → Ends status (Some ending) old new
+ends_told : (status : ℕ) (ending : List ℕ → Recordings → Ending) (old new : Moment) → is_told status ≡ true → is_status status ≡ true → Told status ending old new → Ends status (Some ending) old new
 ends_told status ending old new one known h = record {
   known = known;
   told = λ e. h;
@@ -93,7 +114,7 @@ ends_told status ending old new one known h = record {
   memory = λ e. absurd (not_told_as status 7 one refl e);
 }
 
-ends_bad_words : (asked : Option (List ℕ → List ℕ → Ending)) (old new : Moment) → asked ≡ None → ReadsNothing old new → IsSinkCalm old new → Took old.written new.written (fault_line BadWords) → Ends 2 asked old new
+ends_bad_words : (asked : Option (List ℕ → Recordings → Ending)) (old new : Moment) → asked ≡ None → ReadsNothing old new → IsSinkCalm old new → Took old.written new.written (fault_line BadWords) → Ends 2 asked old new
 ends_bad_words asked old new none reads calm h = record {
   known = refl;
   told = λ e. absurd (cc);
@@ -103,7 +124,7 @@ ends_bad_words asked old new none reads calm h = record {
   memory = λ e. absurd (omega arith);
 }
 
-ends_read_fault : (ending : List ℕ → List ℕ → Ending) (old new : Moment) → SourceFailed ending old new → IsSinkCalm old new → Took old.written new.written (fault_line ReadFault) → Ends 5 (Some ending) old new
+ends_read_fault : (ending : List ℕ → Recordings → Ending) (old new : Moment) → SourceFailed ending old new → IsSinkCalm old new → Took old.written new.written (fault_line ReadFault) → Ends 5 (Some ending) old new
 ends_read_fault ending old new failed calm h = record {
   known = refl;
   told = λ e. absurd (cc);
@@ -113,7 +134,7 @@ ends_read_fault ending old new failed calm h = record {
   memory = λ e. absurd (omega arith);
 }
 
-ends_write_fault : (asked : Option (List ℕ → List ℕ → Ending)) (old new : Moment) → HasSinkFailed old new → CouldNotWrite asked old new → Ends 6 asked old new
+ends_write_fault : (asked : Option (List ℕ → Recordings → Ending)) (old new : Moment) → HasSinkFailed old new → CouldNotWrite asked old new → Ends 6 asked old new
 ends_write_fault asked old new rose h = record {
   known = refl;
   told = λ e. absurd (cc);
@@ -123,7 +144,7 @@ ends_write_fault asked old new rose h = record {
   memory = λ e. absurd (omega arith);
 }
 
-ends_memory : (asked : Option (List ℕ → List ℕ → Ending)) (old new : Moment) → HadNoMemory asked old new → Ends 7 asked old new
+ends_memory : (asked : Option (List ℕ → Recordings → Ending)) (old new : Moment) → HadNoMemory asked old new → Ends 7 asked old new
 ends_memory asked old new h = record {
   known = refl;
   told = λ e. absurd (cc);
@@ -134,10 +155,10 @@ ends_memory asked old new h = record {
 }
 
 -- all was written, and no fault is told
-pub ends_done : (ending : List ℕ → List ℕ → Ending) (old new : Moment) → Done ending old new → Ends 0 (Some ending) old new
+pub ends_done : (ending : List ℕ → Recordings → Ending) (old new : Moment) → Done ending old new → Ends 0 (Some ending) old new
 ends_done ending old new h = ends_told 0 ending old new refl refl (record {
   config = h.0;
-  recording = h.1;
+  recordings = h.1;
   reads = h.2;
   is = sym (ap exit_status h.3);
   calm = h.4;
@@ -146,6 +167,9 @@ ends_done ending old new h = ends_told 0 ending old new refl refl (record {
 
 is_no_write_fault : (fault : Fault) → is_write_fault fault ≡ false → fault ≢ WriteFault
 is_no_write_fault fault quiet is = let h : is_write_fault WriteFault ≡ false = subst (λ f. is_write_fault f ≡ false) is quiet in absurd (cc)
+
+wants_memory : (fault : Fault) → wants_no_memory fault ≡ false → fault ≢ WriteFault
+wants_memory fault wants is = let h : wants_no_memory WriteFault ≡ false = subst (λ f. wants_no_memory f ≡ false) is wants in absurd (cc)
 
 -- By the laws on what is written.
 module _ (laws : StreamLaws) where
@@ -157,31 +181,34 @@ module _ (laws : StreamLaws) where
   nothing_part a b c line p q = laws.then_less a b c [] line p q
 
   -- the messages that were written before a run stopped
-  record Front (ending : List ℕ → List ℕ → Ending) (old : Moment) (mid : Option (List ℕ)) : Type 0 where
+  record Front (ending : List ℕ → Recordings → Ending) (old : Moment) (mid : Option (List ℕ)) : Type 0 where
     config : List ℕ
-    recording : List ℕ
+    recordings : Recordings
     config_left : IsLeft old.config.left config
-    first_left : IsLeft old.first.left recording
-    told : TookFirst old.written mid (ending config recording).lines
+    first_left : IsLeft old.first.left recordings.first
+    second_left : IsLeft old.second.left recordings.second
+    told : TookFirst old.written mid (ending config recordings).lines
 
-  nothing_yet : (ending : List ℕ → List ℕ → Ending) (old : Moment) (mid : Option (List ℕ)) → Took old.written mid [] → Front ending old mid
+  nothing_yet : (ending : List ℕ → Recordings → Ending) (old : Moment) (mid : Option (List ℕ)) → Took old.written mid [] → Front ending old mid
   nothing_yet ending old mid h = record {
     config = left_in old.config.left;
-    recording = left_in old.first.left;
+    recordings = left_in_both old.first old.second;
     config_left = IsLeft-left_in old.config.left;
     first_left = IsLeft-left_in old.first.left;
-    told = ([], (ending (left_in old.config.left) (left_in old.first.left)).lines, refl, h);
+    second_left = IsLeft-left_in old.second.left;
+    told = ([], (ending (left_in old.config.left) (left_in_both old.first old.second)).lines, refl, h);
   }
 
   -- the messages that were written, and the last line
-  both_parts : (ending : List ℕ → List ℕ → Ending) (old mid : Moment) (after : Option (List ℕ)) (faults : ℕ) → Front ending old mid.written → AreCalm old mid → TellsThere mid.written after mid.write_faults faults
-      → NoMemory ending old (moment mid.config mid.first after faults)
+  both_parts : (ending : List ℕ → Recordings → Ending) (old mid : Moment) (after : Option (List ℕ)) (faults : ℕ) → Front ending old mid.written → AreCalm old mid → TellsThere mid.written after mid.write_faults faults
+      → NoMemory ending old (moment mid.config mid.first mid.second after faults)
   both_parts ending old mid after faults f calm q = record {
     config = f.config;
-    recording = f.recording;
+    recordings = f.recordings;
     config_left = f.config_left;
     first_left = f.first_left;
-    calm = record { config = calm.sources.config; first = calm.sources.first };
+    second_left = f.second_left;
+    calm = record { config = calm.sources.config; first = calm.sources.first; second = calm.sources.second };
     told = f.told.0;
     others = f.told.1;
     front = f.told.2;
@@ -191,15 +218,16 @@ module _ (laws : StreamLaws) where
   }
 
   -- neither a source nor the sink is the cause
-  calm_of : (fault : Fault) (old mid : Moment) → fault ≢ WriteFault → is_read_fault fault ≡ false → StopsCalmly fault old mid → AreCalm old mid
-  calm_of BadWords old mid not quiet h = h
-  calm_of (BadConfig field) old mid not quiet h = h
-  calm_of (BadRecord line kind) old mid not quiet h = h
-  calm_of ReadFault old mid not quiet h = absurd (cc)
-  calm_of WriteFault old mid not quiet h = absurd (not refl)
-  calm_of Memory old mid not quiet h = h
-  calm_of TooLong old mid not quiet h = h
-  calm_of (Unbuilt line) old mid not quiet h = h
+  calm_of : (fault : Fault) (old mid : Moment) → wants_no_memory fault ≡ false → StopsCalmly fault old mid → AreCalm old mid
+  calm_of BadWords old mid wants h = h
+  calm_of (BadConfig field) old mid wants h = h
+  calm_of (BadRecord line kind) old mid wants h = h
+  calm_of ReadFault old mid wants h = absurd (cc)
+  calm_of WriteFault old mid wants h = absurd (cc)
+  calm_of Memory old mid wants h = h
+  calm_of TooLong old mid wants h = h
+  calm_of Differ old mid wants h = h
+  calm_of (Unbuilt line) old mid wants h = h
 
   sink_of : (fault : Fault) (old mid : Moment) → fault ≢ WriteFault → StopsCalmly fault old mid → IsSinkCalm old mid
   sink_of BadWords old mid not h = h.sink
@@ -209,6 +237,7 @@ module _ (laws : StreamLaws) where
   sink_of WriteFault old mid not h = absurd (not refl)
   sink_of Memory old mid not h = h.sink
   sink_of TooLong old mid not h = h.sink
+  sink_of Differ old mid not h = h.sink
   sink_of (Unbuilt line) old mid not h = h.sink
 
   pub stops_calmly : (fault : Fault) (old mid : Moment) → (is_read_fault fault ≡ false → AreSourcesCalm old mid) → (is_write_fault fault ≡ false → IsSinkCalm old mid) → StopsCalmly fault old mid
@@ -219,81 +248,89 @@ module _ (laws : StreamLaws) where
   stops_calmly WriteFault old mid sources sink = sources refl
   stops_calmly Memory old mid sources sink = record { sources = sources refl; sink = sink refl }
   stops_calmly TooLong old mid sources sink = record { sources = sources refl; sink = sink refl }
+  stops_calmly Differ old mid sources sink = record { sources = sources refl; sink = sink refl }
   stops_calmly (Unbuilt line) old mid sources sink = record { sources = sources refl; sink = sink refl }
 
   -- the files were read, and all is written but the last line
-  record Stopped (fault : Fault) (ending : List ℕ → List ℕ → Ending) (old mid : Moment) : Type 0 where
+  record Stopped (fault : Fault) (ending : List ℕ → Recordings → Ending) (old mid : Moment) : Type 0 where
     config : List ℕ
-    recording : List ℕ
-    reads : Reads ending old mid config recording
-    is : (ending config recording).fault ≡ Some fault
-    took : Took old.written mid.written (text_of (ending config recording).lines)
+    recordings : Recordings
+    reads : Reads ending old mid config recordings
+    is : (ending config recordings).fault ≡ Some fault
+    took : Took old.written mid.written (text_of (ending config recordings).lines)
 
-  stopped_badly : (field : ConfigField) (ending : List ℕ → List ℕ → Ending) (old mid : Moment) → Stops (BadConfig field) ending old mid → Stopped (BadConfig field) ending old mid
+  stopped_badly : (field : ConfigField) (ending : List ℕ → Recordings → Ending) (old mid : Moment) → Stops (BadConfig field) ending old mid → Stopped (BadConfig field) ending old mid
   stopped_badly field ending old mid h =
-      let recording = left_in old.first.left in
-      let ends : ending h.0 recording ≡ without_recording (nothing_but (BadConfig field)) = h.2 recording in record {
+      let recordings = left_in_both old.first old.second in
+      let ends : ending h.0 recordings ≡ without_recording (nothing_but (BadConfig field)) = h.2 recordings in record {
         config = h.0;
-        recording = recording;
-        reads = record { config_read = h.1; first_read = subst (λ (e : Ending). HasReadFirst e.reads_first old.first mid.first recording) (sym ends) (h.3, IsLeft-left_in old.first.left) };
+        recordings = recordings;
+        reads = record {
+          config_read = h.1;
+          first_read = subst (λ (e : Ending). HasReadIf e.reads_first old.first mid.first recordings.first) (sym ends) (h.3, IsLeft-left_in old.first.left);
+          second_read = subst (λ (e : Ending). HasReadIf e.reads_second old.second mid.second recordings.second) (sym ends) (h.4, IsLeft-left_in old.second.left);
+        };
         is = ap (λ (e : Ending). e.fault) ends;
-        took = subst (λ (e : Ending). Took old.written mid.written (text_of e.lines)) (sym ends) h.4;
+        took = subst (λ (e : Ending). Took old.written mid.written (text_of e.lines)) (sym ends) h.5;
       }
 
   -- the recording is what its source had left, read or not
-  was_left : (reads : Bool) (old new : Input) (recording : List ℕ) → HasReadFirst reads old new recording → IsLeft old.left recording
+  was_left : (reads : Bool) (old new : Input) (recording : List ℕ) → HasReadIf reads old new recording → IsLeft old.left recording
   was_left true old new recording h = IsLeft-HasRead RECORDING_BYTES old new recording h
   was_left false old new recording h = h.1
 
-  front_of : (fault : Fault) (ending : List ℕ → List ℕ → Ending) (old mid : Moment) → Stopped fault ending old mid → Front ending old mid.written
+  front_of : (fault : Fault) (ending : List ℕ → Recordings → Ending) (old mid : Moment) → Stopped fault ending old mid → Front ending old mid.written
   front_of fault ending old mid h = record {
     config = h.config;
-    recording = h.recording;
+    recordings = h.recordings;
     config_left = IsLeft-HasRead CONFIGURATION_BYTES old.config mid.config h.config h.reads.config_read;
-    first_left = was_left (ending h.config h.recording).reads_first old.first mid.first h.recording h.reads.first_read;
-    told = ((ending h.config h.recording).lines, [], sym (append-nil (ending h.config h.recording).lines), h.took);
+    first_left = was_left (ending h.config h.recordings).reads_first old.first mid.first h.recordings.first h.reads.first_read;
+    second_left = was_left (ending h.config h.recordings).reads_second old.second mid.second h.recordings.second h.reads.second_read;
+    told = ((ending h.config h.recordings).lines, [], sym (append-nil (ending h.config h.recordings).lines), h.took);
   }
 
-  module _ (ending : List ℕ → List ℕ → Ending) (old mid : Moment) (after : Option (List ℕ)) (faults : ℕ) where
+  module _ (ending : List ℕ → Recordings → Ending) (old mid : Moment) (after : Option (List ℕ)) (faults : ℕ) where
     abbrev new : Moment
-    new = moment mid.config mid.first after faults
+    new = moment mid.config mid.first mid.second after faults
 
-    reads_now : (config recording : List ℕ) → Reads ending old mid config recording → Reads ending old new config recording
-    reads_now config recording h = record { config_read = h.config_read; first_read = h.first_read }
+    reads_now : (config : List ℕ) (recordings : Recordings) → Reads ending old mid config recordings → Reads ending old new config recordings
+    reads_now config recordings h = record { config_read = h.config_read; first_read = h.first_read; second_read = h.second_read }
 
     failed_now : SourceFailed ending old mid → SourceFailed ending old new
-    failed_now (config_failed rose kept) = config_failed rose kept
-    failed_now (first_failed config read calm taken rose) = first_failed config read calm taken rose
+    failed_now (config_failed rose kept kept_too) = config_failed rose kept kept_too
+    failed_now (first_failed config read calm taken rose kept) = first_failed config read calm taken rose kept
+    failed_now (second_failed config first read calm first_read first_calm taken rose) = second_failed config first read calm first_read first_calm taken rose
 
     sources_now : AreSourcesCalm old mid → AreSourcesCalm old new
-    sources_now h = record { config = h.config; first = h.first }
+    sources_now h = record { config = h.config; first = h.first; second = h.second }
 
     -- the fault line was written
     stopped_told : (fault : Fault) → is_told (status_of fault) ≡ true → is_status (status_of fault) ≡ true → Stopped fault ending old mid → AreCalm old mid → faults ≡ mid.write_faults → Took mid.written after (fault_line fault) → Ends (status_of fault) (Some ending) old new
     stopped_told fault one known h calm same t = ends_told (status_of fault) ending old new one known (record {
       config = h.config;
-      recording = h.recording;
-      reads = reads_now h.config h.recording h.reads;
+      recordings = h.recordings;
+      reads = reads_now h.config h.recordings h.reads;
       is = sym (ap exit_status h.is);
       calm = record { sources = sources_now calm.sources; sink = same ∙ calm.sink };
-      written = subst (λ o. Took old.written after (text_of (ending h.config h.recording).lines ++ last_line o)) (sym h.is) (laws.then old.written mid.written after (text_of (ending h.config h.recording).lines) (fault_line fault) h.took t);
+      written = subst (λ o. Took old.written after (text_of (ending h.config h.recordings).lines ++ last_line o)) (sym h.is) (laws.then old.written mid.written after (text_of (ending h.config h.recordings).lines) (fault_line fault) h.took t);
     })
 
-    stopped_by : (fault : Fault) → (config : List ℕ) × (recording : List ℕ) × Reads ending old mid config recording × ((ending config recording).fault ≡ Some fault) × Took old.written mid.written (text_of (ending config recording).lines) → Stopped fault ending old mid
-    stopped_by fault h = record { config = h.0; recording = h.1; reads = h.2; is = h.3; took = h.4 }
+    stopped_by : (fault : Fault) → (config : List ℕ) × (recordings : Recordings) × Reads ending old mid config recordings × ((ending config recordings).fault ≡ Some fault) × Took old.written mid.written (text_of (ending config recordings).lines) → Stopped fault ending old mid
+    stopped_by fault h = record { config = h.0; recordings = h.1; reads = h.2; is = h.3; took = h.4 }
 
     -- the sink failed at the fault line
     stopped_cut : (fault : Fault) → Stopped fault ending old mid → AreCalm old mid → TookLess mid.written after (fault_line fault) → Cut ending old new
-    stopped_cut fault h calm t = text_cut h.config h.recording (reads_now h.config h.recording h.reads) (sources_now calm.sources) (subst (λ o. TookLess old.written after (text_of (ending h.config h.recording).lines ++ last_line o)) (sym h.is) (laws.then_less old.written mid.written after (text_of (ending h.config h.recording).lines) (fault_line fault) h.took t))
+    stopped_cut fault h calm t = text_cut h.config h.recordings (reads_now h.config h.recordings h.reads) (sources_now calm.sources) (subst (λ o. TookLess old.written after (text_of (ending h.config h.recordings).lines ++ last_line o)) (sym h.is) (laws.then_less old.written mid.written after (text_of (ending h.config h.recordings).lines) (fault_line fault) h.took t))
 
     fronts : (fault : Fault) → fault ≢ WriteFault → Stops fault ending old mid → Front ending old mid.written
     fronts BadWords not h = absurd h
-    fronts (BadConfig field) not h = nothing_yet ending old mid.written h.4
+    fronts (BadConfig field) not h = nothing_yet ending old mid.written h.5
     fronts (BadRecord line kind) not h = front_of (BadRecord line kind) ending old mid (stopped_by (BadRecord line kind) h)
     fronts ReadFault not h = nothing_yet ending old mid.written h.1
     fronts WriteFault not h = absurd (not refl)
-    fronts Memory not h = record { config = h.0; recording = h.1; config_left = h.2; first_left = h.3; told = h.4 }
+    fronts Memory not h = record { config = h.0; recordings = h.1; config_left = h.2; first_left = h.3; second_left = h.4; told = h.5 }
     fronts TooLong not h = front_of TooLong ending old mid (stopped_by TooLong h)
+    fronts Differ not h = front_of Differ ending old mid (stopped_by Differ h)
     fronts (Unbuilt line) not h = front_of (Unbuilt line) ending old mid (stopped_by (Unbuilt line) h)
 
     row_told : (fault : Fault) → fault ≢ WriteFault → is_memory fault ≡ false → Stops fault ending old mid → StopsCalmly fault old mid → faults ≡ mid.write_faults → Took mid.written after (fault_line fault) → Ends (status_of fault) (Some ending) old new
@@ -304,6 +341,7 @@ module _ (laws : StreamLaws) where
     row_told WriteFault not other h calm same t = absurd (not refl)
     row_told Memory not other h calm same t = absurd (cc)
     row_told TooLong not other h calm same t = stopped_told TooLong refl refl (stopped_by TooLong h) calm same t
+    row_told Differ not other h calm same t = stopped_told Differ refl refl (stopped_by Differ h) calm same t
     row_told (Unbuilt line) not other h calm same t = stopped_told (Unbuilt line) refl refl (stopped_by (Unbuilt line) h) calm same t
 
     row_cut : (fault : Fault) → fault ≢ WriteFault → is_memory fault ≡ false → Stops fault ending old mid → StopsCalmly fault old mid → TookLess mid.written after (fault_line fault) → Cut ending old new
@@ -314,6 +352,7 @@ module _ (laws : StreamLaws) where
     row_cut WriteFault not other h calm t = absurd (not refl)
     row_cut Memory not other h calm t = absurd (cc)
     row_cut TooLong not other h calm t = stopped_cut TooLong (stopped_by TooLong h) calm t
+    row_cut Differ not other h calm t = stopped_cut Differ (stopped_by Differ h) calm t
     row_cut (Unbuilt line) not other h calm t = stopped_cut (Unbuilt line) (stopped_by (Unbuilt line) h) calm t
 
     -- nothing had failed before
@@ -329,111 +368,115 @@ module _ (laws : StreamLaws) where
     ends_cut h calm same stays = ends_write_fault (Some ending) old new (subst (λ (count : ℕ). RoseByOne old.write_faults count) (sym stays) h.0)
         (text_cut h.1.0 h.1.1 (reads_now h.1.0 h.1.1 h.1.2) (sources_now calm) (rw same (laws.less_of_more old.written mid.written (text_of (ending h.1.0 h.1.1).lines) (last_line (ending h.1.0 h.1.1).fault) h.1.3)))
 
-    not_write : (fault : Fault) → is_write_fault fault ≡ false → fault ≢ WriteFault
-    not_write fault quiet is = is_no_write_fault fault quiet is
-
     pub ends_by : (fault : Fault) (status : ℕ) → Stops fault ending old mid → StopsCalmly fault old mid → Finishes fault status mid.written after mid.write_faults faults → Ends status (Some ending) old new
-    ends_by fault status h calm (told_line other quiet t) = ends_told_by fault status (not_write fault quiet) other h calm t
-    ends_by fault status h calm (no_memory read quiet is t) = rw is (ends_memory (Some ending) old new (both_parts ending old mid after faults (fronts fault (not_write fault quiet) h) (calm_of fault old mid (not_write fault quiet) read calm) t))
+    ends_by fault status h calm (told_line other quiet t) = ends_told_by fault status (is_no_write_fault fault quiet) other h calm t
+    ends_by fault status h calm (no_memory wants is t) = rw is (ends_memory (Some ending) old new (both_parts ending old mid after faults (fronts fault (wants_memory fault wants) h) (calm_of fault old mid wants calm) t))
     ends_by fault status h calm (no_sink at is same stays) = rw is (ends_cut (subst (λ (f : Fault). Stops f ending old mid) at h) (subst (λ (f : Fault). StopsCalmly f old mid) at calm) same stays)
 
   -- Words that have no form, and words that were not looked at.
 
-  pub ends_badly : (old : Moment) (after : Option (List ℕ)) (faults status : ℕ) → IsTold BadWords status old.written after old.write_faults faults → Ends status None old (moment old.config old.first after faults)
-  ends_badly old after faults status (whole_line is same t) = rw is (ends_bad_words None old (moment old.config old.first after faults) refl (refl, refl) same t)
-  ends_badly old after faults status (part_of_line is rose t) = rw is (ends_write_fault None old (moment old.config old.first after faults) rose ((refl, refl), t))
+  pub ends_badly : (old : Moment) (after : Option (List ℕ)) (faults status : ℕ) → IsTold BadWords status old.written after old.write_faults faults → Ends status None old (moment old.config old.first old.second after faults)
+  ends_badly old after faults status (whole_line is same t) = rw is (ends_bad_words None old (moment old.config old.first old.second after faults) refl (refl, refl, refl) same t)
+  ends_badly old after faults status (part_of_line is rose t) = rw is (ends_write_fault None old (moment old.config old.first old.second after faults) rose ((refl, refl, refl), t))
 
-  unread : (asked : Option (List ℕ → List ℕ → Ending)) (old : Moment) (after : Option (List ℕ)) (faults : ℕ) → TellsThere old.written after old.write_faults faults → HadNoMemory asked old (moment old.config old.first after faults)
-  unread None old after faults h = record { nothing = (refl, refl); last = h.0; tells = h.1; written = h.2 }
-  unread (Some ending) old after faults h = both_parts ending old old after faults (nothing_yet ending old old.written (laws.nothing old.written)) (record { sources = record { config = refl; first = refl }; sink = refl }) h
+  unread : (asked : Option (List ℕ → Recordings → Ending)) (old : Moment) (after : Option (List ℕ)) (faults : ℕ) → TellsThere old.written after old.write_faults faults → HadNoMemory asked old (moment old.config old.first old.second after faults)
+  unread None old after faults h = record { nothing = (refl, refl, refl); last = h.0; tells = h.1; written = h.2 }
+  unread (Some ending) old after faults h = both_parts ending old old after faults (nothing_yet ending old old.written (laws.nothing old.written)) (record { sources = record { config = refl; first = refl; second = refl }; sink = refl }) h
 
-  pub ends_unread : (asked : Option (List ℕ → List ℕ → Ending)) (old : Moment) (after : Option (List ℕ)) (faults : ℕ) → TellsThere old.written after old.write_faults faults → Ends 7 asked old (moment old.config old.first after faults)
-  ends_unread asked old after faults h = ends_memory asked old (moment old.config old.first after faults) (unread asked old after faults h)
+  pub ends_unread : (asked : Option (List ℕ → Recordings → Ending)) (old : Moment) (after : Option (List ℕ)) (faults : ℕ) → TellsThere old.written after old.write_faults faults → Ends 7 asked old (moment old.config old.first old.second after faults)
+  ends_unread asked old after faults h = ends_memory asked old (moment old.config old.first old.second after faults) (unread asked old after faults h)
 
   -- No configuration.
 
-  configuring_stops : (comes_to : Contents → List ℕ → Ending) (fault : Fault) (old now first : Input) (written : Option (List ℕ)) (faults : ℕ) → StopsConfiguring fault old now → Stops fault (of_files comes_to) (moment old first written faults) (moment now first written faults)
-  configuring_stops comes_to BadWords old now first written faults h = absurd h
-  configuring_stops comes_to (BadConfig field) old now first written faults h = (h.0, h.1, λ recording. ap (configured (λ (contents : Contents). comes_to contents recording)) h.2, refl, laws.nothing written)
-  configuring_stops comes_to (BadRecord line kind) old now first written faults h = absurd h
-  configuring_stops comes_to ReadFault old now first written faults h = (config_failed h refl, laws.nothing written)
-  configuring_stops comes_to WriteFault old now first written faults h = absurd h
-  configuring_stops comes_to Memory old now first written faults h = (left_in old.left, left_in first.left, IsLeft-left_in old.left, IsLeft-left_in first.left, ([], (of_files comes_to (left_in old.left) (left_in first.left)).lines, refl, laws.nothing written))
-  configuring_stops comes_to TooLong old now first written faults h = absurd h
-  configuring_stops comes_to (Unbuilt line) old now first written faults h = absurd h
+  configuring_stops : (comes_to : Contents → Recordings → Ending) (fault : Fault) (old now first second : Input) (written : Option (List ℕ)) (faults : ℕ) → StopsConfiguring fault old now → Stops fault (of_files comes_to) (moment old first second written faults) (moment now first second written faults)
+  configuring_stops comes_to BadWords old now first second written faults h = absurd h
+  configuring_stops comes_to (BadConfig field) old now first second written faults h = (h.0, h.1, λ recordings. ap (configured (λ (contents : Contents). comes_to contents recordings)) h.2, refl, refl, laws.nothing written)
+  configuring_stops comes_to (BadRecord line kind) old now first second written faults h = absurd h
+  configuring_stops comes_to ReadFault old now first second written faults h = (config_failed h refl refl, laws.nothing written)
+  configuring_stops comes_to WriteFault old now first second written faults h = absurd h
+  configuring_stops comes_to Memory old now first second written faults h = (left_in old.left, left_in_both first second, IsLeft-left_in old.left, IsLeft-left_in first.left, IsLeft-left_in second.left, ([], (of_files comes_to (left_in old.left) (left_in_both first second)).lines, refl, laws.nothing written))
+  configuring_stops comes_to TooLong old now first second written faults h = absurd h
+  configuring_stops comes_to Differ old now first second written faults h = absurd h
+  configuring_stops comes_to (Unbuilt line) old now first second written faults h = absurd h
 
-  pub unconfigured : (comes_to : Contents → List ℕ → Ending) (fault : Fault) (status : ℕ) (old now first : Input) (before after : Option (List ℕ)) (old_faults new_faults : ℕ)
+  pub unconfigured : (comes_to : Contents → Recordings → Ending) (fault : Fault) (status : ℕ) (old now first second : Input) (before after : Option (List ℕ)) (old_faults new_faults : ℕ)
       → StopsConfiguring fault old now → (is_read_fault fault ≡ false → now.faults ≡ old.faults) → Finishes fault status before after old_faults new_faults
-      → Ends status (Some (of_files comes_to)) (moment old first before old_faults) (moment now first after new_faults)
-  unconfigured comes_to fault status old now first before after old_faults new_faults h calm end =
-      let from = moment old first before old_faults in
-      let mid = moment now first before old_faults in
-      ends_by (of_files comes_to) from mid after new_faults fault status (configuring_stops comes_to fault old now first before old_faults h)
-      (stops_calmly fault from mid (λ quiet. record { config = calm quiet; first = refl }) (λ other. refl)) end
+      → Ends status (Some (of_files comes_to)) (moment old first second before old_faults) (moment now first second after new_faults)
+  unconfigured comes_to fault status old now first second before after old_faults new_faults h calm end =
+      let from = moment old first second before old_faults in
+      let mid = moment now first second before old_faults in
+      ends_by (of_files comes_to) from mid after new_faults fault status (configuring_stops comes_to fault old now first second before old_faults h)
+      (stops_calmly fault from mid (λ quiet. record { config = calm quiet; first = refl; second = refl }) (λ other. refl)) end
 
   never_fails_in_hand : RoseByOne 0 0 → ⊥
   never_fails_in_hand h = omega arith
 
   -- A run with a configuration in hand, as the end of the run that read it.
-  module _ (comes_to : Contents → List ℕ → Ending) (contents : Contents) (bytes : List ℕ) (is : configuration bytes ≡ Ok contents) (read_old read_new first_old first_new : Input) (before after : Option (List ℕ)) (old_faults new_faults : ℕ) (read : HasRead CONFIGURATION_BYTES read_old read_new bytes) (read_calm : read_new.faults ≡ read_old.faults) where
-    abbrev held : List ℕ → List ℕ → Ending
+  module _ (comes_to : Contents → Recordings → Ending) (contents : Contents) (bytes : List ℕ) (is : configuration bytes ≡ Ok contents) (read_old read_new first_old first_new second_old second_new : Input) (before after : Option (List ℕ)) (old_faults new_faults : ℕ) (read : HasRead CONFIGURATION_BYTES read_old read_new bytes) (read_calm : read_new.faults ≡ read_old.faults) where
+    abbrev held : List ℕ → Recordings → Ending
     held = in_hand_of (comes_to contents)
 
-    abbrev whole_run : List ℕ → List ℕ → Ending
+    abbrev whole_run : List ℕ → Recordings → Ending
     whole_run = of_files comes_to
 
     abbrev old_hand : Moment
-    old_hand = moment in_hand first_old before old_faults
+    old_hand = moment in_hand first_old second_old before old_faults
 
     abbrev new_hand : Moment
-    new_hand = moment in_hand first_new after new_faults
+    new_hand = moment in_hand first_new second_new after new_faults
 
     abbrev old_run : Moment
-    old_run = moment read_old first_old before old_faults
+    old_run = moment read_old first_old second_old before old_faults
 
     abbrev new_run : Moment
-    new_run = moment read_new first_new after new_faults
+    new_run = moment read_new first_new second_new after new_faults
 
-    same : (other recording : List ℕ) → held other recording ≡ whole_run bytes recording
-    same other recording = sym (ap (configured (λ (c : Contents). comes_to c recording)) is)
+    same : (other : List ℕ) (recordings : Recordings) → held other recordings ≡ whole_run bytes recordings
+    same other recordings = sym (ap (configured (λ (c : Contents). comes_to c recordings)) is)
 
-    reads_run : (other recording : List ℕ) → Reads held old_hand new_hand other recording → Reads whole_run old_run new_run bytes recording
-    reads_run other recording h = record { config_read = read; first_read = subst (λ (e : Ending). HasReadFirst e.reads_first first_old first_new recording) (same other recording) h.first_read }
+    reads_run : (other : List ℕ) (recordings : Recordings) → Reads held old_hand new_hand other recordings → Reads whole_run old_run new_run bytes recordings
+    reads_run other recordings h = record {
+      config_read = read;
+      first_read = subst (λ (e : Ending). HasReadIf e.reads_first first_old first_new recordings.first) (same other recordings) h.first_read;
+      second_read = subst (λ (e : Ending). HasReadIf e.reads_second second_old second_new recordings.second) (same other recordings) h.second_read;
+    }
 
     sources_run : AreSourcesCalm old_hand new_hand → AreSourcesCalm old_run new_run
-    sources_run h = record { config = read_calm; first = h.first }
+    sources_run h = record { config = read_calm; first = h.first; second = h.second }
 
     told_run : (status : ℕ) → Told status held old_hand new_hand → Told status whole_run old_run new_run
     told_run status h = record {
       config = bytes;
-      recording = h.recording;
-      reads = reads_run h.config h.recording h.reads;
-      is = h.is ∙ ap (λ (e : Ending). exit_status e.fault) (same h.config h.recording);
+      recordings = h.recordings;
+      reads = reads_run h.config h.recordings h.reads;
+      is = h.is ∙ ap (λ (e : Ending). exit_status e.fault) (same h.config h.recordings);
       calm = record { sources = sources_run h.calm.sources; sink = h.calm.sink };
-      written = subst (λ (e : Ending). Took before after (all_text e)) (same h.config h.recording) h.written;
+      written = subst (λ (e : Ending). Took before after (all_text e)) (same h.config h.recordings) h.written;
     }
 
     failed_run : SourceFailed held old_hand new_hand → SourceFailed whole_run old_run new_run
-    failed_run (config_failed rose kept) = absurd (never_fails_in_hand rose)
-    failed_run (first_failed other hand calm taken rose) = first_failed bytes read read_calm (λ recording. subst (λ (e : Ending). e.reads_first ≡ true) (same other recording) (taken recording)) rose
+    failed_run (config_failed rose kept kept_too) = absurd (never_fails_in_hand rose)
+    failed_run (first_failed other hand calm taken rose kept) = first_failed bytes read read_calm (λ recordings. subst (λ (e : Ending). e.reads_first ≡ true) (same other recordings) (taken recordings)) rose kept
+    failed_run (second_failed other first hand calm first_read first_calm taken rose) = second_failed bytes first read read_calm first_read first_calm (λ second. subst (λ (e : Ending). e.reads_second ≡ true) (same other (record { first = first; second = second })) (taken second)) rose
 
     memory_run : NoMemory held old_hand new_hand → NoMemory whole_run old_run new_run
     memory_run h = record {
       config = bytes;
-      recording = h.recording;
+      recordings = h.recordings;
       config_left = IsLeft-HasRead CONFIGURATION_BYTES read_old read_new bytes read;
       first_left = h.first_left;
+      second_left = h.second_left;
       calm = sources_run h.calm;
       told = h.told;
       others = h.others;
-      front = sym (ap (λ (e : Ending). e.lines) (same h.config h.recording)) ∙ h.front;
+      front = sym (ap (λ (e : Ending). e.lines) (same h.config h.recordings)) ∙ h.front;
       last = h.last;
       tells = h.tells;
       written = h.written;
     }
 
     cut_run : Cut held old_hand new_hand → Cut whole_run old_run new_run
-    cut_run (text_cut other recording reads calm t) = text_cut bytes recording (reads_run other recording reads) (sources_run calm) (subst (λ (e : Ending). TookLess before after (all_text e)) (same other recording) t)
+    cut_run (text_cut other recordings reads calm t) = text_cut bytes recordings (reads_run other recordings reads) (sources_run calm) (subst (λ (e : Ending). TookLess before after (all_text e)) (same other recordings) t)
     cut_run (read_fault_cut failed t) = read_fault_cut (failed_run failed) t
 
     pub ends_behind : (status : ℕ) → Ends status (Some held) old_hand new_hand → Ends status (Some whole_run) old_run new_run
@@ -446,152 +489,227 @@ module _ (laws : StreamLaws) where
       memory = λ e. memory_run (h.memory e);
     }
 
-  -- A recording, with a configuration in hand.
-  module _ (come_to : List Event → Played) where
-    abbrev of_hand : List ℕ → List ℕ → Ending
-    of_hand = in_hand_of (of_recording come_to)
+  -- A run with a configuration in hand, by what its recordings come to.
+  module _ (comes : Recordings → Ending) (first_old first_new second_old second_new : Input) (before : Option (List ℕ)) (old_faults : ℕ) where
+    abbrev of_hand : List ℕ → Recordings → Ending
+    of_hand = in_hand_of comes
+
+    abbrev from_hand : Moment
+    from_hand = moment in_hand first_old second_old before old_faults
+
+    abbrev to_hand : Option (List ℕ) → ℕ → Moment
+    to_hand after faults = moment in_hand first_new second_new after faults
+
+    abbrev Comes : Bool → Bool → Played → Type 0
+    Comes first second all = ComesTo comes first_old first_new second_old second_new first second all
+
+    module _ (first second : Bool) (all : Played) (h : Comes first second all) (after : Option (List ℕ)) (faults : ℕ) where
+      reads_hand : Reads of_hand from_hand (to_hand after faults) [] h.recordings
+      reads_hand = record {
+        config_read = hand_read;
+        first_read = subst (λ (e : Ending). HasReadIf e.reads_first first_old first_new h.recordings.first) (sym h.is) h.first_read;
+        second_read = subst (λ (e : Ending). HasReadIf e.reads_second second_old second_new h.recordings.second) (sym h.is) h.second_read;
+      }
+
+      -- all that they come to was written
+      done_in_hand : AreCalm from_hand (to_hand after faults) → PlayedTo all before after → Done of_hand from_hand (to_hand after faults)
+      done_in_hand calm p = ([], h.recordings, reads_hand, ap (λ (e : Ending). e.fault) h.is ∙ p.0, calm, subst (λ (e : Ending). Took before after (text_of e.lines)) (sym h.is) p.1)
+
+      -- and it is a fault
+      whole_in_hand : (fault : Fault) → (all.fault ≡ Some fault) × Took before after (text_of all.lines)
+          → (config : List ℕ) × (recordings : Recordings) × Reads of_hand from_hand (to_hand after faults) config recordings × ((of_hand config recordings).fault ≡ Some fault) × Took before after (text_of (of_hand config recordings).lines)
+      whole_in_hand fault p = ([], h.recordings, reads_hand, ap (λ (e : Ending). e.fault) h.is ∙ p.0, subst (λ (e : Ending). Took before after (text_of e.lines)) (sym h.is) p.1)
+
+      stops_in_hand : (fault : Fault) → StopsPlaying fault all before after old_faults faults → Stops fault of_hand from_hand (to_hand after faults)
+      stops_in_hand BadWords p = absurd p
+      stops_in_hand (BadConfig field) p = absurd p
+      stops_in_hand (BadRecord line kind) p = absurd p
+      stops_in_hand ReadFault p = absurd p
+      stops_in_hand WriteFault p = (p.0, ([], h.recordings, reads_hand, subst (λ (e : Ending). TookLess before after (text_of e.lines)) (sym h.is) p.1))
+      stops_in_hand Memory p = (
+        [],
+        h.recordings,
+        refl,
+        was_left first first_old first_new h.recordings.first h.first_read,
+        was_left second second_old second_new h.recordings.second h.second_read,
+        subst (λ (e : Ending). TookFirst before after e.lines) (sym h.is) p,
+      )
+      stops_in_hand TooLong p = absurd p
+      stops_in_hand Differ p = whole_in_hand Differ p
+      stops_in_hand (Unbuilt line) p = whole_in_hand (Unbuilt line) p
+
+    abbrev mid_hand : Moment
+    mid_hand = to_hand before old_faults
+
+    -- there was no memory before anything was written
+    stops_early : Stops Memory of_hand from_hand mid_hand
+    stops_early = (
+      [],
+      left_in_both first_old second_old,
+      refl,
+      IsLeft-left_in first_old.left,
+      IsLeft-left_in second_old.left,
+      ([], (comes (left_in_both first_old second_old)).lines, refl, laws.nothing before),
+    )
+
+    -- A recording is refused as one of its lines is, or as it is too long.
+    stops_refused : (first second : Bool) (refused : LineFault) → Comes first second (nothing_but (fault_of refused)) → Stops (fault_of refused) of_hand from_hand mid_hand
+    stops_refused first second (lines.Line line kind) h = whole_in_hand first second (nothing_but (BadRecord line kind)) h before old_faults (BadRecord line kind) (refl, laws.nothing before)
+    stops_refused first second lines.TooLong h = whole_in_hand first second (nothing_but TooLong) h before old_faults TooLong (refl, laws.nothing before)
+    stops_refused first second lines.Memory h = stops_early
+
+    -- There was no recording in this source.
+    module _ (first second : Bool) (source_old source_new : Input) (failed : RoseByOne source_old.faults source_new.faults → SourceFailed of_hand from_hand mid_hand)
+        (refused : (fault : LineFault) (bytes : List ℕ) → HasRead RECORDING_BYTES source_old source_new bytes → recording_of bytes ≡ Err fault → Comes first second (nothing_but (fault_of fault))) where
+      stops_by_refusal : (fault : Fault) → (line_fault : LineFault) × (fault ≡ fault_of line_fault) × ((bytes : List ℕ) × HasRead RECORDING_BYTES source_old source_new bytes × (recording_of bytes ≡ Err line_fault)) → Stops fault of_hand from_hand mid_hand
+      stops_by_refusal fault h = subst (λ (f : Fault). Stops f of_hand from_hand mid_hand) (sym h.1) (stops_refused first second h.0 (refused h.0 h.2.0 h.2.1 h.2.2))
+
+      stops_recording : (fault : Fault) → StopsRecording fault source_old source_new → Stops fault of_hand from_hand mid_hand
+      stops_recording BadWords h = stops_by_refusal BadWords h
+      stops_recording (BadConfig field) h = stops_by_refusal (BadConfig field) h
+      stops_recording (BadRecord line kind) h = stops_by_refusal (BadRecord line kind) h
+      stops_recording ReadFault h = (failed h, laws.nothing before)
+      stops_recording WriteFault h = stops_by_refusal WriteFault h
+      stops_recording Memory h = stops_early
+      stops_recording TooLong h = stops_by_refusal TooLong h
+      stops_recording Differ h = stops_by_refusal Differ h
+      stops_recording (Unbuilt line) h = stops_by_refusal (Unbuilt line) h
+
+      ends_unrecorded : (fault : Fault) (status : ℕ) (after : Option (List ℕ)) (new_faults : ℕ) → StopsRecording fault source_old source_new → (is_read_fault fault ≡ false → AreSourcesCalm from_hand mid_hand) → Finishes fault status before after old_faults new_faults
+          → Ends status (Some of_hand) from_hand (to_hand after new_faults)
+      ends_unrecorded fault status after new_faults h calm end = ends_by of_hand from_hand mid_hand after new_faults fault status (stops_recording fault h) (stops_calmly fault from_hand mid_hand calm (λ other. refl)) end
+
+    -- What its recordings come to was written, or was not.
+    module _ (first second : Bool) (all : Played) (h : Comes first second all) (first_calm : first_new.faults ≡ first_old.faults) (second_calm : second_new.faults ≡ second_old.faults) where
+      ends_played : (after : Option (List ℕ)) (new_faults : ℕ) → PlayedTo all before after → new_faults ≡ old_faults → Ends 0 (Some of_hand) from_hand (to_hand after new_faults)
+      ends_played after new_faults p same = ends_done of_hand from_hand (to_hand after new_faults)
+          (done_in_hand first second all h after new_faults (record { sources = record { config = refl; first = first_calm; second = second_calm }; sink = same }) p)
+
+      ends_stopped : (fault : Fault) (status : ℕ) (between after : Option (List ℕ)) (faults new_faults : ℕ)
+          → StopsPlaying fault all before between old_faults faults → (is_write_fault fault ≡ false → faults ≡ old_faults) → Finishes fault status between after faults new_faults
+          → Ends status (Some of_hand) from_hand (to_hand after new_faults)
+      ends_stopped fault status between after faults new_faults p calm end =
+          let mid = to_hand between faults in
+          ends_by of_hand from_hand mid after new_faults fault status (stops_in_hand first second all h between faults fault p)
+          (stops_calmly fault from_hand mid (λ quiet. record { config = refl; first = first_calm; second = second_calm }) calm) end
+
+  -- One recording, with a configuration in hand. The second is not touched.
+  module _ (come_to : List Event → Played) (old now second : Input) (before : Option (List ℕ)) (old_faults : ℕ) where
+    one_comes : (bytes : List ℕ) (all : Played) → HasRead RECORDING_BYTES old now bytes → recorded come_to (recording_of bytes) ≡ with_reads true false all → ComesTo (of_recording come_to) old now second second true false all
+    one_comes bytes all read is = record {
+      recordings = record { first = bytes; second = left_in second.left };
+      is = is;
+      first_read = read;
+      second_read = (refl, IsLeft-left_in second.left);
+    }
+
+    one_recorded : (events : List Event) → Recorded events old now → ComesTo (of_recording come_to) old now second second true false (come_to events)
+    one_recorded events h = one_comes h.0 (come_to events) h.1 (ap (recorded come_to) h.2)
 
     always_reads : (read : Result (List Event) LineFault) → (recorded come_to read).reads_first ≡ true
     always_reads (Ok events) = refl
     always_reads (Err fault) = refl
 
-    reads_in_hand : (old new : Moment) (bytes : List ℕ) → old.config ≡ in_hand → new.config ≡ in_hand → HasRead RECORDING_BYTES old.first new.first bytes → Reads of_hand old new [] bytes
-    reads_in_hand old new bytes o n h = record {
-      config_read = subst (λ (i : Input). HasRead CONFIGURATION_BYTES i new.config []) (sym o) (subst (λ (i : Input). HasRead CONFIGURATION_BYTES in_hand i []) (sym n) hand_read);
-      first_read = subst (λ (b : Bool). HasReadFirst b old.first new.first bytes) (sym (always_reads (recording_of bytes))) h;
-    }
-
-    module _ (first_old first_new : Input) (before after : Option (List ℕ)) (old_faults new_faults : ℕ) where
-      abbrev from_hand : Moment
-      from_hand = moment in_hand first_old before old_faults
-
-      abbrev to_hand : Moment
-      to_hand = moment in_hand first_new after new_faults
-
-      -- there was no memory before anything was written
-      stops_early : after ≡ before → Stops Memory of_hand from_hand to_hand
-      stops_early same = rw same ([], left_in first_old.left, refl, IsLeft-left_in first_old.left, ([], (of_hand [] (left_in first_old.left)).lines, refl, laws.nothing before))
-
-      -- the source failed
-      stops_at_source : after ≡ before → RoseByOne first_old.faults first_new.faults → Stops ReadFault of_hand from_hand to_hand
-      stops_at_source same rose = (first_failed [] hand_read refl (λ recording. always_reads (recording_of recording)) rose, rw same (laws.nothing before))
-
-      -- the recording is refused
-      stops_refused : (fault : Fault) (bytes : List ℕ) → after ≡ before → HasRead RECORDING_BYTES first_old first_new bytes → recorded come_to (recording_of bytes) ≡ with_recording (nothing_but fault)
-          → (config : List ℕ) × (recording : List ℕ) × Reads of_hand from_hand to_hand config recording × ((of_hand config recording).fault ≡ Some fault) × Took before after (text_of (of_hand config recording).lines)
-      stops_refused fault bytes same read is = (
-        [],
-        bytes,
-        reads_in_hand from_hand to_hand bytes refl refl read,
-        ap (λ (e : Ending). e.fault) is,
-        subst (λ (e : Ending). Took before after (text_of e.lines)) (sym is) (rw same (laws.nothing before)),
-      )
-
-      stops_unread : (fault : LineFault) (bytes : List ℕ) → after ≡ before → HasRead RECORDING_BYTES first_old first_new bytes → recording_of bytes ≡ Err fault → Stops (fault_of fault) of_hand from_hand to_hand
-      stops_unread (lines.Line line kind) bytes same read e = stops_refused (BadRecord line kind) bytes same read (ap (recorded come_to) e)
-      stops_unread lines.TooLong bytes same read e = stops_refused TooLong bytes same read (ap (recorded come_to) e)
-      stops_unread lines.Memory bytes same read e = stops_early same
-
-      -- the recording is refused as one of its lines is, or as it is too long
-      stops_by_refusal : (fault : Fault) → after ≡ before → (refused : LineFault) × (fault ≡ fault_of refused) × ((bytes : List ℕ) × HasRead RECORDING_BYTES first_old first_new bytes × (recording_of bytes ≡ Err refused)) → Stops fault of_hand from_hand to_hand
-      stops_by_refusal fault same h = subst (λ (f : Fault). Stops f of_hand from_hand to_hand) (sym h.1) (stops_unread h.0 h.2.0 same h.2.1 h.2.2)
-
-      stops_recording : (fault : Fault) → after ≡ before → StopsRecording fault first_old first_new → Stops fault of_hand from_hand to_hand
-      stops_recording BadWords same h = stops_by_refusal BadWords same h
-      stops_recording (BadConfig field) same h = stops_by_refusal (BadConfig field) same h
-      stops_recording (BadRecord line kind) same h = stops_by_refusal (BadRecord line kind) same h
-      stops_recording ReadFault same h = stops_at_source same h
-      stops_recording WriteFault same h = stops_by_refusal WriteFault same h
-      stops_recording Memory same h = stops_early same
-      stops_recording TooLong same h = stops_by_refusal TooLong same h
-      stops_recording (Unbuilt line) same h = stops_by_refusal (Unbuilt line) same h
-
-      -- its events were played
-      plays_done : (events : List Event) → Recorded events first_old first_new → AreCalm from_hand to_hand → PlayedTo (come_to events) before after → Done of_hand from_hand to_hand
-      plays_done events held calm h =
-          let e : recorded come_to (recording_of held.0) ≡ with_recording (come_to events) = ap (recorded come_to) held.2 in (
-            [],
-            held.0,
-            reads_in_hand from_hand to_hand held.0 refl refl held.1,
-            ap (λ (x : Ending). x.fault) e ∙ h.0,
-            calm,
-            subst (λ (x : Ending). Took before after (text_of x.lines)) (sym e) h.1,
-          )
-
-      plays_stop : (events : List Event) (fault : Fault) → Recorded events first_old first_new → StopsPlaying fault (come_to events) before after old_faults new_faults → Stops fault of_hand from_hand to_hand
-      plays_stop events BadWords held h = absurd h
-      plays_stop events (BadConfig field) held h = absurd h
-      plays_stop events (BadRecord line kind) held h = absurd h
-      plays_stop events ReadFault held h = absurd h
-      plays_stop events WriteFault held h =
-          let e : recorded come_to (recording_of held.0) ≡ with_recording (come_to events) = ap (recorded come_to) held.2 in
-          (h.0, ([], held.0, reads_in_hand from_hand to_hand held.0 refl refl held.1, subst (λ (x : Ending). TookLess before after (text_of x.lines)) (sym e) h.1))
-      plays_stop events Memory held h =
-          let e : recorded come_to (recording_of held.0) ≡ with_recording (come_to events) = ap (recorded come_to) held.2 in
-          ([], held.0, refl, IsLeft-HasRead RECORDING_BYTES first_old first_new held.0 held.1, subst (λ (x : Ending). TookFirst before after x.lines) (sym e) h)
-      plays_stop events TooLong held h = absurd h
-      plays_stop events (Unbuilt line) held h =
-          let e : recorded come_to (recording_of held.0) ≡ with_recording (come_to events) = ap (recorded come_to) held.2 in
-          ([], held.0, reads_in_hand from_hand to_hand held.0 refl refl held.1, ap (λ (x : Ending). x.fault) e ∙ h.0, subst (λ (x : Ending). Took before after (text_of x.lines)) (sym e) h.1)
-
-    pub unrecorded : (fault : Fault) (status : ℕ) (old now : Input) (before after : Option (List ℕ)) (old_faults new_faults : ℕ)
+    pub unrecorded : (fault : Fault) (status : ℕ) (after : Option (List ℕ)) (new_faults : ℕ)
         → StopsRecording fault old now → (is_read_fault fault ≡ false → now.faults ≡ old.faults) → Finishes fault status before after old_faults new_faults
-        → Ends status (Some of_hand) (moment in_hand old before old_faults) (moment in_hand now after new_faults)
-    unrecorded fault status old now before after old_faults new_faults h calm end =
-        let from = moment in_hand old before old_faults in
-        let mid = moment in_hand now before old_faults in
-        ends_by of_hand from mid after new_faults fault status (stops_recording old now before before old_faults old_faults fault refl h)
-        (stops_calmly fault from mid (λ quiet. record { config = refl; first = calm quiet }) (λ other. refl)) end
+        → Ends status (Some (in_hand_of (of_recording come_to))) (moment in_hand old second before old_faults) (moment in_hand now second after new_faults)
+    unrecorded fault status after new_faults h calm end = ends_unrecorded (of_recording come_to) old now second second before old_faults true false old now
+        (λ rose. first_failed [] hand_read refl (λ recordings. always_reads (recording_of recordings.first)) rose refl)
+        (λ line_fault bytes read is. one_comes bytes (nothing_but (fault_of line_fault)) read (ap (recorded come_to) is))
+        fault status after new_faults h (λ quiet. record { config = refl; first = calm quiet; second = refl }) end
 
-    pub played_to_end : (events : List Event) (old now : Input) (before after : Option (List ℕ)) (old_faults new_faults : ℕ)
+    pub played_to_end : (events : List Event) (after : Option (List ℕ)) (new_faults : ℕ)
         → Recorded events old now → now.faults ≡ old.faults → PlayedTo (come_to events) before after → new_faults ≡ old_faults
-        → Ends 0 (Some of_hand) (moment in_hand old before old_faults) (moment in_hand now after new_faults)
-    played_to_end events old now before after old_faults new_faults held same h calm =
-        ends_done of_hand (moment in_hand old before old_faults) (moment in_hand now after new_faults)
-        (plays_done old now before after old_faults new_faults events held (record { sources = record { config = refl; first = same }; sink = calm }) h)
+        → Ends 0 (Some (in_hand_of (of_recording come_to))) (moment in_hand old second before old_faults) (moment in_hand now second after new_faults)
+    played_to_end events after new_faults held same h calm = ends_played (of_recording come_to) old now second second before old_faults true false (come_to events) (one_recorded events held) same refl after new_faults h calm
 
-    pub stopped_in_play : (events : List Event) (fault : Fault) (status : ℕ) (old now : Input) (before between after : Option (List ℕ)) (old_faults faults new_faults : ℕ)
+    pub stopped_in_play : (events : List Event) (fault : Fault) (status : ℕ) (between after : Option (List ℕ)) (faults new_faults : ℕ)
         → Recorded events old now → now.faults ≡ old.faults → StopsPlaying fault (come_to events) before between old_faults faults → (is_write_fault fault ≡ false → faults ≡ old_faults) → Finishes fault status between after faults new_faults
-        → Ends status (Some of_hand) (moment in_hand old before old_faults) (moment in_hand now after new_faults)
-    stopped_in_play events fault status old now before between after old_faults faults new_faults held same h calm end =
-        let from = moment in_hand old before old_faults in
-        let mid = moment in_hand now between faults in
-        ends_by of_hand from mid after new_faults fault status (plays_stop old now before between old_faults faults events fault held h)
-        (stops_calmly fault from mid (λ quiet. record { config = refl; first = same }) calm) end
+        → Ends status (Some (in_hand_of (of_recording come_to))) (moment in_hand old second before old_faults) (moment in_hand now second after new_faults)
+    stopped_in_play events fault status between after faults new_faults held same h calm end = ends_stopped (of_recording come_to) old now second second before old_faults true false (come_to events) (one_recorded events held) same refl
+        fault status between after faults new_faults h calm end
+
+  -- Two recordings, with a configuration in hand.
+  module _ (come_to : List Event → List Event → Played) (before : Option (List ℕ)) (old_faults : ℕ) where
+    abbrev of_both : List ℕ → Recordings → Ending
+    of_both = in_hand_of (of_recordings come_to)
+
+    always_reads_first : (first second : Result (List Event) LineFault) → (recorded_both come_to first second).reads_first ≡ true
+    always_reads_first (Ok events) (Ok others) = refl
+    always_reads_first (Ok events) (Err fault) = refl
+    always_reads_first (Err fault) second = refl
+
+    always_reads_second : (events : List Event) (second : Result (List Event) LineFault) → (recorded_second (come_to events) second).reads_second ≡ true
+    always_reads_second events (Ok others) = refl
+    always_reads_second events (Err fault) = refl
+
+    -- behind a first recording that is one
+    behind_first : (events : List Event) (bytes : List ℕ) (second : Result (List Event) LineFault) → recording_of bytes ≡ Ok events → recorded_both come_to (recording_of bytes) second ≡ recorded_second (come_to events) second
+    behind_first events bytes second is = ap (λ (first : Result (List Event) LineFault). recorded_both come_to first second) is
+
+    -- the first is none, and the second is not touched
+    pub first_unrecorded : (fault : Fault) (status : ℕ) (old now second : Input) (after : Option (List ℕ)) (new_faults : ℕ)
+        → StopsRecording fault old now → (is_read_fault fault ≡ false → now.faults ≡ old.faults) → Finishes fault status before after old_faults new_faults
+        → Ends status (Some of_both) (moment in_hand old second before old_faults) (moment in_hand now second after new_faults)
+    first_unrecorded fault status old now second after new_faults h calm end = ends_unrecorded (of_recordings come_to) old now second second before old_faults true false old now
+        (λ rose. first_failed [] hand_read refl (λ recordings. always_reads_first (recording_of recordings.first) (recording_of recordings.second)) rose refl)
+        (λ line_fault bytes read is. record {
+          recordings = record { first = bytes; second = left_in second.left };
+          is = ap (λ (first : Result (List Event) LineFault). recorded_both come_to first (recording_of (left_in second.left))) is;
+          first_read = read;
+          second_read = (refl, IsLeft-left_in second.left);
+        })
+        fault status after new_faults h (λ quiet. record { config = refl; first = calm quiet; second = refl }) end
+
+    module _ (events : List Event) (first_old first_now old now : Input) (held : Recorded events first_old first_now) (first_calm : first_now.faults ≡ first_old.faults) where
+      two_come : (bytes : List ℕ) (all : Played) → HasRead RECORDING_BYTES old now bytes → recorded_second (come_to events) (recording_of bytes) ≡ with_reads true true all → ComesTo (of_recordings come_to) first_old first_now old now true true all
+      two_come bytes all read is = record {
+        recordings = record { first = held.0; second = bytes };
+        is = behind_first events held.0 (recording_of bytes) held.2 ∙ is;
+        first_read = held.1;
+        second_read = read;
+      }
+
+      two_recorded : (others : List Event) → Recorded others old now → ComesTo (of_recordings come_to) first_old first_now old now true true (come_to events others)
+      two_recorded others h = two_come h.0 (come_to events others) h.1 (ap (recorded_second (come_to events)) h.2)
+
+      reads_behind : (second : List ℕ) → (recorded_both come_to (recording_of held.0) (recording_of second)).reads_second ≡ true
+      reads_behind second = ap (λ (e : Ending). e.reads_second) (behind_first events held.0 (recording_of second) held.2) ∙ always_reads_second events (recording_of second)
+
+      pub second_unrecorded : (fault : Fault) (status : ℕ) (after : Option (List ℕ)) (new_faults : ℕ)
+          → StopsRecording fault old now → (is_read_fault fault ≡ false → now.faults ≡ old.faults) → Finishes fault status before after old_faults new_faults
+          → Ends status (Some of_both) (moment in_hand first_old old before old_faults) (moment in_hand first_now now after new_faults)
+      second_unrecorded fault status after new_faults h calm end = ends_unrecorded (of_recordings come_to) first_old first_now old now before old_faults true true old now
+          (λ rose. second_failed [] held.0 hand_read refl held.1 first_calm reads_behind rose)
+          (λ line_fault bytes read is. two_come bytes (nothing_but (fault_of line_fault)) read (ap (recorded_second (come_to events)) is))
+          fault status after new_faults h (λ quiet. record { config = refl; first = first_calm; second = calm quiet }) end
+
+      pub both_played : (others : List Event) (after : Option (List ℕ)) (new_faults : ℕ)
+          → Recorded others old now → now.faults ≡ old.faults → PlayedTo (come_to events others) before after → new_faults ≡ old_faults
+          → Ends 0 (Some of_both) (moment in_hand first_old old before old_faults) (moment in_hand first_now now after new_faults)
+      both_played others after new_faults read same h calm = ends_played (of_recordings come_to) first_old first_now old now before old_faults true true (come_to events others) (two_recorded others read) first_calm same after new_faults h calm
+
+      pub both_stopped : (others : List Event) (fault : Fault) (status : ℕ) (between after : Option (List ℕ)) (faults new_faults : ℕ)
+          → Recorded others old now → now.faults ≡ old.faults → StopsPlaying fault (come_to events others) before between old_faults faults → (is_write_fault fault ≡ false → faults ≡ old_faults) → Finishes fault status between after faults new_faults
+          → Ends status (Some of_both) (moment in_hand first_old old before old_faults) (moment in_hand first_now now after new_faults)
+      both_stopped others fault status between after faults new_faults read same h calm end = ends_stopped (of_recordings come_to) first_old first_now old now before old_faults true true (come_to events others) (two_recorded others read) first_calm same
+          fault status between after faults new_faults h calm end
 
   -- No recording, with a configuration in hand.
-  module _ (all : Played) (first : Input) (before : Option (List ℕ)) (old_faults : ℕ) where
-    abbrev of_one : List ℕ → List ℕ → Ending
-    of_one = in_hand_of (of_none all)
-
-    abbrev as_begun : Moment
-    as_begun = moment in_hand first before old_faults
-
-    reads_none : (later : Moment) → later.config ≡ in_hand → later.first ≡ first → Reads of_one as_begun later [] (left_in first.left)
-    reads_none later n f = record {
-      config_read = subst (λ (i : Input). HasRead CONFIGURATION_BYTES in_hand i []) (sym n) hand_read;
-      first_read = (f, IsLeft-left_in first.left);
+  module _ (all : Played) (first second : Input) (before : Option (List ℕ)) (old_faults : ℕ) where
+    none_comes : ComesTo (of_none all) first first second second false false all
+    none_comes = record {
+      recordings = left_in_both first second;
+      is = refl;
+      first_read = (refl, IsLeft-left_in first.left);
+      second_read = (refl, IsLeft-left_in second.left);
     }
 
-    pub made_whole : (after : Option (List ℕ)) (new_faults : ℕ) → PlayedTo all before after → new_faults ≡ old_faults → Ends 0 (Some of_one) as_begun (moment in_hand first after new_faults)
-    made_whole after new_faults h same =
-        let to = moment in_hand first after new_faults in
-        ends_done of_one as_begun to ([], left_in first.left, reads_none to refl refl, h.0, record { sources = record { config = refl; first = refl }; sink = same }, h.1)
-
-    makes_stop : (fault : Fault) (between : Option (List ℕ)) (faults : ℕ) → StopsPlaying fault all before between old_faults faults → Stops fault of_one as_begun (moment in_hand first between faults)
-    makes_stop BadWords between faults h = absurd h
-    makes_stop (BadConfig field) between faults h = absurd h
-    makes_stop (BadRecord line kind) between faults h = absurd h
-    makes_stop ReadFault between faults h = absurd h
-    makes_stop WriteFault between faults h = (h.0, ([], left_in first.left, reads_none (moment in_hand first between faults) refl refl, h.1))
-    makes_stop Memory between faults h = ([], left_in first.left, refl, IsLeft-left_in first.left, h)
-    makes_stop TooLong between faults h = absurd h
-    makes_stop (Unbuilt line) between faults h = ([], left_in first.left, reads_none (moment in_hand first between faults) refl refl, h.0, h.1)
+    pub made_whole : (after : Option (List ℕ)) (new_faults : ℕ) → PlayedTo all before after → new_faults ≡ old_faults
+        → Ends 0 (Some (in_hand_of (of_none all))) (moment in_hand first second before old_faults) (moment in_hand first second after new_faults)
+    made_whole after new_faults h same = ends_played (of_none all) first first second second before old_faults false false all none_comes refl refl after new_faults h same
 
     pub unmade : (fault : Fault) (status : ℕ) (between after : Option (List ℕ)) (faults new_faults : ℕ)
         → StopsPlaying fault all before between old_faults faults → (is_write_fault fault ≡ false → faults ≡ old_faults) → Finishes fault status between after faults new_faults
-        → Ends status (Some of_one) as_begun (moment in_hand first after new_faults)
-    unmade fault status between after faults new_faults h calm end =
-        let mid = moment in_hand first between faults in
-        ends_by of_one as_begun mid after new_faults fault status (makes_stop fault between faults h)
-        (stops_calmly fault as_begun mid (λ quiet. record { config = refl; first = refl }) calm) end
+        → Ends status (Some (in_hand_of (of_none all))) (moment in_hand first second before old_faults) (moment in_hand first second after new_faults)
+    unmade fault status between after faults new_faults h calm end = ends_stopped (of_none all) first first second second before old_faults false false all none_comes refl refl fault status between after faults new_faults h calm end

@@ -1,4 +1,4 @@
--- What a command comes to, by what its files hold: the lines that are written, the fault that ended it, and whether a recording is read.
+-- What a command comes to, by what its files hold: the lines that are written, the fault that ended it, and which recordings are read.
 use Rattle.std.specs.Prelude.{ℕ, Bool, true, false, List, [], ◌++◌, Option, Some, None, Result, Ok, Err}
 use Rattle.mt_config.specs.Configuration.{configuration}
 use Rattle.mt_config.specs.declared.configuration.ConfigField.{ConfigField}
@@ -16,11 +16,17 @@ pub record Played : Type 0 where
   pub lines : List (List ℕ)
   pub fault : Option Fault
 
--- The same, and whether the recording is read for it.
+-- The same, and whether each recording is read for it.
 pub record Ending : Type 0 where
   pub lines : List (List ℕ)
   pub fault : Option Fault
   pub reads_first : Bool
+  pub reads_second : Bool
+
+-- The bytes of the two recordings. A command that reads one alone reads the first.
+pub record Recordings : Type 0 where
+  pub first : List ℕ
+  pub second : List ℕ
 
 abbrev pub last_line : Option Fault → List ℕ
 last_line None = []
@@ -34,12 +40,15 @@ exit_status (Some fault) = status_of fault
 abbrev pub all_text : Ending → List ℕ
 all_text ending = text_of ending.lines ++ last_line ending.fault
 
--- with a recording that is read, and with none
+-- with one recording that is read, with none, and with both
 abbrev pub with_recording : Played → Ending
-with_recording played = record { lines = played.lines; fault = played.fault; reads_first = true }
+with_recording played = record { lines = played.lines; fault = played.fault; reads_first = true; reads_second = false }
 
 abbrev pub without_recording : Played → Ending
-without_recording played = record { lines = played.lines; fault = played.fault; reads_first = false }
+without_recording played = record { lines = played.lines; fault = played.fault; reads_first = false; reads_second = false }
+
+abbrev pub with_recordings : Played → Ending
+with_recordings played = record { lines = played.lines; fault = played.fault; reads_first = true; reads_second = true }
 
 -- nothing is written but the fault
 abbrev pub nothing_but : Fault → Played
@@ -55,19 +64,33 @@ abbrev pub recorded : (List Event → Played) → Result (List Event) LineFault 
 recorded come_to (Ok events) = with_recording (come_to events)
 recorded come_to (Err fault) = with_recording (nothing_but (fault_of fault))
 
--- What a command comes to by the bytes of the configuration and of the recording, where with what the configuration says it comes to this by
--- those of the recording.
-abbrev pub of_files : (Contents → List ℕ → Ending) → List ℕ → List ℕ → Ending
-of_files comes_to config recording = configured (λ (contents : Contents). comes_to contents recording) (configuration config)
+-- the same of the second, behind a first that is one
+abbrev pub recorded_second : (List Event → Played) → Result (List Event) LineFault → Ending
+recorded_second come_to (Ok others) = with_recordings (come_to others)
+recorded_second come_to (Err fault) = with_recordings (nothing_but (fault_of fault))
+
+-- The first comes before the second, which is not looked at where the first is none.
+abbrev pub recorded_both : (List Event → List Event → Played) → Result (List Event) LineFault → Result (List Event) LineFault → Ending
+recorded_both come_to (Ok events) second = recorded_second (come_to events) second
+recorded_both come_to (Err fault) second = with_recording (nothing_but (fault_of fault))
+
+-- What a command comes to by the bytes of the configuration and of the recordings, where with what the configuration says it comes to this by
+-- those of the recordings.
+abbrev pub of_files : (Contents → Recordings → Ending) → List ℕ → Recordings → Ending
+of_files comes_to config recordings = configured (λ (contents : Contents). comes_to contents recordings) (configuration config)
 
 -- the same with a configuration in hand, where no file is read for it
-abbrev pub in_hand_of : (List ℕ → Ending) → List ℕ → List ℕ → Ending
-in_hand_of comes_to config recording = comes_to recording
+abbrev pub in_hand_of : (Recordings → Ending) → List ℕ → Recordings → Ending
+in_hand_of comes_to config recordings = comes_to recordings
 
--- by the bytes of a recording, where its events come to this
-abbrev pub of_recording : (List Event → Played) → List ℕ → Ending
-of_recording come_to recording = recorded come_to (recording_of recording)
+-- by the bytes of the first recording, where its events come to this
+abbrev pub of_recording : (List Event → Played) → Recordings → Ending
+of_recording come_to recordings = recorded come_to (recording_of recordings.first)
+
+-- by the bytes of both, where their events come to this
+abbrev pub of_recordings : (List Event → List Event → Played) → Recordings → Ending
+of_recordings come_to recordings = recorded_both come_to (recording_of recordings.first) (recording_of recordings.second)
 
 -- where no recording is read
-abbrev pub of_none : Played → List ℕ → Ending
-of_none played recording = without_recording played
+abbrev pub of_none : Played → Recordings → Ending
+of_none played recordings = without_recording played

@@ -1,12 +1,12 @@
 -- The status of each fault, and the last line that tells it.
-use Rattle.std.specs.Prelude.{ℕ, List, ◌++◌, codes}
+use Rattle.std.specs.Prelude.{ℕ, List, [], ◌++◌, codes}
 use Rattle.std.specs.Fmt.{decimal}
 use Rattle.mt_config.specs.Configuration.{name_of}
 use Rattle.mt_files.specs.Kinds.{kind_name}
 use Rattle.mt_files.specs.declared.line_fault.LineFault.{LineFault}
 use Rattle.mt_files.specs.declared.line_fault.LineFault.TheVariants as lines
 use Rattle.mt_endings.specs.declared.fault.Fault.{Fault}
-use Rattle.mt_endings.specs.declared.fault.Fault.TheVariants.{BadWords, BadConfig, BadRecord, ReadFault, WriteFault, Memory, TooLong, Unbuilt}
+use Rattle.mt_endings.specs.declared.fault.Fault.TheVariants.{BadWords, BadConfig, BadRecord, ReadFault, WriteFault, Memory, TooLong, Differ, Unbuilt}
 
 -- what a text comes to that is no recording, or was not read
 abbrev pub fault_of : LineFault → Fault
@@ -22,9 +22,10 @@ status_of ReadFault = 5
 status_of WriteFault = 6
 status_of Memory = 7
 status_of TooLong = 10
+status_of Differ = 11
 status_of (Unbuilt line) = 14
 
--- what the last line says of a fault
+-- What the last line says of a fault. That two recordings differ is told by lines that stand before, and has no last line.
 unfoldable pub fault_text : Fault → List ℕ
 fault_text BadWords = codes "fault 2 words"
 fault_text (BadConfig field) = codes "fault 3 config " ++ name_of field
@@ -33,8 +34,10 @@ fault_text ReadFault = codes "fault 5 read"
 fault_text WriteFault = codes "fault 6 write"
 fault_text Memory = codes "fault 7 memory"
 fault_text TooLong = codes "fault 10 long"
+fault_text Differ = []
 fault_text (Unbuilt line) = codes "fault 14 line " ++ decimal line
 
 -- The last line of a run that a fault ended. A sink that failed gets none.
 unfoldable pub fault_line : Fault → List ℕ
+fault_line Differ = []
 fault_line fault = fault_text fault ++ codes "\n"

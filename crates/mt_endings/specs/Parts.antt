@@ -9,9 +9,9 @@ use Rattle.mt_files.specs.Lines.{text_of}
 use Rattle.mt_files.specs.Recording.{recording_of}
 use Rattle.mt_files.specs.declared.line_fault.LineFault.{LineFault}
 use Rattle.mt_endings.specs.declared.fault.Fault.{Fault}
-use Rattle.mt_endings.specs.declared.fault.Fault.TheVariants.{BadWords, BadConfig, ReadFault, WriteFault, Memory, Unbuilt}
+use Rattle.mt_endings.specs.declared.fault.Fault.TheVariants.{BadWords, BadConfig, ReadFault, WriteFault, Memory, Differ, Unbuilt}
 use Rattle.mt_endings.specs.Faults.{fault_line, fault_of, status_of}
-use Rattle.mt_endings.specs.Endings.{Ending, Played, nothing_but, without_recording}
+use Rattle.mt_endings.specs.Endings.{Ending, Played, Recordings, nothing_but, without_recording}
 use Rattle.mt_endings.specs.Moments.{Input, Moment, AreCalm, AreSourcesCalm, HasRead, HasSinkFailed, IsLeft, IsSinkCalm, Reads}
 use Rattle.mt_endings.specs.Statuses.{SourceFailed, TellsMemory}
 
@@ -20,18 +20,18 @@ abbrev pub TookFirst : Option (List ℕ) → Option (List ℕ) → List (List �
 TookFirst before after all = (told : List (List ℕ)) × (others : List (List ℕ)) × (all ≡ told ++ others) × Took before after (text_of told)
 
 -- so it is with the lines to which the files come
-abbrev pub Fronts : (List ℕ → List ℕ → Ending) → Moment → Moment → Type 0
-Fronts ending old new = (config recording : List ℕ) × IsLeft old.config.left config × IsLeft old.first.left recording × TookFirst old.written new.written (ending config recording).lines
+abbrev pub Fronts : (List ℕ → Recordings → Ending) → Moment → Moment → Type 0
+Fronts ending old new = (config : List ℕ) × (recordings : Recordings) × IsLeft old.config.left config × IsLeft old.first.left recordings.first × IsLeft old.second.left recordings.second × TookFirst old.written new.written (ending config recordings).lines
 
 -- Why a run stops before the last line is written: the lines to which the files come are written, and the
 -- fault is theirs; or there is another cause.
-abbrev pub Stops : Fault → (List ℕ → List ℕ → Ending) → Moment → Moment → Type 0
+abbrev pub Stops : Fault → (List ℕ → Recordings → Ending) → Moment → Moment → Type 0
 Stops BadWords ending old new = ⊥
 Stops ReadFault ending old new = SourceFailed ending old new × Took old.written new.written []
-Stops WriteFault ending old new = HasSinkFailed old new × ((config recording : List ℕ) × Reads ending old new config recording × TookLess old.written new.written (text_of (ending config recording).lines))
+Stops WriteFault ending old new = HasSinkFailed old new × ((config : List ℕ) × (recordings : Recordings) × Reads ending old new config recordings × TookLess old.written new.written (text_of (ending config recordings).lines))
 Stops Memory ending old new = Fronts ending old new
-Stops (BadConfig field) ending old new = (config : List ℕ) × HasRead CONFIGURATION_BYTES old.config new.config config × ((recording : List ℕ) → ending config recording ≡ without_recording (nothing_but (BadConfig field))) × (new.first ≡ old.first) × Took old.written new.written []
-Stops fault ending old new = (config recording : List ℕ) × Reads ending old new config recording × ((ending config recording).fault ≡ Some fault) × Took old.written new.written (text_of (ending config recording).lines)
+Stops (BadConfig field) ending old new = (config : List ℕ) × HasRead CONFIGURATION_BYTES old.config new.config config × ((recordings : Recordings) → ending config recordings ≡ without_recording (nothing_but (BadConfig field))) × (new.first ≡ old.first) × (new.second ≡ old.second) × Took old.written new.written []
+Stops fault ending old new = (config : List ℕ) × (recordings : Recordings) × Reads ending old new config recordings × ((ending config recordings).fault ≡ Some fault) × Took old.written new.written (text_of (ending config recordings).lines)
 
 -- what has not failed where a run stops
 abbrev pub StopsCalmly : Fault → Moment → Moment → Type 0
@@ -40,8 +40,8 @@ StopsCalmly WriteFault old new = AreSourcesCalm old new
 StopsCalmly fault old new = AreCalm old new
 
 -- the files were read, no call has failed, and all to which they come was written
-abbrev pub Done : (List ℕ → List ℕ → Ending) → Moment → Moment → Type 0
-Done ending old new = (config recording : List ℕ) × Reads ending old new config recording × ((ending config recording).fault ≡ None) × AreCalm old new × Took old.written new.written (text_of (ending config recording).lines)
+abbrev pub Done : (List ℕ → Recordings → Ending) → Moment → Moment → Type 0
+Done ending old new = (config : List ℕ) × (recordings : Recordings) × Reads ending old new config recordings × ((ending config recordings).fault ≡ None) × AreCalm old new × Took old.written new.written (text_of (ending config recordings).lines)
 
 -- events were played to their end
 abbrev pub PlayedTo : Played → Option (List ℕ) → Option (List ℕ) → Type 0
@@ -57,10 +57,11 @@ abbrev pub is_read_fault : Fault → Bool
 is_read_fault ReadFault = true
 is_read_fault fault = false
 
--- why playing events stops
+-- Why playing events stops. That recordings differ is told by lines that were written, as a line that is not built is by those before it.
 abbrev pub StopsPlaying : Fault → Played → Option (List ℕ) → Option (List ℕ) → ℕ → ℕ → Type 0
 StopsPlaying WriteFault ending before after old new = RoseByOne old new × TookLess before after (text_of ending.lines)
 StopsPlaying Memory ending before after old new = TookFirst before after ending.lines
+StopsPlaying Differ ending before after old new = (ending.fault ≡ Some Differ) × Took before after (text_of ending.lines)
 StopsPlaying (Unbuilt line) ending before after old new = (ending.fault ≡ Some (Unbuilt line)) × Took before after (text_of ending.lines)
 StopsPlaying fault ending before after old new = ⊥
 
@@ -90,6 +91,13 @@ abbrev pub is_memory : Fault → Bool
 is_memory Memory = true
 is_memory fault = false
 
+-- Whether telling a fault wants no memory: a source that failed, and recordings that differ; and where the sink failed nothing is told.
+abbrev pub wants_no_memory : Fault → Bool
+wants_no_memory ReadFault = true
+wants_no_memory WriteFault = true
+wants_no_memory Differ = true
+wants_no_memory fault = false
+
 -- some line that tells want of memory was written
 abbrev pub TellsThere : Option (List ℕ) → Option (List ℕ) → ℕ → ℕ → Type 0
 TellsThere before after old new = (line : List ℕ) × TellsMemory line old new × Took before after line
@@ -100,8 +108,8 @@ pub data IsTold (fault : Fault) (status : ℕ) (before after : Option (List ℕ)
   part_of_line : status ≡ 6 → RoseByOne old new → TookLess before after (fault_line fault) → IsTold fault status before after old new
 
 -- How a run ends that a fault stopped: its line was written, or the sink failed; or there was no memory, or none for the
--- line, which a source that failed does not want; or the sink had failed, and no more was written.
+-- line, where that wants some; or the sink had failed, and no more was written.
 pub data Finishes (fault : Fault) (status : ℕ) (before after : Option (List ℕ)) (old new : ℕ) : Type 0 where
   told_line : is_memory fault ≡ false → is_write_fault fault ≡ false → IsTold fault status before after old new → Finishes fault status before after old new
-  no_memory : is_read_fault fault ≡ false → is_write_fault fault ≡ false → status ≡ 7 → TellsThere before after old new → Finishes fault status before after old new
+  no_memory : wants_no_memory fault ≡ false → status ≡ 7 → TellsThere before after old new → Finishes fault status before after old new
   no_sink : fault ≡ WriteFault → status ≡ 6 → after ≡ before → new ≡ old → Finishes fault status before after old new

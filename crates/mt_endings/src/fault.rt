@@ -24,6 +24,8 @@ pub enum Fault {
     Memory,
     /// The recording is too long.
     TooLong,
+    /// Two recordings differ by what a fabric sees of them. Its lines are written before, and it has no last line.
+    Differ,
     /// The recording's first line that is not built.
     Unbuilt(u64),
 }
@@ -52,16 +54,20 @@ impl Fault {
             Fault::WriteFault => 6,
             Fault::Memory => 7,
             Fault::TooLong => 10,
+            Fault::Differ => 11,
             Fault::Unbuilt(_) => 14,
         }
     }
 
-    /// The last line that tells it, with its end.
+    /// The last line that tells it, with its end; that two recordings differ has none.
     #[tactic(auto, unfolding(crate::specs::Faults::fault_line))]
     pub fn line(self, alloc: Global) -> Result<String, AllocError>
         ensures { IfOk result (λ line. string_bytes line ≡ fault_line self) }
     {
-        format!(in alloc; "{self}\n")
+        match self {
+            Fault::Differ => Ok(String::new(alloc)),
+            _ => format!(in alloc; "{self}\n"),
+        }
     }
 }
 
@@ -78,6 +84,8 @@ impl fmt::Display for Fault {
             Fault::WriteFault => f.write_str("fault 6 write"),
             Fault::Memory => f.write_str("fault 7 memory"),
             Fault::TooLong => f.write_str("fault 10 long"),
+            // its lines stand before
+            Fault::Differ => Ok(()),
             Fault::Unbuilt(line) => write!(f, "fault 14 line {line}"),
         }
     }

@@ -10,12 +10,14 @@ use mt_outside::{Sink, write_all};
 use std::alloc::Global;
 
 /// Writes the last line of a run that a fault ended, and gives its exit status. That a source failed, or that there was no
-/// memory, is told without memory; where the output could not be written nothing more is.
+/// memory, is told without memory; where the output could not be written nothing more is, and where two recordings differ nothing
+/// is left to write.
 pub fn finish<W: Sink>(alloc: Global, fault: Fault, out: &mut W) -> u8
     ensures { Finishes fault result (W.written out.old) (W.written out.new) (W.faults out.old) (W.faults out.new) }
 {
     match fault {
         Fault::WriteFault => 6,
+        Fault::Differ => 11,
         Fault::ReadFault => tell(fault, b"fault 5 read\n", out),
         Fault::Memory => tell_memory(out),
         _ => match fault.line(alloc) {

@@ -19,7 +19,7 @@ use Rattle.mt_lines.specs.Isolation.{IsValidWhole}
 use Rattle.mt_lines.specs.Laws.{OpensValid}
 use Rattle.mt_runs.specs.Messages.{Message, messages}
 use Rattle.mt_runs.specs.Laws.{EqualMarksEqualMessages, EqualMarksEqualParts, RunsAreTheirMessages}
-use Rattle.mt_endings.specs.Endings.{configured, of_files, recorded}
+use Rattle.mt_endings.specs.Endings.{Recordings, configured, of_files, recorded}
 use Rattle.mt_top.specs.Asked.{played, replayed}
 use Rattle.mt_top.specs.Begun.{begun_with}
 use Rattle.mt_top.specs.Isolated.{IsIsolated, line_to}
@@ -54,12 +54,12 @@ module _ (opens : OpensValid) (theirs : RunsAreTheirMessages) (equal : EqualMark
   valid : (config : Config) → IsValidWhole (begun_with (contents_of config)).whole
   valid config = opens config.fabrics config.entries config.sessions config.fabrics_are_valid config.entries_are_valid config.sessions_are_valid
 
-  pub isolated : (config : Config) (bytes recording : List ℕ) (events : List Event) → IsConfiguration bytes config → recording_of recording ≡ Ok events
-      → IsIsolated (begun_with (contents_of config)) events (of_files replayed bytes recording).lines
-  isolated config bytes recording events is reads =
+  pub isolated : (config : Config) (bytes : List ℕ) (recordings : Recordings) (events : List Event) → IsConfiguration bytes config → recording_of recordings.first ≡ Ok events
+      → IsIsolated (begun_with (contents_of config)) events (of_files replayed bytes recordings).lines
+  isolated config bytes recordings events is reads =
       let begun = begun_with (contents_of config) in record {
         told =
-            ap (λ r. (configured (λ (contents : Contents). replayed contents recording) r).lines) is
+            ap (λ r. (configured (λ (contents : Contents). replayed contents recordings) r).lines) is
             ∙ ap (λ r. (recorded (played begun) r).lines) reads
             ∙ ap (map sent_line) (theirs begun.given begun.whole events)
             ∙ lines_of_messages (messages begun.given begun.whole events);

@@ -7,6 +7,7 @@ use Rattle.mt_model.specs.declared.texts.recording.Event.{Event}
 use Rattle.mt_model.specs.declared.texts.recording.Sent.{Sent}
 use Rattle.mt_files.specs.Lines.{ended}
 use Rattle.mt_files.specs.Output.{output_text, sent_line}
+use Rattle.mt_lines.specs.Lines as lines
 use Rattle.mt_lines.specs.Lines.{run}
 use Rattle.mt_top.specs.Begun.{Begun, IsPlayerOf, behind, is_built, sent_by}
 use Rattle.mt_top.specs.declared.playing.Player.{Player}
@@ -32,11 +33,11 @@ sent_built s event events built = ap (λ t. cond t (sent_by s event ++ sent_of (
 sent_unbuilt : (s : Begun) (event : Event) (events : List Event) → is_built s event ≡ false → sent_of s (event ∷ events) ≡ []
 sent_unbuilt s event events not = ap (λ t. cond t (sent_by s event ++ sent_of (behind s event) events) []) not
 
-unbuilt_built : (line : ℕ) (s : Begun) (event : Event) (events : List Event) → is_built s event ≡ true → unbuilt_from line s (event ∷ events) ≡ unbuilt_from (line + 1) (behind s event) events
-unbuilt_built line s event events built = ap (λ t. cond t (unbuilt_from (line + 1) (behind s event) events) (Some (Unbuilt line))) built
+unbuilt_built : (line : ℕ) (event : Event) (events : List Event) → lines.is_built event ≡ true → unbuilt_from line (event ∷ events) ≡ unbuilt_from (line + 1) events
+unbuilt_built line event events built = ap (λ t. cond t (unbuilt_from (line + 1) events) (Some (Unbuilt line))) built
 
-unbuilt_here : (line : ℕ) (s : Begun) (event : Event) (events : List Event) → is_built s event ≡ false → unbuilt_from line s (event ∷ events) ≡ Some (Unbuilt line)
-unbuilt_here line s event events not = ap (λ t. cond t (unbuilt_from (line + 1) (behind s event) events) (Some (Unbuilt line))) not
+unbuilt_here : (line : ℕ) (event : Event) (events : List Event) → lines.is_built event ≡ false → unbuilt_from line (event ∷ events) ≡ Some (Unbuilt line)
+unbuilt_here line event events not = ap (λ t. cond t (unbuilt_from (line + 1) events) (Some (Unbuilt line))) not
 
 -- One more event, at this place of all.
 pub drop_event : (all : List Event) (i : ℕ) (event : Event) → i < length all → event ≡ get_or all i event → drop i all ≡ event ∷ drop (i + 1) all
@@ -45,22 +46,22 @@ drop_event all i event lt is = drop_more all i event lt ∙ ap (λ e. e ∷ drop
 pub sent-step : (s : Begun) (all : List Event) (i : ℕ) (event : Event) → i < length all → event ≡ get_or all i event → is_built s event ≡ true → sent_of s (drop i all) ≡ sent_by s event ++ sent_of (behind s event) (drop (i + 1) all)
 sent-step s all i event lt is built = ap (sent_of s) (drop_event all i event lt is) ∙ sent_built s event (drop (i + 1) all) built
 
-pub unbuilt-step : (line : ℕ) (s : Begun) (all : List Event) (i : ℕ) (event : Event) → i < length all → event ≡ get_or all i event → is_built s event ≡ true → unbuilt_from line s (drop i all) ≡ unbuilt_from (line + 1) (behind s event) (drop (i + 1) all)
-unbuilt-step line s all i event lt is built = ap (unbuilt_from line s) (drop_event all i event lt is) ∙ unbuilt_built line s event (drop (i + 1) all) built
+pub unbuilt-step : (line : ℕ) (all : List Event) (i : ℕ) (event : Event) → i < length all → event ≡ get_or all i event → lines.is_built event ≡ true → unbuilt_from line (drop i all) ≡ unbuilt_from (line + 1) (drop (i + 1) all)
+unbuilt-step line all i event lt is built = ap (unbuilt_from line) (drop_event all i event lt is) ∙ unbuilt_built line event (drop (i + 1) all) built
 
 -- the event at this place is not built
 pub sent-stop : (s : Begun) (all : List Event) (i : ℕ) (event : Event) → i < length all → event ≡ get_or all i event → is_built s event ≡ false → sent_of s (drop i all) ≡ []
 sent-stop s all i event lt is not = ap (sent_of s) (drop_event all i event lt is) ∙ sent_unbuilt s event (drop (i + 1) all) not
 
-pub unbuilt-stop : (line : ℕ) (s : Begun) (all : List Event) (i : ℕ) (event : Event) → i < length all → event ≡ get_or all i event → is_built s event ≡ false → unbuilt_from line s (drop i all) ≡ Some (Unbuilt line)
-unbuilt-stop line s all i event lt is not = ap (unbuilt_from line s) (drop_event all i event lt is) ∙ unbuilt_here line s event (drop (i + 1) all) not
+pub unbuilt-stop : (line : ℕ) (all : List Event) (i : ℕ) (event : Event) → i < length all → event ≡ get_or all i event → lines.is_built event ≡ false → unbuilt_from line (drop i all) ≡ Some (Unbuilt line)
+unbuilt-stop line all i event lt is not = ap (unbuilt_from line) (drop_event all i event lt is) ∙ unbuilt_here line event (drop (i + 1) all) not
 
 -- no more events
 pub sent-end : (s : Begun) (all : List Event) (i : ℕ) → length all ≤ i → sent_of s (drop i all) ≡ []
 sent-end s all i le = ap (sent_of s) (drop_all i all le)
 
-pub unbuilt-end : (line : ℕ) (s : Begun) (all : List Event) (i : ℕ) → length all ≤ i → unbuilt_from line s (drop i all) ≡ None
-unbuilt-end line s all i le = ap (unbuilt_from line s) (drop_all i all le)
+pub unbuilt-end : (line : ℕ) (all : List Event) (i : ℕ) → length all ≤ i → unbuilt_from line (drop i all) ≡ None
+unbuilt-end line all i le = ap (unbuilt_from line) (drop_all i all le)
 
 -- One more message at this place of all.
 pub text-step : (all : List Sent) (i : ℕ) (x : Sent) (text whole : List ℕ) → i < length all → x ≡ get_or all i x → text ++ output_text (drop i all) ≡ whole → (text ++ ended (sent_line x)) ++ output_text (drop (i + 1) all) ≡ whole
@@ -99,4 +100,4 @@ pub record SoFar (begun : Begun) (player : Player) (all rest : List Event) (line
   pub stands : IsPlayerOf player at
   pub took : Took before now (output_text told)
   pub sent : sent_of begun all ≡ told ++ sent_of at rest
-  pub unbuilt : unbuilt_from 2 begun all ≡ unbuilt_from line at rest
+  pub unbuilt : unbuilt_from 2 all ≡ unbuilt_from line rest

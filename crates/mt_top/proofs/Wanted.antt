@@ -2,12 +2,13 @@
 use Rattle.std.specs.Prelude.{⊤, ◌&&◌}
 use Rattle.std.proofs.Common.{◌≡◌, ℕ, Bool, true, false, cond, nat_le, List, [], ◌∷◌, Option, Some, None, refl, subst}
 use Rattle.std.proofs.lemmas.Bool.{and_parts}
-use Rattle.std.specs.Option.{option_and_then}
+use Rattle.std.specs.Option.{option_and_then, option_map}
 use Rattle.std.specs.Str.Parse.{digits_value}
-use Rattle.mt_words.specs.Words.{asked, asked_by, begin_of, command_of, count_of, is_numeral, names_of, soak_of}
+use Rattle.mt_words.specs.Words.{asked, asked_by, begin_of, command_of, count_of, fabric_of, is_numeral, names_of, soak_of}
 use Rattle.mt_words.specs.declared.asked.Asked.{Asked}
+use Rattle.mt_words.specs.declared.asked.Asked.TheVariants as asks
 use Rattle.mt_words.specs.declared.command.Command.{Command}
-use Rattle.mt_words.specs.declared.command.Command.TheVariants.{Replay, Soak}
+use Rattle.mt_words.specs.declared.command.Command.TheVariants.{Compare, Replay, Soak}
 use Rattle.mt_top.specs.Asked.{is_within}
 
 -- whatever is wanted is within
@@ -31,12 +32,23 @@ unfolding Within
 soak_within None word = tt
 soak_within (Some begin) word = count_within begin word
 
+fabric_within : (fabric : Option ℕ) → Within (option_map asks.Compare fabric)
+unfolding Within
+fabric_within None = tt
+fabric_within (Some fabric) = refl
+
 by_within : (command : Command) (words : List (List ℕ)) → Within (asked_by command words)
 unfolding Within
 by_within Replay [] = tt
 by_within Replay (a ∷ []) = tt
 by_within Replay (a ∷ b ∷ []) = refl
 by_within Replay (a ∷ b ∷ c ∷ others) = tt
+by_within Compare [] = tt
+by_within Compare (a ∷ []) = tt
+by_within Compare (a ∷ b ∷ []) = tt
+by_within Compare (a ∷ b ∷ c ∷ []) = tt
+by_within Compare (a ∷ b ∷ c ∷ d ∷ []) = fabric_within (fabric_of a)
+by_within Compare (a ∷ b ∷ c ∷ d ∷ e ∷ others) = tt
 by_within Soak [] = tt
 by_within Soak (a ∷ []) = tt
 by_within Soak (a ∷ b ∷ []) = tt

@@ -4,29 +4,32 @@ use Rattle.std.specs.Option.{option_map}
 use Rattle.mt_files.specs.Output.{sent_line}
 use Rattle.mt_model.specs.declared.texts.recording.Event.{Event}
 use Rattle.mt_model.specs.texts.Contents.{Contents}
+use Rattle.mt_lines.specs.Lines as lines
 use Rattle.mt_lines.specs.Lines.{run}
 use Rattle.mt_soak.specs.Generated.{generated}
 use Rattle.mt_soak.specs.Summary.{summary_lines}
 use Rattle.mt_words.specs.Words.{asked}
 use Rattle.mt_words.specs.declared.asked.Asked.{Asked}
-use Rattle.mt_words.specs.declared.asked.Asked.TheVariants.{Replay, Soak}
-use Rattle.mt_endings.specs.Endings.{Ending, Played, of_files, of_none, of_recording}
+use Rattle.mt_words.specs.declared.asked.Asked.TheVariants.{Compare, Replay, Soak}
+use Rattle.mt_differences.specs.Difference.{Difference, difference}
+use Rattle.mt_compare.specs.Text.{comparison_lines}
+use Rattle.mt_endings.specs.Endings.{Ending, Played, Recordings, nothing_but, of_files, of_none, of_recording, of_recordings}
 use Rattle.mt_endings.specs.declared.fault.Fault.{Fault}
-use Rattle.mt_endings.specs.declared.fault.Fault.TheVariants.{Unbuilt}
-use Rattle.mt_top.specs.Begun.{Begun, begun_with, behind, is_built}
+use Rattle.mt_endings.specs.declared.fault.Fault.TheVariants.{Differ, Unbuilt}
+use Rattle.mt_top.specs.Begun.{Begun, begun_with}
 
 -- REPLAY: what the node sends over the events of a recording, up to the first that is not built.
 
 -- the first line that is not built, where the first event stands in this line
-abbrev pub unbuilt_from : ℕ → Begun → List Event → Option Fault
-unbuilt_from line begun [] = None
-unbuilt_from line begun (event ∷ events) = if is_built begun event then unbuilt_from (line + 1) (behind begun event) events else Some (Unbuilt line)
+abbrev pub unbuilt_from : ℕ → List Event → Option Fault
+unbuilt_from line [] = None
+unbuilt_from line (event ∷ events) = if lines.is_built event then unbuilt_from (line + 1) events else Some (Unbuilt line)
 
 -- a line for each message; the first event stands in line 2
 abbrev pub played : Begun → List Event → Played
-played begun events = record { lines = map sent_line (run begun.given begun.whole events); fault = unbuilt_from 2 begun events }
+played begun events = record { lines = map sent_line (run begun.given begun.whole events); fault = unbuilt_from 2 events }
 
-abbrev pub replayed : Contents → List ℕ → Ending
+abbrev pub replayed : Contents → Recordings → Ending
 replayed contents = of_recording (played (begun_with contents))
 
 -- SOAK: the summary of what the node sends over so many events made from a number.
@@ -37,19 +40,43 @@ summary_of begun count events = record { lines = summary_lines count (run begun.
 abbrev pub summarized : ℕ → ℕ → Contents → Played
 summarized begin count contents = summary_of (begun_with contents) count (generated begin (length contents.fabrics) count)
 
-abbrev pub soaked : ℕ → ℕ → Contents → List ℕ → Ending
+abbrev pub soaked : ℕ → ℕ → Contents → Recordings → Ending
 soaked begin count contents = of_none (summarized begin count contents)
 
--- What is asked for comes to this, with what the configuration says, by the bytes of the recording.
-abbrev pub comes_to : Asked → Contents → List ℕ → Ending
+-- COMPARE: where two recordings first differ by the marks of a fabric. Each line of both must be built, and the first recording comes before the
+-- second.
+
+abbrev pub fault_of_difference : Option Difference → Option Fault
+fault_of_difference None = None
+fault_of_difference (Some d) = Some Differ
+
+abbrev pub told_difference : Option Difference → Played
+told_difference found = record { lines = comparison_lines found; fault = fault_of_difference found }
+
+-- what is told where each line is built, or the first that is not
+abbrev pub if_built : Option Fault → Option Fault → Played → Played
+if_built None None played = played
+if_built None (Some fault) played = nothing_but fault
+if_built (Some fault) other played = nothing_but fault
+
+abbrev pub compared_by : ℕ → Begun → List Event → List Event → Played
+compared_by fabric begun first second = if_built (unbuilt_from 2 first) (unbuilt_from 2 second) (told_difference (difference begun.given fabric begun.whole first second))
+
+abbrev pub compared : ℕ → Contents → Recordings → Ending
+compared fabric contents = of_recordings (compared_by fabric (begun_with contents))
+
+-- What is asked for comes to this, with what the configuration says, by the bytes of the recordings.
+abbrev pub comes_to : Asked → Contents → Recordings → Ending
 comes_to Replay = replayed
+comes_to (Compare fabric) = compared fabric
 comes_to (Soak begin count) = soaked begin count
 
 -- how many events may be asked for
 abbrev pub is_within : Asked → Bool
 is_within Replay = true
+is_within (Compare fabric) = true
 is_within (Soak begin count) = nat_le count 100000
 
--- what the words come to, by the bytes of the two files; None where they have no form
-abbrev pub asked_of : List (List ℕ) → Option (List ℕ → List ℕ → Ending)
+-- what the words come to, by the bytes of the files; None where they have no form
+abbrev pub asked_of : List (List ℕ) → Option (List ℕ → Recordings → Ending)
 asked_of words = option_map (λ (wanted : Asked). of_files (comes_to wanted)) (asked words)

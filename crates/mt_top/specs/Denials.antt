@@ -1,4 +1,5 @@
 -- Access is denied exactly where no entry grants it, whatever is asked in a run, and at whichever moment.
+use Rattle.mt_events.specs.Denials as events
 use Rattle.mt_invoke.specs.Laws as invoking
 use Rattle.mt_read.specs.Denials as reading
 use Rattle.mt_write.specs.Laws as writing
@@ -9,6 +10,10 @@ pub record DenialsAreExact : Type 0 where
   pub reads : reading.DeniesExactly
   -- a place that a wildcard of a read names is left out, but for data that the reader has
   pub wildcards : reading.LeavesOutExactly
+  -- a path of a read of events that names one place is
+  pub event_paths : events.DeniesExactly
+  -- an event that is asked for is left out
+  pub untold : events.LeavesOutExactly
   -- an item of a write is
   pub writes : writing.DeniesExactly
   -- a command is

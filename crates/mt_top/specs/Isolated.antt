@@ -11,7 +11,7 @@ use Rattle.mt_lines.specs.Whole.{Whole}
 use Rattle.mt_runs.specs.Marks.{marks}
 use Rattle.mt_runs.specs.Messages.{Message, messages, messages_to, whole_behind}
 use Rattle.mt_runs.specs.Replay.{held}
-use Rattle.mt_endings.specs.Endings.{of_files}
+use Rattle.mt_endings.specs.Endings.{Recordings, of_files}
 use Rattle.mt_top.specs.Asked.{replayed}
 use Rattle.mt_top.specs.Begun.{Begun, begun_with}
 
@@ -43,5 +43,5 @@ pub record IsIsolated (begun : Begun) (events : List Event) (lines : List (List 
 
 -- So it is with the lines to which every configuration and every recording come.
 abbrev pub RunsAreIsolated : Type 0
-RunsAreIsolated = (config : Config) (bytes recording : List ℕ) (events : List Event) → IsConfiguration bytes config → recording_of recording ≡ Ok events
-    → IsIsolated (begun_with (contents_of config)) events (of_files replayed bytes recording).lines
+RunsAreIsolated = (config : Config) (bytes : List ℕ) (recordings : Recordings) (events : List Event) → IsConfiguration bytes config → recording_of recordings.first ≡ Ok events
+    → IsIsolated (begun_with (contents_of config)) events (of_files replayed bytes recordings).lines

@@ -1,4 +1,5 @@
 pub mod Asked
 pub mod Begun
+pub mod Compared
 pub mod Denials
 pub mod Isolated

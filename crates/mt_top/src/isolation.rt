@@ -1,8 +1,10 @@
 //! Laws of every run. The functions do nothing, and their contracts are the laws.
 
+ghost use Rattle.mt_top.specs.Compared.{ComparisonsAreExact};
 ghost use Rattle.mt_top.specs.Denials.{DenialsAreExact};
 ghost use Rattle.mt_top.specs.Isolated.{RunsAreIsolated};
 
+use mt_differences::equal_marks_do_not_differ;
 use mt_lines::wholes_are_valid;
 use mt_runs::{equal_marks_have_equal_messages, runs_are_their_messages};
 
@@ -22,7 +24,16 @@ pub fn runs_are_isolated()
 pub fn denials_are_exact()
     ensures { DenialsAreExact }
 {
+    mt_events::denials_are_exact();
     mt_read::denials_are_exact();
     mt_write::denials_are_exact();
     mt_invoke::denials_are_exact();
+}
+
+/// Two recordings of which each line is built are told to be alike for a fabric exactly where its marks are equal in both;
+/// else the first mark that differs is told.
+pub fn comparisons_are_exact()
+    ensures { ComparisonsAreExact }
+{
+    equal_marks_do_not_differ();
 }

@@ -3,11 +3,13 @@
 //!
 //! - `playing`: a node that plays events, and what is sent for each;
 //! - `replaying`: a recording, with a configuration in hand;
+//! - `comparing`: two recordings, compared by what a fabric sees of them;
 //! - `soaking`: a long input made from a number, and the summary of what is sent for it;
 //! - `running`: what the words ask for;
-//! - `isolation`: laws of every run: what each fabric is sent of it is its own matter, and denials are exact.
+//! - `isolation`: laws of every run: what each fabric is sent of it is its own matter, denials are exact, and so are comparisons.
 #![tactic(auto)]
 
+mod comparing;
 mod isolation;
 mod playing;
 mod progress;
@@ -15,7 +17,7 @@ mod replaying;
 mod running;
 mod soaking;
 
-pub use isolation::{denials_are_exact, runs_are_isolated};
+pub use isolation::{comparisons_are_exact, denials_are_exact, runs_are_isolated};
 pub use mt_soak::Generator;
 pub use mt_words::{BadWords, Files, files_of};
 pub use progress::{Progress, Unwatched};

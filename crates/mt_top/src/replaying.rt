@@ -3,7 +3,7 @@
 ghost use Rattle.std.specs.Prelude.{◌≡◌, ◌≢◌, Some, Err, IfErr, OnOk};
 ghost use Rattle.mt_model.specs.texts.Contents.{contents_of};
 ghost use Rattle.mt_endings.specs.Endings.{in_hand_of};
-ghost use Rattle.mt_endings.specs.Moments.{in_hand, input, moment};
+ghost use Rattle.mt_endings.specs.Moments.{Input, in_hand, input, moment};
 ghost use Rattle.mt_endings.specs.Parts.{PlayedTo, StopsPlaying};
 ghost use Rattle.mt_endings.specs.Run.{Ends};
 ghost use Rattle.mt_top.specs.Begun.{Begun, IsPlayerOf, begun_with};
@@ -26,9 +26,9 @@ pub fn replay_with<A: Source, W: Sink>(
     first: &mut A,
     out: &mut W,
 ) -> u8
-    ensures ends { Ends result (Some (in_hand_of (replayed (contents_of config.now))))
-        (moment in_hand (input (A.left first.old) (A.faults first.old)) (W.written out.old) (W.faults out.old))
-        (moment in_hand (input (A.left first.new) (A.faults first.new)) (W.written out.new) (W.faults out.new)) }
+    ensures ends { (second : Input) → Ends result (Some (in_hand_of (replayed (contents_of config.now))))
+        (moment in_hand (input (A.left first.old) (A.faults first.old)) second (W.written out.old) (W.faults out.old))
+        (moment in_hand (input (A.left first.new) (A.faults first.new)) second (W.written out.new) (W.faults out.new)) }
     ensures isolated { RunsAreIsolated }
     ensures denied { DenialsAreExact }
 {

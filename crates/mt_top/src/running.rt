@@ -7,10 +7,12 @@ ghost use Rattle.mt_endings.specs.Moments.{in_hand, input, moment};
 ghost use Rattle.mt_endings.specs.Run.{Ends};
 ghost use Rattle.mt_words.specs.Words.{words_of};
 ghost use Rattle.mt_top.specs.Asked.{asked_of, comes_to, is_within};
+ghost use Rattle.mt_top.specs.Compared.{ComparisonsAreExact};
 ghost use Rattle.mt_top.specs.Denials.{DenialsAreExact};
 ghost use Rattle.mt_top.specs.Isolated.{RunsAreIsolated};
 
-use crate::isolation::{denials_are_exact, runs_are_isolated};
+use crate::comparing::compare_with;
+use crate::isolation::{comparisons_are_exact, denials_are_exact, runs_are_isolated};
 use crate::progress::{Progress, Unwatched};
 use crate::replaying::replay_with;
 use crate::soaking::soak_with;
@@ -22,48 +24,56 @@ use std::alloc::Global;
 
 /// Does what the words say: `replay CONFIG RECORDING` starts a node with the configuration that
 /// `config` gives, runs the recording that `first` gives, and writes the output lines to `out`;
+/// `compare F CONFIG FIRST SECOND` runs the recordings that `first` and `second` give, each on a node of its own, and writes
+/// whether they are alike by what fabric F sees of them, or where they first differ;
 /// `soak BEGIN COUNT CONFIG` runs COUNT events that are made from the number BEGIN, and writes a
 /// summary of what is sent. The answer is the exit status.
 ///
 /// Status 0 means that all was written; 2 that the words have no form; 3 that the configuration is
-/// none; 4 that the recording is none; 5 that `config` or `first` failed; 6 that `out` failed; 7 that
-/// there was no memory; 10 that the recording is too long; 14 that one of its lines is not built. All
-/// but 0 and 6 end the output with a line that names the fault.
-pub fn run<C: Source, A: Source, W: Sink>(
+/// none; 4 that a recording is none; 5 that `config`, `first` or `second` failed; 6 that `out` failed; 7 that
+/// there was no memory; 10 that a recording is too long; 11 that two recordings differ; 14 that one of their lines is not
+/// built. All but 0, 6 and 11 end the output with a line that names the fault.
+pub fn run<C: Source, A: Source, B: Source, W: Sink>(
     alloc: Global,
     words: &[String],
     config: &mut C,
     first: &mut A,
+    second: &mut B,
     out: &mut W,
 ) -> u8
     ensures ends { Ends result (asked_of (words_of words.now))
-        (moment (input (C.left config.old) (C.faults config.old)) (input (A.left first.old) (A.faults first.old)) (W.written out.old) (W.faults out.old))
-        (moment (input (C.left config.new) (C.faults config.new)) (input (A.left first.new) (A.faults first.new)) (W.written out.new) (W.faults out.new)) }
+        (moment (input (C.left config.old) (C.faults config.old)) (input (A.left first.old) (A.faults first.old)) (input (B.left second.old) (B.faults second.old)) (W.written out.old) (W.faults out.old))
+        (moment (input (C.left config.new) (C.faults config.new)) (input (A.left first.new) (A.faults first.new)) (input (B.left second.new) (B.faults second.new)) (W.written out.new) (W.faults out.new)) }
     ensures isolated { RunsAreIsolated }
     ensures denied { DenialsAreExact }
+    ensures compared { ComparisonsAreExact }
 {
     runs_are_isolated();
     denials_are_exact();
-    run_watched(alloc, words, config, first, out, &mut Unwatched)
+    comparisons_are_exact();
+    run_watched(alloc, words, config, first, second, out, &mut Unwatched)
 }
 
 /// The same, and tells `progress` how far a soak is.
-pub fn run_watched<C: Source, A: Source, W: Sink, P: Progress>(
+pub fn run_watched<C: Source, A: Source, B: Source, W: Sink, P: Progress>(
     alloc: Global,
     words: &[String],
     config: &mut C,
     first: &mut A,
+    second: &mut B,
     out: &mut W,
     progress: &mut P,
 ) -> u8
     ensures ends { Ends result (asked_of (words_of words.now))
-        (moment (input (C.left config.old) (C.faults config.old)) (input (A.left first.old) (A.faults first.old)) (W.written out.old) (W.faults out.old))
-        (moment (input (C.left config.new) (C.faults config.new)) (input (A.left first.new) (A.faults first.new)) (W.written out.new) (W.faults out.new)) }
+        (moment (input (C.left config.old) (C.faults config.old)) (input (A.left first.old) (A.faults first.old)) (input (B.left second.old) (B.faults second.old)) (W.written out.old) (W.faults out.old))
+        (moment (input (C.left config.new) (C.faults config.new)) (input (A.left first.new) (A.faults first.new)) (input (B.left second.new) (B.faults second.new)) (W.written out.new) (W.faults out.new)) }
     ensures isolated { RunsAreIsolated }
     ensures denied { DenialsAreExact }
+    ensures compared { ComparisonsAreExact }
 {
     runs_are_isolated();
     denials_are_exact();
+    comparisons_are_exact();
     endings_add_up();
     let asked = match asked_of(alloc, words) {
         Ok(asked) => asked,
@@ -71,27 +81,29 @@ pub fn run_watched<C: Source, A: Source, W: Sink, P: Progress>(
         Err(WordsFault::Memory) => return tell_memory(out),
     };
     match read_configuration(alloc, config) {
-        Ok(config) => carry_out(alloc, asked, &config, first, out, progress),
+        Ok(config) => carry_out(alloc, asked, &config, first, second, out, progress),
         Err(fault) => finish(alloc, fault, out),
     }
 }
 
 // Does what is asked for, with the configuration in hand.
-fn carry_out<A: Source, W: Sink, P: Progress>(
+fn carry_out<A: Source, B: Source, W: Sink, P: Progress>(
     alloc: Global,
     asked: Asked,
     config: &Config,
     first: &mut A,
+    second: &mut B,
     out: &mut W,
     progress: &mut P,
 ) -> u8
     requires { is_within asked ≡ true }
     ensures ends { Ends result (Some (in_hand_of (comes_to asked (contents_of config.now))))
-        (moment in_hand (input (A.left first.old) (A.faults first.old)) (W.written out.old) (W.faults out.old))
-        (moment in_hand (input (A.left first.new) (A.faults first.new)) (W.written out.new) (W.faults out.new)) }
+        (moment in_hand (input (A.left first.old) (A.faults first.old)) (input (B.left second.old) (B.faults second.old)) (W.written out.old) (W.faults out.old))
+        (moment in_hand (input (A.left first.new) (A.faults first.new)) (input (B.left second.new) (B.faults second.new)) (W.written out.new) (W.faults out.new)) }
 {
     match asked {
         Asked::Replay => replay_with(alloc, config, first, out),
+        Asked::Compare { fabric } => compare_with(alloc, fabric, config, first, second, out),
         Asked::Soak { begin, count } => soak_with(alloc, config, begin, count, out, progress),
     }
 }

@@ -31,9 +31,9 @@ pub(crate) fn soak_with<W: Sink, P: Progress>(
     progress: &mut P,
 ) -> u8
     requires { count ≤ 100000 }
-    ensures { (first : Input) → Ends result (Some (in_hand_of (soaked begin count (contents_of config.now))))
-        (moment in_hand first (W.written out.old) (W.faults out.old))
-        (moment in_hand first (W.written out.new) (W.faults out.new)) }
+    ensures { (first second : Input) → Ends result (Some (in_hand_of (soaked begin count (contents_of config.now))))
+        (moment in_hand first second (W.written out.old) (W.faults out.old))
+        (moment in_hand first second (W.written out.new) (W.faults out.new)) }
 {
     endings_add_up();
     writings_add_up();

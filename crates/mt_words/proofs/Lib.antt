@@ -1,5 +1,6 @@
 pub mod Commanded
 pub mod Forms
+pub mod Found
 pub mod Names
 pub mod Numbers
 pub mod Places

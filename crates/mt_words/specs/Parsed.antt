@@ -23,3 +23,6 @@ replay_app = app_with (codes "replay") (codes "config" ∷ codes "recording" ∷
 
 abbrev pub soak_app : App
 soak_app = app_with (codes "soak") (codes "begin" ∷ codes "count" ∷ codes "config" ∷ [])
+
+abbrev pub compare_app : App
+compare_app = app_with (codes "compare") (codes "fabric" ∷ codes "config" ∷ codes "first" ∷ codes "second" ∷ [])

@@ -1,12 +1,12 @@
 //! What the words ask for.
 
 ghost use Rattle.std.specs.Prelude.{◌≡◌, IfErr, IfOk};
-ghost use Rattle.std.specs.Option.{ok_or, option_and_then};
-ghost use Rattle.mt_words.specs.Words.{asked, asked_by, begin_of, count_of, names_of, soak_of, words_of};
+ghost use Rattle.std.specs.Option.{ok_or, option_and_then, option_map};
+ghost use Rattle.mt_words.specs.Words.{asked, asked_by, begin_of, count_of, fabric_of, names_of, soak_of, words_of};
 
 use crate::command::{Command, command_of};
-use crate::number::{begin_of, count_of};
-use crate::parse::{parse, replay_command, soak_command};
+use crate::number::{begin_of, count_of, fabric_of};
+use crate::parse::{compare_command, parse, replay_command, soak_command};
 use std::alloc::Global;
 
 /// What a command line asks for.
@@ -20,6 +20,11 @@ pub enum Asked {
         begin: u64,
         /// How many there are, 1 to `MOST_COUNT`.
         count: u32,
+    },
+    /// Two recordings are compared by what a fabric sees.
+    Compare {
+        /// The fabric, 1 to 254.
+        fabric: u8,
     },
 }
 
@@ -44,6 +49,7 @@ pub fn asked_of(alloc: Global, words: &[String]) -> Result<Asked, WordsFault>
     match command_of(first.as_str()) {
         Some(Command::Replay) => replay_asked(alloc, words),
         Some(Command::Soak) => soak_asked(alloc, words),
+        Some(Command::Compare) => compare_asked(alloc, words),
         None => Err(WordsFault::Bad),
     }
 }
@@ -96,4 +102,32 @@ fn soak(begin: &str, count: &str) -> Result<Asked, WordsFault>
         return Err(WordsFault::Bad);
     };
     Ok(Asked::Soak { begin, count })
+}
+
+fn compare_asked(alloc: Global, words: &[String]) -> Result<Asked, WordsFault>
+    ensures ok { IfOk result (λ found. option_and_then (asked_by Command.Compare)
+        (names_of (words_of words.now)) ≡ Some found) }
+    ensures bad { IfErr result (λ fault. fault ≡ WordsFault.Bad
+        → option_and_then (asked_by Command.Compare) (names_of (words_of words.now)) ≡ None) }
+{
+    let Ok(command) = compare_command(alloc) else {
+        return Err(WordsFault::Memory);
+    };
+    let found = match parse(command, words) {
+        Ok(found) => found,
+        Err(fault) => return Err(fault),
+    };
+    let Some(fabric) = found.get_str("fabric") else {
+        return Err(WordsFault::Bad);
+    };
+    compare(fabric)
+}
+
+fn compare(fabric: &str) -> Result<Asked, WordsFault>
+    ensures { result ≡ ok_or (option_map Asked.Compare (fabric_of fabric.now)) WordsFault.Bad }
+{
+    match fabric_of(fabric) {
+        Some(fabric) => Ok(Asked::Compare { fabric }),
+        None => Err(WordsFault::Bad),
+    }
 }

@@ -10,6 +10,8 @@ pub enum Command {
     Replay,
     /// `soak BEGIN COUNT CONFIG`.
     Soak,
+    /// `compare F CONFIG FIRST SECOND`.
+    Compare,
 }
 
 /// The command that a first word names.
@@ -19,6 +21,7 @@ pub fn command_of(word: &str) -> Option<Command>
     match word {
         "replay" => Some(Command::Replay),
         "soak" => Some(Command::Soak),
+        "compare" => Some(Command::Compare),
         _ => None,
     }
 }

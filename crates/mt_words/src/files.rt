@@ -37,6 +37,7 @@ pub fn files_of(words: &[String]) -> Result<Files, BadWords>
     match command_of(command.as_str()) {
         Some(Command::Replay) => replay_files(others),
         Some(Command::Soak) => soak_files(others),
+        Some(Command::Compare) => compare_files(others),
         None => Err(BadWords),
     }
 }
@@ -66,6 +67,22 @@ fn soak_files(words: &[String]) -> Result<Files, BadWords>
             config: places[2],
             first: None,
             second: None,
+            journal: None,
+            bind: None,
+        }),
+        None => Err(BadWords),
+    }
+}
+
+fn compare_files(words: &[String]) -> Result<Files, BadWords>
+    ensures { result_ok result
+        ≡ option_and_then (files_at Command.Compare) (positional_from 1 (words_of words.now)) }
+{
+    match places::<4>(words) {
+        Some(places) => Ok(Files {
+            config: places[1],
+            first: Some(places[2]),
+            second: Some(places[3]),
             journal: None,
             bind: None,
         }),

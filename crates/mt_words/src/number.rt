@@ -3,7 +3,7 @@
 ghost use Rattle.std.specs.Prelude.{◌≡◌};
 ghost use Rattle.std.specs.Char.{is_ascii_digit};
 ghost use Rattle.std.specs.List.{list_all};
-ghost use Rattle.mt_words.specs.Words.{begin_of, count_of, is_numeral, number_between};
+ghost use Rattle.mt_words.specs.Words.{begin_of, count_of, fabric_of, is_numeral, number_between};
 
 /// The most that a soak may count.
 pub const MOST_COUNT: u32 = 100_000;
@@ -21,6 +21,16 @@ pub fn count_of(word: &str) -> Option<u32>
 {
     match number(1, MOST_COUNT as u64, word) {
         Some(count) => Some(count as u32),
+        None => None,
+    }
+}
+
+/// A fabric: 1 to 254.
+pub fn fabric_of(word: &str) -> Option<u8>
+    ensures { result ≡ fabric_of word.now }
+{
+    match number(1, 254, word) {
+        Some(fabric) => Some(fabric as u8),
         None => None,
     }
 }

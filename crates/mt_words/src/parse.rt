@@ -2,7 +2,7 @@
 
 ghost use Rattle.std.specs.Prelude.{◌≡◌, ◌≢◌, ◌↔◌, [], IfErr, IfOk, false, true};
 ghost use Rattle.clap.specs.Words.{app_of, fault_of, found_of, is_simple_and_free, kind_of, matches_of, rows_of, rule_of};
-ghost use Rattle.mt_words.specs.Parsed.{replay_app, required_rule, soak_app};
+ghost use Rattle.mt_words.specs.Parsed.{compare_app, replay_app, required_rule, soak_app};
 ghost use Rattle.mt_words.specs.Words.{words_of};
 
 use crate::asked::WordsFault;
@@ -31,6 +31,19 @@ pub fn soak_command<'a>(alloc: Global) -> Result<Command<'a>, AllocError>
         .arg(required(alloc, "begin"))?
         .arg(required(alloc, "count"))?
         .arg(required(alloc, "config"))
+}
+
+/// `compare F CONFIG FIRST SECOND`.
+pub fn compare_command<'a>(alloc: Global) -> Result<Command<'a>, AllocError>
+    ensures { IfOk result (λ command. app_of command ≡ compare_app) }
+{
+    Command::new(alloc, "compare")
+        .disable_help_flag(true)
+        .disable_version_flag(true)
+        .arg(required(alloc, "fabric"))?
+        .arg(required(alloc, "config"))?
+        .arg(required(alloc, "first"))?
+        .arg(required(alloc, "second"))
 }
 
 // A word that has to be there.

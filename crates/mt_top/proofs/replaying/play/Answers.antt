@@ -16,7 +16,7 @@ loop-event-init g c = record {
     stands = stands;
     took = c.writings_add_up.ensures.nothing (g.W.Sink.written c.args.out.now);
     sent = ap (sent_of begun) (sym c.as_slice-event-items.ensures);
-    unbuilt = ap (unbuilt_from 2 begun) (sym c.as_slice-event-items.ensures);
+    unbuilt = ap (unbuilt_from 2) (sym c.as_slice-event-items.ensures);
   };
   line = omega arith;
   calm = refl;
@@ -37,7 +37,7 @@ returns-in_default-answer-clause-err g c = λ begun stands.
     let event = c.event-item.result in
     let unbuilt = subst (StepsIf i.at c.step.new.self event) c.in_default-answer.is (c.in-Ok.ensures i.at i.stands) in
     let none = sent-stop i.at all l.event-index event c.loop-event-test.true c.event-item.is unbuilt in (
-      i.unbuilt ∙ unbuilt-stop l.line i.at all l.event-index event c.loop-event-test.true c.event-item.is unbuilt,
+      i.unbuilt ∙ unbuilt-stop l.line all l.event-index event c.loop-event-test.true c.event-item.is unbuilt,
       took-all (g.W.Sink.written c.args.out.now) (g.W.Sink.written l.out) i.told (sent_of i.at (drop l.event-index all)) (sent_of begun c.args.events.now) i.took i.sent none,
     )
 
@@ -76,7 +76,7 @@ loop-event-preserved g c =
             stands = steps.1.1;
             took = took-more c.writings_add_up.ensures (written c.args.out.now) (written l.out) (written c.write_all.new.sink) i.told (sent_by i.at event) text i.took steps.1.0 (search rules);
             sent = i.sent ∙ ap (λ w. i.told ++ w) (sent-step i.at all l.event-index event c.loop-event-test.true c.event-item.is steps.0) ∙ sym (append_assoc i.told (sent_by i.at event) (sent_of (behind i.at event) (drop (l.event-index + 1) all)));
-            unbuilt = i.unbuilt ∙ unbuilt-step l.line i.at all l.event-index event c.loop-event-test.true c.event-item.is steps.0;
+            unbuilt = i.unbuilt ∙ unbuilt-step l.line all l.event-index event c.loop-event-test.true c.event-item.is steps.0;
           };
       line = omega (arith, l.invariant.line);
       calm = k.cause.stays (search rules) ∙ l.invariant.calm;
@@ -87,4 +87,4 @@ returns-clause-ok g c = λ begun stands.
     let l = c.loop-event in
     let i = l.invariant.so_far begun stands in
     let le : length c.as_slice-event-items.result.now ≤ l.event-index = omega arith in
-    (i.unbuilt ∙ unbuilt-end l.line i.at c.as_slice-event-items.result.now l.event-index le, took-all (g.W.Sink.written c.args.out.now) (g.W.Sink.written l.out) i.told (sent_of i.at (drop l.event-index c.as_slice-event-items.result.now)) (sent_of begun c.args.events.now) i.took i.sent (sent-end i.at c.as_slice-event-items.result.now l.event-index le))
+    (i.unbuilt ∙ unbuilt-end l.line c.as_slice-event-items.result.now l.event-index le, took-all (g.W.Sink.written c.args.out.now) (g.W.Sink.written l.out) i.told (sent_of i.at (drop l.event-index c.as_slice-event-items.result.now)) (sent_of begun c.args.events.now) i.took i.sent (sent-end i.at c.as_slice-event-items.result.now l.event-index le))

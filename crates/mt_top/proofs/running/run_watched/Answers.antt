@@ -14,7 +14,7 @@ pub returns-in-Err-Bad-clause-ends : goal.returns-in-Err-Bad-clause-ends
 returns-in-Err-Bad-clause-ends g c =
     let none : asked_of (words_of c.args.words.now) ≡ None = ap (option_map (λ (wanted : Asked). of_files (comes_to wanted))) (c.in-Err-Bad.ensures.bad (search rules)) in
     rw none (c.endings_add_up.ensures.no_form
-    (moment (input (g.C.Source.left c.args.config.now) (g.C.Source.faults c.args.config.now)) (input (g.A.Source.left c.args.first.now) (g.A.Source.faults c.args.first.now)) (g.W.Sink.written c.args.out.now) (g.W.Sink.faults c.args.out.now))
+    (moment (input (g.C.Source.left c.args.config.now) (g.C.Source.faults c.args.config.now)) (input (g.A.Source.left c.args.first.now) (g.A.Source.faults c.args.first.now)) (input (g.B.Source.left c.args.second.now) (g.B.Source.faults c.args.second.now)) (g.W.Sink.written c.args.out.now) (g.W.Sink.faults c.args.out.now))
     (g.W.Sink.written c.tell_bad_words.new.out) (g.W.Sink.faults c.tell_bad_words.new.out) c.tell_bad_words.result c.tell_bad_words.ensures)
 
 pub carry_out-requires : goal.carry_out-requires
@@ -27,6 +27,7 @@ returns-in-Ok-read_configuration-clause-ends g c =
     rw some (c.endings_add_up.ensures.configured (comes_to c.in-Ok.asked) (contents_of c.in-Ok-read_configuration.config) h.0
     (input (g.C.Source.left c.args.config.now) (g.C.Source.faults c.args.config.now)) (input (g.C.Source.left c.read_configuration.new.source) (g.C.Source.faults c.read_configuration.new.source))
     (input (g.A.Source.left c.args.first.now) (g.A.Source.faults c.args.first.now)) (input (g.A.Source.left c.carry_out.new.first) (g.A.Source.faults c.carry_out.new.first))
+    (input (g.B.Source.left c.args.second.now) (g.B.Source.faults c.args.second.now)) (input (g.B.Source.left c.carry_out.new.second) (g.B.Source.faults c.carry_out.new.second))
     (g.W.Sink.written c.args.out.now) (g.W.Sink.written c.carry_out.new.out) (g.W.Sink.faults c.args.out.now) (g.W.Sink.faults c.carry_out.new.out) c.carry_out.result
     h.2 h.1 (c.read_configuration.ensures.calm (search rules)) c.carry_out.ensures.ends)
 
@@ -35,6 +36,6 @@ returns-in-Err-clause-ends g c =
     let some : asked_of (words_of c.args.words.now) ≡ Some (of_files (comes_to c.in-Ok.asked)) = ap (option_map (λ (wanted : Asked). of_files (comes_to wanted))) c.in-Ok.ensures.ok in
     rw some (c.endings_add_up.ensures.unconfigured (comes_to c.in-Ok.asked) c.in-Err.fault c.finish.result
     (input (g.C.Source.left c.args.config.now) (g.C.Source.faults c.args.config.now)) (input (g.C.Source.left c.read_configuration.new.source) (g.C.Source.faults c.read_configuration.new.source))
-    (input (g.A.Source.left c.args.first.now) (g.A.Source.faults c.args.first.now))
+    (input (g.A.Source.left c.args.first.now) (g.A.Source.faults c.args.first.now)) (input (g.B.Source.left c.args.second.now) (g.B.Source.faults c.args.second.now))
     (g.W.Sink.written c.args.out.now) (g.W.Sink.written c.finish.new.out) (g.W.Sink.faults c.args.out.now) (g.W.Sink.faults c.finish.new.out)
     c.in-Err.ensures.err (λ quiet. c.read_configuration.ensures.calm (not_read c.read_configuration.result c.in-Err.fault c.in-Err.is quiet)) c.finish.ensures)

@@ -1,30 +1,10 @@
-use Rattle.std.proofs.Common.{◌≡◌, ℕ, List, Bor, Some, None, Option, IfOk, IfErr, Result, ap₂, ◌∙◌, codes, option_map}
-use Rattle.std.specs.Option.{ok_or}
+use Rattle.std.proofs.Common.{◌≡◌, ℕ, List, ap₂, ◌∙◌, codes}
 use Rattle.clap.proofs.WalkLemmas.{first_value-rows}
 use Rattle.clap.specs.Words.{found_of}
 use Rattle.mt_words.specs.Words.{begin_of, count_of, soak_of}
-use Rattle.mt_words.specs.declared.asked.Asked.{Asked}
-use Rattle.mt_words.specs.declared.asked.WordsFault.{WordsFault}
-use Rattle.mt_words.specs.declared.asked.WordsFault.TheVariants.{Bad}
 use Rattle.mt_words.proofs.Commanded.{soak_parsed, soak_refused}
+use Rattle.mt_words.proofs.Found.{not_missing, same_text, tells_bad, tells_ok}
 use Rattle.mt_words.proofs.asked.soak_asked.Goals as goal
-
--- a text that the parser found is there
-not_missing : (text : List ℕ) (got : Option (Bor (List ℕ))) → option_map (λ s. s.now) got ≡ Some text → got ≡ None → ⊥
-not_missing text None is none = cc
-not_missing text (Some s) is none = cc
-
-same_text : (text : List ℕ) (s : Bor (List ℕ)) (got : Option (Bor (List ℕ))) → option_map (λ s. s.now) got ≡ Some text → got ≡ Some s → text ≡ s.now
-same_text text s None is some = cc
-same_text text s (Some t) is some = cc
-
-tells_ok : (found wanted : Option Asked) (r : Result Asked WordsFault) → wanted ≡ found → r ≡ ok_or found Bad → IfOk r (λ asked. wanted ≡ Some asked)
-tells_ok None wanted r same is = rw is tt
-tells_ok (Some asked) wanted r same is = rw is same
-
-tells_bad : (found wanted : Option Asked) (r : Result Asked WordsFault) → wanted ≡ found → r ≡ ok_or found Bad → IfErr r (λ fault. fault ≡ Bad → wanted ≡ None)
-tells_bad None wanted r same is = rw is (λ _. same)
-tells_bad (Some asked) wanted r same is = rw is tt
 
 pub returns-in-Err-clause-bad : goal.returns-in-Err-clause-bad
 returns-in-Err-clause-bad c = λ bad. soak_refused _ c.args.words.now c.in-Ok.ensures (c.in-Err.ensures.bad bad)
