@@ -3,10 +3,12 @@
 //! the program.
 //!
 //! - `runs.txt`: a run of the program, or of a recording with a configuration in hand;
+//! - `compares.txt`: a run of the program that compares two recordings by what one fabric sees of them;
 //! - `reads.txt`, `writes.txt`: the calls of one source, and of one sink;
 //! - `datagrams.txt`: recordings of datagrams, each of which is sent back.
 #![tactic(auto)]
 
+mod compares;
 mod datagrams;
 mod narrow;
 mod numbers;
@@ -31,6 +33,10 @@ fn main(rt: HostRuntime) -> io::Result<()> {
     let cases = fs::read_to_string(&rt, "datagrams.txt")?;
     for case in cases.as_str().lines() {
         datagrams::print_sent(&rt, case)?;
+    }
+    let cases = fs::read_to_string(&rt, "compares.txt")?;
+    for case in cases.as_str().lines() {
+        compares::print_compared(&rt, case)?;
     }
     Ok(())
 }

@@ -22,9 +22,9 @@ struct Case<'a> {
     first_fails: &'a str,
 }
 
-// A source that never ends.
+/// A source that never ends.
 #[derive(Drop)]
-struct Endless;
+pub(crate) struct Endless;
 
 impl Source for Endless {
     ghost left = { λ _. None };
@@ -65,11 +65,7 @@ pub(crate) fn print_told(rt: &HostRuntime, case: &str) -> io::Result<()> {
         config_fails,
         first_fails,
     };
-    let fails = numbers(alloc, out_fails)?;
-    let mut out = NarrowSink {
-        inner: MemSink::new(alloc, &fails)?,
-        most: most.parse::<usize>().unwrap_or(usize::MAX),
-    };
+    let mut out = output(alloc, out_fails, most)?;
     if words == "in hand" {
         in_hand(rt, &case, &mut out)
     } else {
@@ -87,7 +83,7 @@ fn in_hand(rt: &HostRuntime, case: &Case, out: &mut NarrowSink) -> io::Result<()
     let status = if case.recording == "endless" {
         replay_with(alloc, &config, &mut Endless, out)
     } else {
-        let mut first = recording(alloc, case)?;
+        let mut first = recording(alloc, case.recording, case.first_fails)?;
         replay_with(alloc, &config, &mut first, out)
     };
     print_ended(rt, case.name, status, out.inner.bytes())
@@ -96,25 +92,37 @@ fn in_hand(rt: &HostRuntime, case: &Case, out: &mut NarrowSink) -> io::Result<()
 fn with_words(rt: &HostRuntime, case: &Case, out: &mut NarrowSink) -> io::Result<()> {
     let alloc = rt.alloc();
     let words = words(alloc, case.words)?;
-    let mut first = recording(alloc, case)?;
+    let mut first = recording(alloc, case.recording, case.first_fails)?;
+    let mut second = MemSource::new(alloc, &[], &[])?;
     let status = if case.config == "endless" {
-        run(alloc, &words, &mut Endless, &mut first, out)
+        run(alloc, &words, &mut Endless, &mut first, &mut second, out)
     } else {
         let bytes = fs::read(rt, case.config)?;
         let fails = numbers(alloc, case.config_fails)?;
         let mut config = MemSource::new(alloc, &bytes, &fails)?;
-        run(alloc, &words, &mut config, &mut first, out)
+        run(alloc, &words, &mut config, &mut first, &mut second, out)
     };
     print_ended(rt, case.name, status, out.inner.bytes())
 }
 
-fn recording(alloc: Global, case: &Case) -> Result<MemSource, AllocError> {
-    let text = case.recording.replace(alloc, '/', "\n")?;
-    let fails = numbers(alloc, case.first_fails)?;
+/// The source of a recording, in which `/` ends a line.
+pub(crate) fn recording(alloc: Global, text: &str, fails: &str) -> Result<MemSource, AllocError> {
+    let text = text.replace(alloc, '/', "\n")?;
+    let fails = numbers(alloc, fails)?;
     MemSource::new(alloc, text.as_bytes(), &fails)
 }
 
-fn words(alloc: Global, text: &str) -> Result<Vec<String>, AllocError> {
+/// An output that takes so many bytes a call, and as many as there are where that is no number.
+pub(crate) fn output(alloc: Global, fails: &str, most: &str) -> Result<NarrowSink, AllocError> {
+    let fails = numbers(alloc, fails)?;
+    Ok(NarrowSink {
+        inner: MemSink::new(alloc, &fails)?,
+        most: most.parse::<usize>().unwrap_or(usize::MAX),
+    })
+}
+
+/// The words of a command line.
+pub(crate) fn words(alloc: Global, text: &str) -> Result<Vec<String>, AllocError> {
     let mut words = Vec::new(alloc);
     for word in text.split_whitespace() {
         words.push(String::from_str(alloc, word)?)?;
@@ -122,7 +130,13 @@ fn words(alloc: Global, text: &str) -> Result<Vec<String>, AllocError> {
     Ok(words)
 }
 
-fn print_ended(rt: &HostRuntime, name: &str, status: u8, output: &[u8]) -> io::Result<()> {
+/// Prints the status of a run and what it wrote; `..` stands behind an output that was cut off in a line.
+pub(crate) fn print_ended(
+    rt: &HostRuntime,
+    name: &str,
+    status: u8,
+    output: &[u8],
+) -> io::Result<()> {
     println!(rt; "{name}: {status}")?;
     let text = String::from_utf8_lossy(rt.alloc(), output)?;
     print!(rt; "{text}")?;

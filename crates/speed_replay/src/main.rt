@@ -1,11 +1,13 @@
-//! How many lines of a recording a second `replay_with` plays, for each recording of a table. With no
-//! argument a short one of each is played, and what was written is counted. `time` prints the speeds, for
-//! recordings of growing length. `configuration NAME` and `recording NAME LINES` print what the program
-//! matter_node is given to play one: `speed/replay.sh` counts its instructions.
+//! How many lines of a recording a second `replay_with` plays, for each recording of a table, and how long
+//! `run` takes to compare one of them with itself. With no argument a short one of each is played, one is
+//! compared, and what was written is counted. `time` prints the speeds, for recordings of growing length.
+//! `configuration NAME` and `recording NAME LINES` print what the program matter_node is given to play one:
+//! `speed/replay.sh` counts its instructions.
 #![tactic(auto)]
 
 ghost use Rattle.std.specs.Prelude.{None};
 
+mod compared;
 mod join;
 mod sealed;
 mod table;
@@ -27,9 +29,9 @@ const FEW: u64 = 100;
 
 /// A sink that counts what it is given, and keeps none of it.
 #[derive(Drop)]
-struct Counter {
-    lines: u64,
-    bytes: u64,
+pub(crate) struct Counter {
+    pub(crate) lines: u64,
+    pub(crate) bytes: u64,
 }
 
 impl Sink for Counter {
@@ -57,19 +59,19 @@ fn main(rt: HostRuntime) -> io::Result<()> {
             for recording in &recordings() {
                 play(&rt, recording, FEW, false)?;
             }
-            Ok(())
+            compared::play(&rt, FEW, false)
         }
     }
 }
 
-// The speeds of all recordings, for each size.
+// The speeds of all recordings, for each size, and of a comparison.
 fn measure(rt: &HostRuntime) -> io::Result<()> {
     for recording in &recordings() {
         for requests in SIZES {
             play(rt, recording, requests, true)?;
         }
     }
-    Ok(())
+    compared::measure(rt)
 }
 
 // Prints the configuration of the recording of this name, or the recording itself.
@@ -114,7 +116,8 @@ fn play(rt: &HostRuntime, recording: &Recording, requests: u64, timed: bool) -> 
     Ok(())
 }
 
-fn lines_a_second(lines: u64, micros: u128) -> u64 {
+/// How many lines a second it is, where so many took so long.
+pub(crate) fn lines_a_second(lines: u64, micros: u128) -> u64 {
     let scaled = (lines as u128).saturating_mul(1_000_000);
     u64::try_from(scaled / micros.max(1)).unwrap_or(u64::MAX)
 }
