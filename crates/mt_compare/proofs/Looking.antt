@@ -7,13 +7,13 @@ use Rattle.mt_lines.specs.Isolation.{public_part}
 use Rattle.mt_lines.specs.Whole.{Whole}
 use Rattle.mt_runs.specs.Marks.{Mark, is_seen, seen}
 use Rattle.mt_marks.specs.Seen.{seen_in}
-use Rattle.mt_marks.specs.declared.mark.PublicMark.{PublicMark}
+use Rattle.mt_marks.specs.declared.mark.Mark as code
 use Rattle.mt_whole.specs.Seeing.{mark_of}
 
 some_same : (m n : Mark) → Some m ≡ Some n → m ≡ n
 some_same m n e = cc
 
-pub is_marked : (fabric : ℕ) (w : Whole) (event : Event) (found : Option PublicMark) (mark : PublicMark) → found ≡ Some mark → option_map seen_in found ≡ mark_of fabric w event
+pub is_marked : (fabric : ℕ) (w : Whole) (event : Event) (found : Option code.Mark) (mark : code.Mark) → found ≡ Some mark → option_map seen_in found ≡ mark_of fabric w event
     → (is_seen fabric w event ≡ true) × (seen_in mark ≡ seen event (public_part fabric w))
 is_marked fabric w event found mark is told =
     let some : Some (seen_in mark) ≡ mark_of fabric w event = sym (ap (option_map seen_in) is) ∙ told in

@@ -8,7 +8,7 @@ use Rattle.mt_marks.specs.Seen.{descriptor_in}
 use Rattle.mt_marks.specs.declared.difference.Part.{Part}
 use Rattle.mt_marks.specs.declared.difference.Part.TheVariants as parts
 use Rattle.mt_marks.specs.declared.mark.Descriptor.{Descriptor}
-use Rattle.mt_marks.specs.declared.mark.PublicMark.{PublicMark}
+use Rattle.mt_marks.specs.declared.mark.Mark.{Mark}
 use Rattle.mt_lines.specs.Isolation.{OwnPart}
 use Rattle.mt_differences.specs.Codes.{are_same, of_own}
 use Rattle.mt_differences.specs.Difference.{born_part}
@@ -29,7 +29,7 @@ descriptors_same : (ones others : List Descriptor) → map descriptor_in ones �
 descriptors_same ones others same = sym (all_back ones) ∙ ap (map back) same ∙ all_back others
 
 -- A part is the same in two marks exactly where it is in what they say.
-same_in : (part : Part) (one other : PublicMark) → IsSame part one other ↔ IsSameSeen part one.event (public_in one) other.event (public_in other)
+same_in : (part : Part) (one other : Mark) → IsSame part one other ↔ IsSameSeen part one.event (public_in one) other.event (public_in other)
 same_in parts.Event one other = (λ h. h, λ h. h)
 same_in parts.Born one other = (λ h. h, λ h. h)
 same_in parts.Rows one other = (λ h. h, λ h. h)
@@ -43,7 +43,7 @@ same_in parts.Numbers one other = (λ h. h, λ h. h)
 same_in parts.Boot one other = (λ h. h, λ h. h)
 same_in parts.Now one other = (λ h. h, λ h. h)
 
-module _ (in_order : PartsComeInOrder) (no_part : SameMarksHaveNoPart) (one other : PublicMark) where
+module _ (in_order : PartsComeInOrder) (no_part : SameMarksHaveNoPart) (one other : Mark) where
   abbrev first : Option Part
   first = seen_part one.event (public_in one) other.event (public_in other)
 
@@ -51,7 +51,7 @@ module _ (in_order : PartsComeInOrder) (no_part : SameMarksHaveNoPart) (one othe
       → IfSome found (λ part. (before : Part) → place_of before < place_of part → IsSame before one other) → found ≡ first
   found_part None none differs before =
       let same : one ≡ other = none.0 refl in
-      sym ((no_part (seen one.event (public_in one)) (seen other.event (public_in other))).1 (ap (λ (mark : PublicMark). seen mark.event (public_in mark)) same))
+      sym ((no_part (seen one.event (public_in one)) (seen other.event (public_in other))).1 (ap (λ (mark : Mark). seen mark.event (public_in mark)) same))
   found_part (Some part) none differs before =
       sym ((in_order one.event other.event (public_in one) (public_in other) part).1 (record {
         differs = λ h. differs ((same_in part one other).1 h);

@@ -15,7 +15,7 @@ ghost use Rattle.mt_compare.specs.Seen.{public_in};
 use crate::running::Running;
 use crate::side::{Here, Side};
 use mt_differences::parts_come_in_order;
-use mt_marks::{Part, PublicMark, first_difference};
+use mt_marks::{Mark, Part, first_difference};
 use mt_model::{ExactCopy, NodeSession, Standing};
 use std::alloc::{AllocError, Global};
 
@@ -38,8 +38,8 @@ pub(crate) fn part_between(
 }
 
 // The same of two events that the fabric sees.
-fn seen_between(mark: &PublicMark, other: &PublicMark) -> Option<Part>
-    ensures { result ≡ seen_part mark.now.event (public_in mark.now) other.now.event (public_in other.now) }
+fn seen_between(mark: &Mark, other: &Mark) -> Option<Part>
+    ensures { result ≡ seen_part mark.entry.now.event (public_in mark.entry.now) other.entry.now.event (public_in other.entry.now) }
 {
     parts_come_in_order();
     first_difference(mark, other)

@@ -8,7 +8,7 @@ ghost use Rattle.mt_compare.specs.Runs.{IsRunning};
 ghost use Rattle.mt_compare.specs.Sides.{GoesOn, HasLooked, HasPassed, HasSeen};
 
 use crate::running::{Passed, Running};
-use mt_marks::PublicMark;
+use mt_marks::Mark;
 use mt_model::{Config, Event};
 use std::alloc::{AllocError, Global};
 
@@ -16,7 +16,7 @@ use std::alloc::{AllocError, Global};
 #[derive(Drop)]
 pub(crate) enum Here {
     /// An event that the fabric sees; the node stands before it.
-    Seen(PublicMark),
+    Seen(Mark),
     /// The fabric enters the table, with the own part that it has in the node.
     Enters,
     /// It leaves the table by an event that is none of its own.

@@ -6,7 +6,7 @@ use Rattle.mt_lines.specs.Isolation.{PublicPart}
 use Rattle.mt_runs.specs.Marks.{Mark, seen, born, gone}
 use Rattle.mt_marks.specs.Seen.{descriptor_in, recent_in, seen_in, view_in}
 use Rattle.mt_marks.specs.declared.mark.Descriptor.{Descriptor}
-use Rattle.mt_marks.specs.declared.mark.PublicMark.{PublicMark}
+use Rattle.mt_marks.specs.declared.mark.Mark as code
 
 descriptor_back : machine.Descriptor → Descriptor
 descriptor_back d = record { index = d.index; root_key = d.root_key; vendor = d.vendor; fabric_id = d.fabric_id; node_id = d.node_id; label = d.label }
@@ -26,18 +26,18 @@ part_of none (seen event part) = part
 part_of none (born own) = none
 part_of none gone = none
 
-same_event : (one other : PublicMark) → seen_in one ≡ seen_in other → one.event ≡ other.event
+same_event : (one other : code.Mark) → seen_in one ≡ seen_in other → one.event ≡ other.event
 unfolding event_of
 same_event one other e = ap (event_of one.event) e
 
-abbrev part_in : PublicMark → PublicPart
+abbrev part_in : code.Mark → PublicPart
 part_in mark = record { node = view_in mark; events = recent_in mark }
 
-same_part : (one other : PublicMark) → seen_in one ≡ seen_in other → part_in one ≡ part_in other
+same_part : (one other : code.Mark) → seen_in one ≡ seen_in other → part_in one ≡ part_in other
 unfolding part_of
 same_part one other e = ap (part_of (part_in one)) e
 
-pub same_back : (one other : PublicMark) → seen_in one ≡ seen_in other → one ≡ other
+pub same_back : (one other : code.Mark) → seen_in one ≡ seen_in other → one ≡ other
 same_back one other e =
     let event = same_event one other e in
     let part = same_part one other e in
@@ -53,8 +53,8 @@ same_back one other e =
       versions = (part i).node.versions;
       changes = (part i).node.changes;
       changed = (part i).node.changed;
-      shared = (part i).events.shared;
+      events = (part i).events.shared;
       next = (part i).events.next;
       boot = (part i).node.boot;
-      clock = (part i).node.clock;
+      now = (part i).node.clock;
     }

@@ -3,7 +3,7 @@ use Rattle.std.proofs.Common.{◌≡◌, ◌<◌, lit<}
 use Rattle.mt_marks.specs.Parts.{IsSame, place_of}
 use Rattle.mt_marks.specs.declared.difference.Part.{Part}
 use Rattle.mt_marks.specs.declared.difference.Part.TheVariants as parts
-use Rattle.mt_marks.specs.declared.mark.PublicMark.{PublicMark}
+use Rattle.mt_marks.specs.declared.mark.Mark.{Mark}
 
 pub part_within : (part : Part) → place_of part < 12
 part_within parts.Event = lit< tt
@@ -19,7 +19,7 @@ part_within parts.Numbers = lit< tt
 part_within parts.Boot = lit< tt
 part_within parts.Now = lit< tt
 
-pub all_same : (one other : PublicMark) → ((part : Part) → IsSame part one other) → one ≡ other
+pub all_same : (one other : Mark) → ((part : Part) → IsSame part one other) → one ≡ other
 all_same one other same = λ i. record {
   event = same parts.Event i;
   rows = (same parts.Rows).0 i;
@@ -31,8 +31,8 @@ all_same one other same = λ i. record {
   versions = (same parts.Versions).0 i;
   changes = (same parts.Versions).1 i;
   changed = (same parts.Versions).2 i;
-  shared = same parts.Events i;
+  events = same parts.Events i;
   next = same parts.Numbers i;
   boot = same parts.Boot i;
-  clock = same parts.Now i;
+  now = same parts.Now i;
 }

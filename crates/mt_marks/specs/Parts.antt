@@ -2,7 +2,7 @@
 use Rattle.std.specs.Prelude.{◌≡◌, ℕ, List, [], ◌∷◌, codes}
 use Rattle.mt_marks.specs.declared.difference.Part.{Part}
 use Rattle.mt_marks.specs.declared.difference.Part.TheVariants as parts
-use Rattle.mt_marks.specs.declared.mark.PublicMark.{PublicMark}
+use Rattle.mt_marks.specs.declared.mark.Mark.{Mark}
 
 -- the parts, in the order in which marks are compared
 abbrev pub all_parts : List Part
@@ -24,7 +24,7 @@ place_of parts.Boot = 10
 place_of parts.Now = 11
 
 -- the part is the same in both marks; that a fabric enters the table is in none of these
-abbrev pub IsSame : Part → PublicMark → PublicMark → Type 0
+abbrev pub IsSame : Part → Mark → Mark → Type 0
 IsSame parts.Event one other = one.event ≡ other.event
 IsSame parts.Born one other = Unit {0}
 IsSame parts.Rows one other = (one.rows ≡ other.rows) × (one.owners ≡ other.owners)
@@ -33,10 +33,10 @@ IsSame parts.Roots one other = one.roots ≡ other.roots
 IsSame parts.Networks one other = one.networks ≡ other.networks
 IsSame parts.Failsafe one other = one.failsafe ≡ other.failsafe
 IsSame parts.Versions one other = (one.versions ≡ other.versions) × (one.changes ≡ other.changes) × (one.changed ≡ other.changed)
-IsSame parts.Events one other = one.shared ≡ other.shared
+IsSame parts.Events one other = one.events ≡ other.events
 IsSame parts.Numbers one other = one.next ≡ other.next
 IsSame parts.Boot one other = one.boot ≡ other.boot
-IsSame parts.Now one other = one.clock ≡ other.clock
+IsSame parts.Now one other = one.now ≡ other.now
 
 -- the word for a part
 abbrev pub word_of : Part → List ℕ

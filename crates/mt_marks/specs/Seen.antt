@@ -12,14 +12,14 @@ use Rattle.mt_history.specs.History.{History}
 use Rattle.mt_history.specs.Isolation.{Recent, recent}
 use Rattle.mt_runs.specs.Marks.{Mark, seen}
 use Rattle.mt_marks.specs.declared.mark.Descriptor.{Descriptor}
-use Rattle.mt_marks.specs.declared.mark.PublicMark.{PublicMark}
+use Rattle.mt_marks.specs.declared.mark.Mark as code
 
 -- What a mark says.
 
 abbrev pub descriptor_in : Descriptor → machine.Descriptor
 descriptor_in d = record { index = d.index; root_key = d.root_key; vendor = d.vendor; fabric_id = d.fabric_id; node_id = d.node_id; label = d.label }
 
-abbrev pub view_in : PublicMark → PublicView
+abbrev pub view_in : code.Mark → PublicView
 view_in mark = record {
   rows = mark.rows;
   owners = mark.owners;
@@ -31,13 +31,13 @@ view_in mark = record {
   changes = mark.changes;
   changed = mark.changed;
   boot = mark.boot;
-  clock = mark.clock;
+  clock = mark.now;
 }
 
-abbrev pub recent_in : PublicMark → Recent
-recent_in mark = record { shared = mark.shared; next = mark.next }
+abbrev pub recent_in : code.Mark → Recent
+recent_in mark = record { shared = mark.events; next = mark.next }
 
-abbrev pub seen_in : PublicMark → Mark
+abbrev pub seen_in : code.Mark → Mark
 seen_in mark = seen mark.event (record { node = view_in mark; events = recent_in mark })
 
 -- What is seen: an event, with what is public to the fabric of this state and this history.

@@ -4,7 +4,7 @@ ghost use Rattle.std.specs.Prelude.{◌≡◌, ◌↔◌, ◌<◌, IfSome, IsTru
 ghost use Rattle.mt_marks.specs.Parts.{IsSame, all_parts, place_of, word_of};
 ghost use Rattle.mt_marks.specs.declared.difference.Part.{Part};
 
-use crate::mark::PublicMark;
+use crate::mark::Mark;
 use crate::same::Same;
 use std::fmt;
 
@@ -13,7 +13,7 @@ use std::fmt;
 pub enum Part {
     /// What happened.
     Event,
-    /// With which own part the fabric entered the table. No `PublicMark` has it.
+    /// With which own part the fabric entered the table. No `Mark` has it.
     Born,
     /// The rows of nobody and of others, and whose the entries of others are.
     Rows,
@@ -79,10 +79,10 @@ impl fmt::Display for Part {
 }
 
 /// The first part in which two marks differ; None exactly where they are the same. It takes no memory.
-pub fn first_difference(one: &PublicMark, other: &PublicMark) -> Option<Part>
-    ensures none { (result ≡ None) ↔ (one.now ≡ other.now) }
-    ensures differs { IfSome result (λ part. ¬ IsSame part one.now other.now) }
-    ensures first { IfSome result (λ part. (before : Part) → place_of before < place_of part → IsSame before one.now other.now) }
+pub fn first_difference(one: &Mark, other: &Mark) -> Option<Part>
+    ensures none { (result ≡ None) ↔ (one.entry.now ≡ other.entry.now) }
+    ensures differs { IfSome result (λ part. ¬ IsSame part one.entry.now other.entry.now) }
+    ensures first { IfSome result (λ part. (before : Part) → place_of before < place_of part → IsSame before one.entry.now other.entry.now) }
 {
     for part in all_parts() {
         if !is_same(*part, one, other) {
@@ -98,8 +98,8 @@ fn all_parts() -> &'static [Part]
     &PARTS
 }
 
-fn is_same(part: Part, one: &PublicMark, other: &PublicMark) -> bool
-    ensures { IsTrue result ↔ IsSame part one.now other.now }
+fn is_same(part: Part, one: &Mark, other: &Mark) -> bool
+    ensures { IsTrue result ↔ IsSame part one.entry.now other.entry.now }
 {
     match part {
         Part::Event => one.event.is_same(&other.event),
@@ -114,9 +114,9 @@ fn is_same(part: Part, one: &PublicMark, other: &PublicMark) -> bool
                 && one.changes.is_same(&other.changes)
                 && one.changed == other.changed
         },
-        Part::Events => one.shared.is_same(&other.shared),
+        Part::Events => one.events.is_same(&other.events),
         Part::Numbers => one.next == other.next,
         Part::Boot => one.boot == other.boot,
-        Part::Now => one.clock == other.clock,
+        Part::Now => one.now == other.now,
     }
 }

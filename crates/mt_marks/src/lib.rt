@@ -17,5 +17,5 @@ mod same;
 pub use difference::{Part, first_difference};
 pub use laws::{equal_marks_say_the_same, marks_are_those_of_runs};
 pub use making::public_mark;
-pub use mark::{Descriptor, Descriptors, Owners, PublicMark, SeenRows, SharedEvents};
+pub use mark::{Descriptor, Descriptors, Mark, Owners, Recent, SeenRows};
 pub use same::Same;

@@ -12,7 +12,7 @@ ghost use Rattle.mt_events.specs.Rings.{ring_of};
 ghost use Rattle.mt_machine.specs.State.{IsValid};
 ghost use Rattle.mt_marks.specs.Seen.{described, mark_before, other_owners, other_rows, seen_in};
 
-use crate::mark::{Descriptor, Descriptors, Owners, PublicMark, SeenRows, SharedEvents};
+use crate::mark::{Descriptor, Descriptors, Mark, Owners, Recent, SeenRows};
 use mt_events::{Numbers, Rings};
 use mt_meta::stored_places_are_those_of_the_model;
 use mt_model::{
@@ -31,12 +31,12 @@ pub fn public_mark(
     state: &NodeState,
     rings: &Rings,
     numbers: Numbers,
-) -> Result<PublicMark, AllocError>
+) -> Result<Mark, AllocError>
     requires { IsValid state.now }
     ensures { IfOk result (λ mark. seen_in mark ≡ mark_before fabric event.now state.now (record { rings = rings.now; numbers = numbers })) }
 {
     stored_places_are_those_of_the_model();
-    Ok(PublicMark {
+    Ok(Mark {
         event: event.copy()?,
         rows: rows_of_others(alloc, fabric, &state.rows)?,
         owners: owners_of_others(alloc, fabric, state.entries.as_slice())?,
@@ -47,10 +47,10 @@ pub fn public_mark(
         versions: state.versions.copy()?,
         changes: state.changes.copy()?,
         changed: state.changed,
-        shared: shared_events(alloc, rings)?,
+        events: shared_events(alloc, rings)?,
         next: numbers.next,
         boot: state.boot,
-        clock: state.clock,
+        now: state.clock,
     })
 }
 
@@ -176,12 +176,12 @@ fn copy_of<T: ExactCopy>(value: &Option<T>) -> Result<Option<T>, AllocError>
 }
 
 // The events that all may see.
-fn shared_events(alloc: Global, rings: &Rings) -> Result<SharedEvents, AllocError>
+fn shared_events(alloc: Global, rings: &Rings) -> Result<Recent, AllocError>
     ensures { IfOk result (λ shared. shared ≡ ring_of 0 rings.now) }
 {
     let mut shared = Vec::new(alloc);
     'events: while let Some(event) = rings.shared_at(shared.len()) {
         shared.push(event.copy()?)?;
     }
-    Ok(SharedEvents::from_vec(shared))
+    Ok(Recent::from_vec(shared))
 }

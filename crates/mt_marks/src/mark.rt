@@ -28,11 +28,11 @@ pub type SeenRows = Listed<Row>;
 pub type Owners = Listed<u8>;
 
 /// The latest events that all may see, by rising number.
-pub type SharedEvents = Listed<Happened>;
+pub type Recent = Listed<Happened>;
 
 /// An event that a fabric sees, with what is public to the fabric just before it.
 #[derive(Drop)]
-pub struct PublicMark {
+pub struct Mark {
     pub event: Event,
     /// The rows of nobody, and those of others without their sensitive fields.
     pub rows: SeenRows,
@@ -48,10 +48,10 @@ pub struct PublicMark {
     pub changes: ChangeNumbers,
     /// How many actions have changed an attribute.
     pub changed: u64,
-    pub shared: SharedEvents,
+    pub events: Recent,
     /// The number of the next event.
     pub next: u64,
     pub boot: u32,
     /// The time of the latest event, in ms.
-    pub clock: u64,
+    pub now: u64,
 }

@@ -27,5 +27,6 @@ mod talks;
 mod whole;
 
 pub use laws::{closed_sessions_are_those_that_end, own_parts_are_standings_and_talks};
+pub use mt_marks::{Descriptor, Descriptors, Mark, Recent};
 pub use outcome::WholeOutcome;
 pub use whole::Whole;

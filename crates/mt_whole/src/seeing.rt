@@ -17,7 +17,7 @@ ghost use Rattle.mt_whole.specs.Talks.{IsWholeOf};
 use crate::datagrams::session_named;
 use crate::standing::are_standings_same;
 use crate::whole::Whole;
-use mt_marks::{PublicMark, public_mark};
+use mt_marks::{Mark, public_mark};
 use mt_model::{Event, NodeSession};
 use mt_own::{are_deadlines_same, are_events_same, are_subscriptions_same, is_own_same};
 use mt_plain::Plain;
@@ -26,7 +26,7 @@ use std::alloc::AllocError;
 impl Whole {
     /// The mark of an event that a fabric sees: the event, with what is public to the fabric just before it. None exactly
     /// where the event is neither one of the fabric nor a time step nor a stop.
-    pub fn mark(&self, fabric: u8, event: &Event) -> Result<Option<PublicMark>, AllocError>
+    pub fn mark(&self, fabric: u8, event: &Event) -> Result<Option<Mark>, AllocError>
         ensures { (w : Told) → IsWholeOf self.now w → IfOk result (λ mark. option_map seen_in mark ≡ mark_of fabric w event.now) }
     {
         if !self.sees(fabric, event) {
