@@ -9,7 +9,7 @@ use Rattle.mt_model.specs.declared.rows.place.Row.{Row}
 use Rattle.mt_model.specs.declared.tables.access.AclEntry.{AclEntry}
 use Rattle.mt_model.proofs.Entries.{read_again}
 
-same_codes : (g h : Gv) → are_same_codes g h ≡ true → g ≡ h
+pub same_codes : (g h : Gv) → are_same_codes g h ≡ true → g ≡ h
 same_codes gnil gnil e = refl
 same_codes gnil (gnum n) e = absurd (cc)
 same_codes gnil (gcons c d) e = absurd (cc)
@@ -29,6 +29,9 @@ code_same : (g : Gv) → are_same_codes g g ≡ true
 code_same gnil = refl
 code_same (gnum n) = same_number n
 code_same (gcons a b) = rw (code_same a) (code_same b)
+
+pub same_code : (g h : Gv) → g ≡ h → are_same_codes g h ≡ true
+same_code g h e = subst (λ (c : Gv). are_same_codes g c ≡ true) e (code_same g)
 
 pub rows_same : (rows others : List Row) → are_same_rows rows others ≡ true → rows ≡ others
 rows_same rows others e = rows_code.inj rows others (same_codes (rows_code.code rows) (rows_code.code others) e)

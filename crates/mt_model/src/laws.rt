@@ -7,7 +7,8 @@ ghost use Rattle.mt_tlv.specs.declared.value.Value.{Value};
 ghost use Rattle.mt_model.specs.texts.Config.{are_numbered_from, ascend_from};
 ghost use Rattle.mt_model.specs.tables.Entries.{entry_in, entry_value};
 ghost use Rattle.mt_model.specs.rows.Order.{are_ascending, entry_rows, fabric_rows, fabrics_ascend, in_order};
-ghost use Rattle.mt_model.specs.rows.Same.{are_same_rows, is_same_entry};
+ghost use base.Stored.{Gv};
+ghost use Rattle.mt_model.specs.rows.Same.{are_same_codes, are_same_rows, is_same_entry};
 ghost use Rattle.mt_model.specs.rows.Setting.{is_above, is_at, is_below, is_entry_above, is_entry_below, is_entry_of, with_entries, with_rows};
 ghost use Rattle.mt_model.specs.rows.Sight.{seen_by, stands_at};
 ghost use Rattle.mt_model.specs.declared.tables.access.AclEntry.{AclEntry};
@@ -80,8 +81,9 @@ pub fn entries_are_read_again()
     ensures { (entry : AclEntry) → entry_in (entry_value entry) ≡ Some entry }
 {}
 
-/// Rows are told to be the same exactly where they are, and entries likewise.
+/// Codes are told to be the same exactly where they are; so are rows and entries, which have codes.
 pub fn what_is_told_the_same_is()
+    ensures codes { (code other : Gv) → IsTrue (are_same_codes code other) ↔ (code ≡ other) }
     ensures rows { (rows others : List Row) → IsTrue (are_same_rows rows others) ↔ (rows ≡ others) }
     ensures entries { (entry other : AclEntry) → IsTrue (is_same_entry entry other) ↔ (entry ≡ other) }
 {}

@@ -78,7 +78,8 @@ fn is_live_over(fabric: u8, id: u16, session: &NodeSession) -> bool
     session.session == id && is_live_as(fabric, session.standing)
 }
 
-fn is_live_as(fabric: u8, standing: Standing) -> bool
+/// Whether a session of this standing is live for a fabric.
+pub fn is_live_as(fabric: u8, standing: Standing) -> bool
     ensures { result ≡ is_live_as fabric standing }
 {
     match standing {

@@ -23,6 +23,7 @@ mod subs;
 mod subscription;
 
 pub use changes::Changes;
+pub use ending::is_live_as;
 pub use fault::SubFault;
 pub use laws::{changes_stay_in_order, ids_are_never_used_again, valid_subscriptions_stay_valid};
 pub use subs::Subs;
