@@ -9,6 +9,8 @@
 
 ghost use Rattle.mt_differences.specs.Laws.{DifferencesAreFirst, EqualMarksDoNotDiffer, MarkedAreMarks, OwnPartsDiffer, PartsComeInOrder, SameMarksHaveNoPart, SamePartsAreSame};
 
+use mt_model::what_is_told_the_same_is;
+
 /// The marks that stand at events are those of the run, in their order.
 pub fn marked_events_have_the_marks()
     ensures { MarkedAreMarks }
@@ -21,7 +23,9 @@ pub fn parts_come_in_order()
     ensures first { PartsComeInOrder }
     ensures own { OwnPartsDiffer }
     ensures marks { SameMarksHaveNoPart }
-{}
+{
+    what_is_told_the_same_is();
+}
 
 /// Two runs do not differ for a fabric exactly where its marks are equal in both; and where they differ, what is told is the
 /// first mark that does.

@@ -1,6 +1,6 @@
 -- The rows of all stored places, one place after the other, are all rows.
 use Rattle.std.proofs.Common.{◌≡◌, inl, inr, Bool, true, false, ◌&&◌, List, [], ◌∷◌, ◌++◌, refl, sym, ap, ◌∙◌, filter, arith, Result, Ok, Err, is_ok, nat_le}
-use Rattle.std.specs.List.{flat_map, list_all, list_any}
+use Rattle.std.specs.List.{list_all, list_any}
 use Rattle.std.proofs.lemmas.Grind.{common_steps}
 use Rattle.std.proofs.lemmas.Bool.{and_from, and_parts, cases_Bool, or_cases}
 use Rattle.mt_meta.specs.Finding.{find_of}
@@ -14,10 +14,7 @@ use Rattle.mt_model.specs.declared.messages.status.Status.{Status}
 use Rattle.mt_model.specs.declared.tables.fabric.Fabric.{Fabric}
 use Rattle.mt_model.specs.declared.rows.place.Place.{Place}
 use Rattle.mt_model.specs.declared.rows.place.Row.{Row}
-
--- the rows that stand at each of these places
-abbrev pub standing : List Place → List Row → List Row
-standing places rows = flat_map (λ (place : Place). filter (stands_at place) rows) places
+use Rattle.mt_marks.specs.Placed.{standing}
 
 -- whether a row stands at one of these places
 abbrev pub is_among : List Place → Row → Bool

@@ -4,8 +4,8 @@ ghost use Rattle.std.specs.Prelude.{◌≡◌, ◌↔◌, ◌<◌, IfSome, IsTru
 ghost use Rattle.mt_marks.specs.Parts.{IsSame, all_parts, place_of, word_of};
 ghost use Rattle.mt_marks.specs.declared.difference.Part.{Part};
 
-use crate::mark::Mark;
-use crate::same::Same;
+use crate::mark::{Descriptor, Mark};
+use mt_same::Same;
 use std::fmt;
 
 /// A part of a mark, in the order in which marks are compared.
@@ -118,5 +118,16 @@ fn is_same(part: Part, one: &Mark, other: &Mark) -> bool
         Part::Numbers => one.next == other.next,
         Part::Boot => one.boot == other.boot,
         Part::Now => one.now == other.now,
+    }
+}
+
+impl Same for Descriptor {
+    fn is_same(&self, other: &Descriptor) -> bool {
+        self.index == other.index
+            && self.root_key.equals(&other.root_key)
+            && self.vendor == other.vendor
+            && self.fabric_id == other.fabric_id
+            && self.node_id == other.node_id
+            && self.label.equals(&other.label)
     }
 }

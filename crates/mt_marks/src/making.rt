@@ -12,9 +12,9 @@ ghost use Rattle.mt_events.specs.Rings.{ring_of};
 ghost use Rattle.mt_machine.specs.State.{IsValid};
 ghost use Rattle.mt_marks.specs.Seen.{described, mark_before, other_owners, other_rows, seen_in};
 
+use crate::laws::rows_stand_at_stored_places;
 use crate::mark::{Descriptor, Descriptors, Mark, Owners, Recent, SeenRows};
 use mt_events::{Numbers, Rings};
-use mt_meta::stored_places_are_those_of_the_model;
 use mt_model::{
     AclEntry, Armed, Event, ExactCopy, Fabric, Listed, Network, Networks, NodeState, Row,
     StoredRows, sees, stored_places,
@@ -35,7 +35,7 @@ pub fn public_mark(
     requires { IsValid state.now }
     ensures { IfOk result (λ mark. seen_in mark ≡ mark_before fabric event.now state.now (record { rings = rings.now; numbers = numbers })) }
 {
-    stored_places_are_those_of_the_model();
+    rows_stand_at_stored_places();
     Ok(Mark {
         event: event.copy()?,
         rows: rows_of_others(alloc, fabric, &state.rows)?,
@@ -60,6 +60,7 @@ fn rows_of_others(alloc: Global, fabric: u8, rows: &StoredRows) -> Result<SeenRo
     requires stored { IsTrue (list_all (λ (row : Row). is_stored_place row.place) rows.now) }
     ensures { IfOk result (λ seen. seen ≡ other_rows fabric rows.now) }
 {
+    rows_stand_at_stored_places();
     let mut seen = Vec::new(alloc);
     for place in stored_places() {
         push_others(alloc, fabric, rows.at(place), &mut seen)?;

@@ -1,3 +1,2 @@
 mod Indexed
 mod Owning
-mod Placed

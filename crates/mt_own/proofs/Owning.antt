@@ -1,12 +1,14 @@
 -- What two lists of rows have of a fabric, place by place, and the own part of two states, part by part.
-use Rattle.std.proofs.Common.{◌≡◌, Bool, inl, inr, List, [], ◌∷◌, ◌++◌, ℕ, refl, sym, ap, ◌∙◌, filter}
+use Rattle.std.proofs.Common.{◌≡◌, ◌+◌, ◌<◌, ◌≤◌, Bool, inl, inr, List, [], ◌∷◌, ◌++◌, ℕ, refl, sym, ap, subst, ◌∙◌, add-one, drop, filter, get_or, length}
+use Rattle.std.proofs.Math.Seq.{drop-cons}
 use Rattle.std.proofs.lemmas.Bool.{cases_Bool}
+use Rattle.std.proofs.lemmas.List.{drop_all}
 use Rattle.std.proofs.lemmas.List.Elements.{filter-append}
 use Rattle.mt_machine.specs.Isolation.{Own, owns}
 use Rattle.mt_model.specs.rows.Sight.{stands_at}
 use Rattle.mt_model.specs.declared.rows.place.Place.{Place}
 use Rattle.mt_model.specs.declared.rows.place.Row.{Row}
-use Rattle.mt_own.proofs.Placed.{standing}
+use Rattle.mt_marks.specs.Placed.{standing}
 
 filter_twice : {X : Type 0} (p q : X → Bool) (xs : List X) → filter p (filter q xs) ≡ filter q (filter p xs)
 filter_twice p q [] = refl
@@ -24,14 +26,29 @@ filter_twice {X} p q (x ∷ xs) =
     ]
 
 module _ (fabric : ℕ) (one other : List Row) where
+  -- the same at these places
+  abbrev pub AreSameAt : List Place → Type 0
+  AreSameAt places = filter (owns fabric) (standing places one) ≡ filter (owns fabric) (standing places other)
+
   -- the same at one place more
-  pub one_more : (p : Place) (places : List Place) → filter (owns fabric) (filter (stands_at p) one) ≡ filter (owns fabric) (filter (stands_at p) other)
-      → filter (owns fabric) (standing places one) ≡ filter (owns fabric) (standing places other)
-      → filter (owns fabric) (standing (p ∷ places) one) ≡ filter (owns fabric) (standing (p ∷ places) other)
+  one_more : (p : Place) (places : List Place) → filter (owns fabric) (filter (stands_at p) one) ≡ filter (owns fabric) (filter (stands_at p) other) → AreSameAt places → AreSameAt (p ∷ places)
   one_more p places here behind =
       filter-append (owns fabric) (filter (stands_at p) one) (standing places one)
       ∙ (λ i. here i ++ behind i)
       ∙ sym (filter-append (owns fabric) (filter (stands_at p) other) (standing places other))
+
+  module _ (places : List Place) (n : ℕ) (all : AreSameAt (drop n places) → filter (owns fabric) one ≡ filter (owns fabric) other) where
+    -- where the rows behind the next place are the same, all are
+    pub past_next : (d : Place) → n < length places → filter (owns fabric) (filter (stands_at (get_or places n d)) one) ≡ filter (owns fabric) (filter (stands_at (get_or places n d)) other)
+        → AreSameAt (drop (n + 1) places) → filter (owns fabric) one ≡ filter (owns fabric) other
+    past_next d within here behind =
+        let p = get_or places n d in
+        let next : p ∷ drop (n + 1) places ≡ drop n places = ap (λ (k : ℕ). p ∷ drop k places) (add-one n) ∙ sym (drop-cons places n d within) in
+        all (subst AreSameAt next (one_more p (drop (n + 1) places) here behind))
+
+    -- behind the last place there are none
+    pub past_last : length places ≤ n → filter (owns fabric) one ≡ filter (owns fabric) other
+    past_last past = all (subst AreSameAt (sym (drop_all n places past)) refl)
 
   -- where all are the same, those of each place are
   pub at_each : (p : Place) → filter (owns fabric) one ≡ filter (owns fabric) other → filter (owns fabric) (filter (stands_at p) one) ≡ filter (owns fabric) (filter (stands_at p) other)

@@ -1,7 +1,6 @@
 //! Whether a fabric's own part is the same in two states, in two of all that the node remembers, and in two talks. They are
 //! compared where they lie: nothing here takes memory.
 //!
-//! - `same`: whether two values are the same;
 //! - `owned`: what is a fabric's own, and whether two lists have the same of it;
 //! - `rows`: whether the stored rows of a fabric are the same;
 //! - `node`: whether the own part of two states is the same;
@@ -12,8 +11,6 @@ mod node;
 mod owned;
 mod rest;
 mod rows;
-mod same;
 
 pub use node::is_own_same;
 pub use rest::{are_deadlines_same, are_events_same, are_exchanges_same, are_subscriptions_same};
-pub use same::{Same, are_items_same};

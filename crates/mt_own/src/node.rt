@@ -11,9 +11,9 @@ ghost use Rattle.mt_subs.specs.Leaving.{is_live_as};
 
 use crate::owned::are_own_same;
 use crate::rows::are_rows_same;
-use crate::same::Same;
-use mt_meta::stored_places_are_those_of_the_model;
+use mt_marks::rows_stand_at_stored_places;
 use mt_model::{AclEntries, Armed, Credentials, Fabrics, NodeSessions, NodeState};
+use mt_same::Same;
 
 /// Whether a fabric's own part is the same in two states, which are valid: its rows, its access control entries, its
 /// credentials, those that an expiry of the fail-safe gives back to it, its live sessions, and whether the plain PASE session
@@ -23,7 +23,7 @@ pub fn is_own_same(fabric: u8, one: &NodeState, other: &NodeState) -> bool
     requires other { IsValid other.now }
     ensures { IsTrue result ↔ (own fabric one.now ≡ own fabric other.now) }
 {
-    stored_places_are_those_of_the_model();
+    rows_stand_at_stored_places();
     if !are_rows_same(fabric, &one.rows, &other.rows) {
         return false;
     }
@@ -69,7 +69,7 @@ fn saved_for(fabric: u8, armed: &Option<Armed>) -> Option<&Credentials>
     ensures { option_copied result ≡ saved_for fabric armed.now }
 {
     match armed {
-        Some(armed) if is_that(fabric, armed.updated) => armed.saved_credentials.as_ref(),
+        Some(armed) if armed.updated == Some(fabric) => armed.saved_credentials.as_ref(),
         _ => None,
     }
 }
@@ -85,14 +85,5 @@ fn are_sessions_same(fabric: u8, one: &NodeSessions, other: &NodeSessions) -> bo
 fn is_plain_same(fabric: u8, one: Option<u8>, other: Option<u8>) -> bool
     ensures { IsTrue result ↔ (is_that fabric one ≡ is_that fabric other) }
 {
-    is_that(fabric, one) == is_that(fabric, other)
-}
-
-fn is_that(number: u8, other: Option<u8>) -> bool
-    ensures { result ≡ is_that number other }
-{
-    match other {
-        Some(other) => other == number,
-        None => false,
-    }
+    (one == Some(fabric)) == (other == Some(fabric))
 }

@@ -6,9 +6,9 @@ ghost use Rattle.mt_machine.specs.Isolation.{is_deadline_in, owns};
 ghost use Rattle.mt_subs.specs.Leaving.{is_live_as};
 ghost use Rattle.mt_subs.specs.Subscriptions.{is_of};
 
-use crate::same::Same;
-use mt_model::{AclEntry, Fabric, NodeSession, PlainDeadline, Row, Standing};
-use mt_subs::Subscription;
+use mt_model::{AclEntry, Fabric, NodeSession, PlainDeadline, Row};
+use mt_same::Same;
+use mt_subs::{Subscription, is_live_as};
 
 /// A value that may be a fabric's own.
 pub(crate) trait Owned: Same {
@@ -83,10 +83,7 @@ impl Owned for NodeSession {
     ghost is_own = { λ fabric session. is_live_as fabric session.standing };
 
     fn is_of(&self, fabric: u8) -> bool {
-        match self.standing {
-            Standing::Live(of) => of == fabric,
-            Standing::Waits | Standing::Ended => false,
-        }
+        is_live_as(fabric, self.standing)
     }
 }
 

@@ -7,10 +7,10 @@ ghost use Rattle.mt_machine.specs.Isolation.{is_deadline_in};
 ghost use Rattle.mt_subs.specs.Subscriptions.{is_of, next_id};
 
 use crate::owned::are_own_same;
-use crate::same::Same;
 use mt_events::Rings;
 use mt_exchange::Exchanges;
 use mt_model::PlainDeadline;
+use mt_same::Same;
 use mt_subs::Subs;
 
 /// Whether the deadlines of a fabric's plain actors are the same. It takes no memory.

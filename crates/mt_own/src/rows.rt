@@ -8,6 +8,7 @@ ghost use Rattle.mt_model.specs.rows.Stored.{is_stored_place};
 ghost use Rattle.mt_model.specs.declared.rows.place.Row.{Row};
 
 use crate::owned::are_own_same;
+use mt_marks::rows_stand_at_stored_places;
 use mt_model::{StoredRows, stored_places};
 
 /// Whether the rows of a fabric are the same. They are gone over place by place, so all of them must stand at stored places.
@@ -18,6 +19,7 @@ pub(crate) fn are_rows_same(fabric: u8, one: &StoredRows, other: &StoredRows) ->
     requires other_stored { IsTrue (list_all (λ (row : Row). is_stored_place row.place) other.now) }
     ensures { IsTrue result ↔ (filter (owns fabric) one.now ≡ filter (owns fabric) other.now) }
 {
+    rows_stand_at_stored_places();
     for place in stored_places() {
         if !are_own_same(fabric, one.at(place), other.at(place)) {
             return false;

@@ -4,7 +4,7 @@
 //!
 //! - `happening`: what happens on a session, and what a line adds to what was said over one;
 //! - `told`: all that was said, as it begins, grows and is compared;
-//! - `same`: whether two happenings, or two rows of sessions, are the same.
+//! - `same`: whether two happenings are the same.
 #![tactic(auto)]
 
 mod happening;

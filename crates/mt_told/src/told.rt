@@ -8,9 +8,9 @@ ghost use Rattle.mt_told.specs.Noted.{noted, noted_if, noted_talk};
 ghost use Rattle.mt_told.specs.Told.{is_told_of, talk_in, talks_in};
 
 use crate::happening::{Happening, Note};
-use crate::same::{are_happenings_same, is_row_same};
 use mt_model::{ExactCopy, NodeSession, SessionRow};
 use mt_outside::Peer;
+use mt_same::{Same, are_items_same};
 use std::alloc::{AllocError, Global};
 use std::marker::Model;
 
@@ -206,7 +206,7 @@ fn is_told_same(told: &Told, other: &Told) -> bool
 fn are_parts_same(told: &Told, other: &Told) -> bool
     ensures { IsTrue result ↔ ((told.now.row ≡ other.now.row) × (told.now.happenings.items ≡ other.now.happenings.items) × (told.now.latest ≡ other.now.latest)) }
 {
-    is_row_same(&told.row, &other.row)
-        && are_happenings_same(&told.happenings, &other.happenings)
+    told.row.is_same(&other.row)
+        && are_items_same(&told.happenings, &other.happenings)
         && told.latest == other.latest
 }

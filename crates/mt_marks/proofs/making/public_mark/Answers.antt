@@ -3,12 +3,11 @@ use Rattle.mt_model.specs.tables.Known.{bare_network}
 use Rattle.mt_machine.specs.Isolation.{descriptor_of}
 use Rattle.mt_runs.specs.Marks.{seen}
 use Rattle.mt_marks.specs.Seen.{described, descriptor_in, other_owners}
-use Rattle.mt_marks.proofs.Placed.{stored_rows}
 use Rattle.mt_marks.proofs.Seeing.{map-described}
 use Rattle.mt_marks.proofs.making.public_mark.Goals as goal
 
 pub rows_of_others-requires-clause-stored : goal.rows_of_others-requires-clause-stored
-rows_of_others-requires-clause-stored c = stored_rows c.stored_places_are_those_of_the_model.ensures c.args.state.now.fabrics c.args.state.now.rows c.requires.row_forms
+rows_of_others-requires-clause-stored c = c.rows_stand_at_stored_places.ensures.stored c.args.state.now.fabrics c.args.state.now.rows c.requires.row_forms
 
 pub returns : goal.returns
 returns c =

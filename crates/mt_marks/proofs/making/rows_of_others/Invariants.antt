@@ -1,6 +1,6 @@
 use Rattle.std.proofs.Common.{◌≡◌, ◌++◌, drop}
 use Rattle.mt_marks.specs.Seen.{other_rows}
-use Rattle.mt_marks.proofs.Placed.{standing}
+use Rattle.mt_marks.specs.Placed.{standing}
 use Rattle.mt_marks.proofs.making.rows_of_others.Given as goal
 
 -- the rows so far, and those that stand at the places to come

@@ -1,14 +1,13 @@
 use Rattle.std.proofs.Common.{refl, ap}
 use Rattle.mt_machine.specs.Isolation.{Own, own}
 use Rattle.mt_own.proofs.Owning.{all_same}
-use Rattle.mt_own.proofs.Placed.{stored_rows}
 use Rattle.mt_own.proofs.node.is_own_same.Goals as goal
 
 pub are_rows_same-requires-clause-one_stored : goal.are_rows_same-requires-clause-one_stored
-are_rows_same-requires-clause-one_stored c = stored_rows c.stored_places_are_those_of_the_model.ensures c.args.one.now.fabrics c.args.one.now.rows c.requires.one.row_forms
+are_rows_same-requires-clause-one_stored c = c.rows_stand_at_stored_places.ensures.stored c.args.one.now.fabrics c.args.one.now.rows c.requires.one.row_forms
 
 pub are_rows_same-requires-clause-other_stored : goal.are_rows_same-requires-clause-other_stored
-are_rows_same-requires-clause-other_stored c = stored_rows c.stored_places_are_those_of_the_model.ensures c.args.other.now.fabrics c.args.other.now.rows c.requires.other.row_forms
+are_rows_same-requires-clause-other_stored c = c.rows_stand_at_stored_places.ensures.stored c.args.other.now.fabrics c.args.other.now.rows c.requires.other.row_forms
 
 pub returns-then-not-are_rows_same : goal.returns-then-not-are_rows_same
 returns-then-not-are_rows_same c = (λ yes. absurd (cc), λ same. c.if-not-are_rows_same.ensures.1 (ap (λ (o : Own). o.rows) same))

@@ -1,6 +1,6 @@
 use Rattle.std.proofs.Common.{◌≡◌, drop, filter}
 use Rattle.mt_machine.specs.Isolation.{owns}
-use Rattle.mt_own.proofs.Placed.{standing}
+use Rattle.mt_marks.specs.Placed.{standing}
 use Rattle.mt_own.proofs.rows.are_rows_same.Given as goal
 
 -- where the rows at the places to come are the same, all are
