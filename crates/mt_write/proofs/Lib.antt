@@ -1,5 +1,4 @@
 pub mod Elements
-pub mod EachIn
 pub mod KeptEach
 pub mod OwnValues
 pub mod Denied

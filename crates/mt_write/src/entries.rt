@@ -3,16 +3,17 @@
 ghost use Rattle.std.specs.Prelude.{◌≡◌, IfOk, Some, option_and_then};
 ghost use Rattle.mt_tlv.specs.Scalars.{unsigned_in};
 ghost use Rattle.mt_tlv.specs.View.{elements, tree};
-ghost use Rattle.mt_model.specs.tables.Entries.{each_in, entry_of, list_in, mode_numbered, privilege_numbered};
+ghost use Rattle.mt_model.specs.tables.Entries.{entry_of, list_in};
 ghost use Rattle.mt_model.specs.Trees.{field_in};
 ghost use Rattle.mt_model.specs.texts.Config.{is_entry};
 ghost use Rattle.mt_meta.specs.Targets.{target_in};
 ghost use Rattle.mt_write.specs.Entries.{kept_entry, valid_entry};
 
 use mt_acl::valid;
-use mt_meta::clusters::access_control::{AUTH_MODE, PRIVILEGE, SUBJECTS, TARGETS};
+use mt_entries::{each, mode_in, privilege_in};
+use mt_meta::clusters::access_control::{SUBJECTS, TARGETS};
 use mt_meta::target_of;
-use mt_model::{AclEntry, Auth, Privilege, Subjects, Targets, field, structure_of, unsigned_of};
+use mt_model::{AclEntry, Subjects, Targets, field, structure_of, unsigned_of};
 use mt_tlv::{Tag, Value};
 use std::alloc::{AllocError, Global};
 
@@ -57,10 +58,10 @@ fn entry_of(
 ) -> Result<Option<AclEntry>, AllocError>
     ensures { IfOk result (λ entry. entry ≡ entry_of target_in (Some fabric) (elements members.now)) }
 {
-    let Some(privilege) = privilege_at(members) else {
+    let Some(privilege) = privilege_in(members) else {
         return Ok(None);
     };
-    let Some(auth) = mode_at(members) else {
+    let Some(auth) = mode_in(members) else {
         return Ok(None);
     };
     let Some(subjects) = subjects_at(alloc, members)? else {
@@ -78,18 +79,6 @@ fn entry_of(
     }))
 }
 
-fn privilege_at(members: &[(Tag, Value)]) -> Option<Privilege>
-    ensures { result ≡ option_and_then privilege_numbered (option_and_then unsigned_in (field_in 1 (elements members.now))) }
-{
-    Privilege::numbered(unsigned_of(field(members, PRIVILEGE)?)?)
-}
-
-fn mode_at(members: &[(Tag, Value)]) -> Option<Auth>
-    ensures { result ≡ option_and_then mode_numbered (option_and_then unsigned_in (field_in 2 (elements members.now))) }
-{
-    Auth::numbered(unsigned_of(field(members, AUTH_MODE)?)?)
-}
-
 fn subjects_at(alloc: Global, members: &[(Tag, Value)]) -> Result<Option<Subjects>, AllocError>
     ensures { IfOk result (λ subjects. subjects ≡ option_and_then (list_in unsigned_in) (field_in 3 (elements members.now))) }
 {
@@ -105,22 +94,9 @@ fn subjects_of(alloc: Global, value: &Value) -> Result<Option<Subjects>, AllocEr
 {
     match value {
         Value::Null => Ok(Some(Subjects::new(alloc))),
-        Value::Array(members) => each_subject(alloc, members.as_slice()),
+        Value::Array(members) => each(alloc, members.as_slice(), |member| Ok(unsigned_of(member))),
         _ => Ok(None),
     }
-}
-
-fn each_subject(alloc: Global, members: &[(Tag, Value)]) -> Result<Option<Subjects>, AllocError>
-    ensures { IfOk result (λ subjects. subjects ≡ each_in unsigned_in (elements members.now)) }
-{
-    let mut subjects = Subjects::new(alloc);
-    for member in members {
-        let Some(subject) = unsigned_of(&member.1) else {
-            return Ok(None);
-        };
-        subjects.push(subject)?;
-    }
-    Ok(Some(subjects))
 }
 
 fn targets_at(alloc: Global, members: &[(Tag, Value)]) -> Result<Option<Targets>, AllocError>
@@ -138,20 +114,7 @@ fn targets_of(alloc: Global, value: &Value) -> Result<Option<Targets>, AllocErro
 {
     match value {
         Value::Null => Ok(Some(Targets::new(alloc))),
-        Value::Array(members) => each_target(alloc, members.as_slice()),
+        Value::Array(members) => each(alloc, members.as_slice(), |member| Ok(target_of(member))),
         _ => Ok(None),
     }
-}
-
-fn each_target(alloc: Global, members: &[(Tag, Value)]) -> Result<Option<Targets>, AllocError>
-    ensures { IfOk result (λ targets. targets ≡ each_in target_in (elements members.now)) }
-{
-    let mut targets = Targets::new(alloc);
-    for member in members {
-        let Some(target) = target_of(&member.1) else {
-            return Ok(None);
-        };
-        targets.push(target)?;
-    }
-    Ok(Some(targets))
 }
