@@ -1,4 +1,3 @@
-pub mod EachIn
 pub mod Elements
 pub mod Reading
 pub mod Walks

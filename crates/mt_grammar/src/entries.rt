@@ -3,18 +3,16 @@
 ghost use Rattle.std.specs.Prelude.{◌≡◌, ◌∷◌, [], IfOk, is_some, option_and_then};
 ghost use Rattle.mt_tlv.specs.Scalars.{unsigned_in};
 ghost use Rattle.mt_tlv.specs.View.{elements, tree};
-ghost use Rattle.mt_model.specs.tables.Entries.{each_in, mode_numbered, privilege_numbered};
 ghost use Rattle.mt_model.specs.Trees.{field_in};
 ghost use Rattle.mt_grammar.specs.Fields.{fields_in, some_in};
 ghost use Rattle.mt_grammar.specs.Values.{entries_in, entry_in, entry_of, subjects_in, targets_in, whole_target_in};
 
-use crate::fields::{array_in, fields_in, if_some, is_null, unsigned_at};
+use crate::fields::{array_in, fields_in, if_some, is_null};
 use crate::rows::is_of;
-use mt_meta::clusters::access_control::{AUTH_MODE, PRIVILEGE, SUBJECTS, TARGETS};
+use mt_entries::{each, mode_in, privilege_in};
+use mt_meta::clusters::access_control::{SUBJECTS, TARGETS};
 use mt_meta::target_of;
-use mt_model::{
-    AclEntries, AclEntry, Auth, Privilege, Subjects, Target, Targets, field, unsigned_of,
-};
+use mt_model::{AclEntries, AclEntry, Subjects, Target, Targets, field, unsigned_of};
 use mt_tlv::{Tag, Value};
 use std::alloc::{AllocError, Global};
 
@@ -29,27 +27,10 @@ pub(crate) fn entries_in(
     let Some(members) = array_in(value) else {
         return Ok(None);
     };
-    let Some(entries) = each_entry(alloc, fabric, members)? else {
+    let Some(entries) = each(alloc, members, |member| entry_in(alloc, fabric, member))? else {
         return Ok(None);
     };
     Ok(if_some(entries))
-}
-
-fn each_entry(
-    alloc: Global,
-    fabric: u8,
-    members: &[(Tag, Value)],
-) -> Result<Option<AclEntries>, AllocError>
-    ensures { IfOk result (λ entries. entries ≡ each_in (entry_in fabric) (elements members.now)) }
-{
-    let mut entries = AclEntries::new(alloc);
-    for member in members {
-        let Some(entry) = entry_in(alloc, fabric, &member.1)? else {
-            return Ok(None);
-        };
-        entries.push(entry)?;
-    }
-    Ok(Some(entries))
 }
 
 fn entry_in(alloc: Global, fabric: u8, item: &Value) -> Result<Option<AclEntry>, AllocError>
@@ -71,10 +52,10 @@ fn entry_of(
     if !is_of(fabric, members) {
         return Ok(None);
     }
-    let Some(privilege) = privilege_at(members) else {
+    let Some(privilege) = privilege_in(members) else {
         return Ok(None);
     };
-    let Some(auth) = mode_at(members) else {
+    let Some(auth) = mode_in(members) else {
         return Ok(None);
     };
     let Some(subjects) = subjects_at(alloc, members)? else {
@@ -90,18 +71,6 @@ fn entry_of(
         targets,
         fabric,
     }))
-}
-
-fn privilege_at(members: &[(Tag, Value)]) -> Option<Privilege>
-    ensures { result ≡ option_and_then privilege_numbered (option_and_then unsigned_in (field_in 1 (elements members.now))) }
-{
-    Privilege::numbered(unsigned_at(members, PRIVILEGE)?)
-}
-
-fn mode_at(members: &[(Tag, Value)]) -> Option<Auth>
-    ensures { result ≡ option_and_then mode_numbered (option_and_then unsigned_in (field_in 2 (elements members.now))) }
-{
-    Auth::numbered(unsigned_at(members, AUTH_MODE)?)
 }
 
 fn subjects_at(alloc: Global, members: &[(Tag, Value)]) -> Result<Option<Subjects>, AllocError>
@@ -129,23 +98,10 @@ fn some_subjects(alloc: Global, value: &Value) -> Result<Option<Subjects>, Alloc
     let Some(members) = array_in(value) else {
         return Ok(None);
     };
-    let Some(subjects) = each_subject(alloc, members)? else {
+    let Some(subjects) = each(alloc, members, |member| Ok(unsigned_of(member)))? else {
         return Ok(None);
     };
     Ok(if_some(subjects))
-}
-
-fn each_subject(alloc: Global, members: &[(Tag, Value)]) -> Result<Option<Subjects>, AllocError>
-    ensures { IfOk result (λ subjects. subjects ≡ each_in unsigned_in (elements members.now)) }
-{
-    let mut subjects = Subjects::new(alloc);
-    for member in members {
-        let Some(subject) = unsigned_of(&member.1) else {
-            return Ok(None);
-        };
-        subjects.push(subject)?;
-    }
-    Ok(Some(subjects))
 }
 
 fn targets_at(alloc: Global, members: &[(Tag, Value)]) -> Result<Option<Targets>, AllocError>
@@ -173,23 +129,10 @@ fn some_targets(alloc: Global, value: &Value) -> Result<Option<Targets>, AllocEr
     let Some(members) = array_in(value) else {
         return Ok(None);
     };
-    let Some(targets) = each_target(alloc, members)? else {
+    let Some(targets) = each(alloc, members, |member| Ok(whole_target_in(member)))? else {
         return Ok(None);
     };
     Ok(if_some(targets))
-}
-
-fn each_target(alloc: Global, members: &[(Tag, Value)]) -> Result<Option<Targets>, AllocError>
-    ensures { IfOk result (λ targets. targets ≡ each_in whole_target_in (elements members.now)) }
-{
-    let mut targets = Targets::new(alloc);
-    for member in members {
-        let Some(target) = whole_target_in(&member.1) else {
-            return Ok(None);
-        };
-        targets.push(target)?;
-    }
-    Ok(Some(targets))
 }
 
 // A target with all its fields.

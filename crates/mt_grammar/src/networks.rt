@@ -1,13 +1,12 @@
 //! Root certificates and networks as they are kept.
 
 ghost use Rattle.std.specs.Prelude.{◌≡◌, IfOk};
-ghost use Rattle.mt_tlv.specs.Scalars.{octets_in};
 ghost use Rattle.mt_tlv.specs.View.{elements, tree};
-ghost use Rattle.mt_model.specs.tables.Entries.{each_in};
 ghost use Rattle.mt_grammar.specs.Fields.{all_in};
 ghost use Rattle.mt_grammar.specs.Values.{network_in, network_of, networks_in, roots_in};
 
 use crate::fields::{array_in, fields_in, if_some, octets_at, octets_in, truth_at};
+use mt_entries::each;
 use mt_model::{Network, Networks, Roots};
 use mt_tlv::{Tag, Value};
 use std::alloc::{AllocError, Global};
@@ -19,23 +18,10 @@ pub(crate) fn roots_in(alloc: Global, value: &Value) -> Result<Option<Roots>, Al
     let Some(members) = array_in(value) else {
         return Ok(None);
     };
-    let Some(roots) = each_root(alloc, members)? else {
+    let Some(roots) = each(alloc, members, octets_in)? else {
         return Ok(None);
     };
     Ok(if_some(roots))
-}
-
-fn each_root(alloc: Global, members: &[(Tag, Value)]) -> Result<Option<Roots>, AllocError>
-    ensures { IfOk result (λ roots. roots ≡ each_in octets_in (elements members.now)) }
-{
-    let mut roots = Roots::new(alloc);
-    for member in members {
-        let Some(root) = octets_in(&member.1)? else {
-            return Ok(None);
-        };
-        roots.push(root)?;
-    }
-    Ok(Some(roots))
 }
 
 /// The networks that a value is, None where it is none or there are none.
@@ -53,22 +39,9 @@ pub(crate) fn all_networks_in(alloc: Global, value: &Value) -> Result<Option<Net
     ensures { IfOk result (λ networks. networks ≡ all_in network_in (tree value.now)) }
 {
     match array_in(value) {
-        Some(members) => each_network(alloc, members),
+        Some(members) => each(alloc, members, network_in),
         None => Ok(None),
     }
-}
-
-fn each_network(alloc: Global, members: &[(Tag, Value)]) -> Result<Option<Networks>, AllocError>
-    ensures { IfOk result (λ networks. networks ≡ each_in network_in (elements members.now)) }
-{
-    let mut networks = Networks::new(alloc);
-    for member in members {
-        let Some(network) = network_in(&member.1)? else {
-            return Ok(None);
-        };
-        networks.push(network)?;
-    }
-    Ok(Some(networks))
 }
 
 fn network_in(value: &Value) -> Result<Option<Network>, AllocError>

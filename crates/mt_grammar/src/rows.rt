@@ -4,7 +4,6 @@ ghost use Rattle.std.specs.Prelude.{◌≡◌, ◌∷◌, [], false, Some, IfOk,
 ghost use Rattle.mt_tlv.specs.Tree as trees;
 ghost use Rattle.mt_tlv.specs.View.{elements, tree};
 ghost use Rattle.mt_tlv.specs.declared.value.Value.TheVariants as values;
-ghost use Rattle.mt_model.specs.tables.Entries.{each_in};
 ghost use Rattle.mt_meta.specs.Finding.{find_of};
 ghost use Rattle.mt_meta.specs.Stored.{row_in};
 ghost use Rattle.mt_meta.specs.declared.rows.FirstValue.TheVariants as first;
@@ -14,6 +13,7 @@ ghost use Rattle.mt_grammar.specs.Values.{has_items, if_few, is_acl, is_first, i
 use crate::fields::{array_in, is_null, unsigned_at};
 use crate::forms::has_form;
 use crate::kept::KeptRows;
+use mt_entries::each;
 use mt_meta::{AttributeRow, FirstValue, Kind, Meta, Origin, attributes_of, find};
 use mt_model::{Place, Row};
 use mt_tlv::{Tag, Value};
@@ -183,7 +183,7 @@ pub(crate) fn items_in(
     let Some(members) = array_in(value) else {
         return Ok(None);
     };
-    let Some(rows) = each_item(alloc, place, fabric, meta, members)? else {
+    let Some(rows) = each(alloc, members, |item| item_in(place, fabric, meta, item))? else {
         return Ok(None);
     };
     Ok(if_few(meta.limit, rows))
@@ -197,26 +197,6 @@ fn if_few(most: u16, rows: KeptRows) -> Option<KeptRows>
         return Some(rows);
     }
     None
-}
-
-fn each_item(
-    alloc: Global,
-    place: &Place,
-    fabric: u8,
-    meta: &Meta,
-    members: &[(Tag, Value)],
-) -> Result<Option<KeptRows>, AllocError>
-    requires { is_acl meta.now.kind ≡ false }
-    ensures { IfOk result (λ rows. rows ≡ each_in (item_in place.now fabric meta.now) (elements members.now)) }
-{
-    let mut rows = KeptRows::new(alloc);
-    for member in members {
-        let Some(row) = item_in(place, fabric, meta, &member.1)? else {
-            return Ok(None);
-        };
-        rows.push(row)?;
-    }
-    Ok(Some(rows))
 }
 
 // An item of a fabric as a row.
