@@ -1,6 +1,6 @@
 -- What holds between the keys of what is kept, as it holds of a valid state. That the indexes of fabrics rise, and rows and entries
 -- stand by place and fabric, follows from the order of keys; that indexes are at most 16, from the form of keys.
-use Rattle.std.specs.Prelude.{ℕ, ◌==◌, ◌&&◌, ◌||◌, not, nat_le, bytes_eq, count_by, is_some, Bool, true, false, List, length, Option, Some, None, if◌then◌else◌}
+use Rattle.std.specs.Prelude.{ℕ, ◌==◌, ◌&&◌, ◌||◌, not, nat_le, bytes_eq, count_by, is_some, Bool, true, List, length, Option, Some, None}
 use Rattle.std.specs.List.{list_all, list_any}
 use Rattle.mt_fabrics.specs.Table.{is_used}
 use Rattle.mt_failsafe.specs.Facts.{is_added_to, is_updated_in}
