@@ -16,7 +16,8 @@ use crate::running::Running;
 use crate::side::{Here, Side};
 use mt_differences::parts_come_in_order;
 use mt_marks::{Mark, Part, first_difference};
-use mt_model::{ExactCopy, NodeSession, Standing};
+use mt_model::{ExactCopy, NodeSession};
+use mt_subs::is_live_as;
 use std::alloc::{AllocError, Global};
 
 /// The first part in which the marks at which two sides stand differ, None where they don't.
@@ -95,13 +96,4 @@ fn live_sessions(
         }
     }
     Ok(live)
-}
-
-fn is_live_as(fabric: u8, standing: Standing) -> bool
-    ensures { result ≡ stands_for fabric standing }
-{
-    match standing {
-        Standing::Live(of) => of == fabric,
-        Standing::Waits | Standing::Ended => false,
-    }
 }

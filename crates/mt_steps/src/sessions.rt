@@ -2,9 +2,9 @@
 
 ghost use Rattle.std.specs.Prelude.{◌≡◌, IfOk, map};
 ghost use Rattle.mt_machine.specs.Effects.{is_on, is_pase, is_plain, plain_joined, plain_without, session_completed, session_joined, session_without, standing_completed, standing_joined};
-ghost use Rattle.mt_subs.specs.Leaving.{is_live_as};
 
 use mt_model::{Actor, Auth, ExactCopy, Fabric, NodeSession, NodeSessions, Standing};
+use mt_subs::is_live_as;
 use std::alloc::{AllocError, Global};
 
 /// The sessions once commissioning for this fabric is complete: those of PASE that have it end.
@@ -148,16 +148,6 @@ fn session_without(index: u8, session: &NodeSession) -> Result<NodeSession, Allo
         return with_standing(session, Standing::Ended);
     }
     session.copy()
-}
-
-fn is_live_as(index: u8, standing: Standing) -> bool
-    ensures { result ≡ is_live_as index standing }
-{
-    match standing {
-        Standing::Live(fabric) => fabric == index,
-        Standing::Waits => false,
-        Standing::Ended => false,
-    }
 }
 
 /// The fabric of the plain session, which ends where that is this one.

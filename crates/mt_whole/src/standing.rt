@@ -1,13 +1,13 @@
 //! What stands over the sessions of a fabric, and whether it is the same in two wholes.
 
 ghost use Rattle.std.specs.Prelude.{◌≡◌, ◌↔◌, ◌∷◌, ◌<◌, [], IfNone, IfSome, IsTrue, length};
-ghost use Rattle.mt_subs.specs.Leaving.{is_live_as};
 ghost use Rattle.mt_whole.specs.Seeing.{is_live_for, standing_in, standings_in, standings_of};
 
 use crate::talks::SessionTalk;
 use crate::whole::Whole;
-use mt_model::{NodeSession, Standing};
+use mt_model::NodeSession;
 use mt_own::are_exchanges_same;
+use mt_subs::is_live_as;
 
 /// Whether what stands over a fabric's live sessions is the same in two wholes.
 pub(crate) fn are_standings_same(fabric: u8, one: &Whole, other: &Whole) -> bool
@@ -67,15 +67,6 @@ fn is_live_for(fabric: u8, sessions: &[NodeSession], id: u16) -> bool
     ensures { result ≡ is_live_for fabric sessions.now id }
 {
     sessions.iter().any(|session| is_live_as(fabric, session.standing) && session.session == id)
-}
-
-fn is_live_as(fabric: u8, standing: Standing) -> bool
-    ensures { result ≡ is_live_as fabric standing }
-{
-    match standing {
-        Standing::Live(of) => of == fabric,
-        Standing::Waits | Standing::Ended => false,
-    }
 }
 
 fn is_standing_same(talk: &SessionTalk, other: &SessionTalk) -> bool
