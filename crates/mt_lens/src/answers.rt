@@ -1,13 +1,16 @@
 //! Answers in words.
 
+use crate::fronts::{Fronts, STRUCTURE, Unread};
+use crate::hearing::{
+    Happening, Hears, Report, expected_report, hear_invoked, hear_report, hear_written,
+};
 use crate::page::{Colour, Page};
-use crate::shapes::{shape_of_attribute, shape_of_event, shape_of_response};
-use crate::values::show_value;
-use crate::words::{ITEM, Leaf, is_empty, show_message_name, show_path, whole_of};
-use mt_answers::read_answer;
-use mt_model::{Happened, Item, Path, Place, Reply};
+use crate::words::{ITEM, Leaf, show_message_name, show_path, whole_of};
+use mt_model::Path;
+use mt_model::opcode::{
+    INVOKE_RESPONSE, REPORT_DATA, STATUS_RESPONSE, SUBSCRIBE_RESPONSE, WRITE_RESPONSE,
+};
 use mt_names::{status_name, status_of};
-use mt_tlv::Value;
 
 /// A status by its name and its code.
 pub(crate) fn show_status(page: &mut Page, code: u8) {
@@ -30,150 +33,154 @@ pub(crate) fn show_status(page: &mut Page, code: u8) {
 /// answer is shown by its bytes.
 pub(crate) fn show_answer(page: &mut Page, opcode: u8, payload: &[u8]) {
     show_message_name(page, opcode);
-    match read_answer(page.alloc(), opcode, payload) {
-        Ok(Some(answer)) => show_reply(page, &answer.reply, answer.follows),
-        Ok(None) => {
-            page.text(", which can't be read\n");
-            page.blanks(ITEM);
-            page.octets(payload);
-            page.end_line();
-        }
-        Err(_) => page.leave_gap(),
+    let before = page.len();
+    if show_message(page, opcode, payload).is_err() {
+        page.cut(before);
+        page.text(", which can't be read\n");
+        page.blanks(ITEM);
+        page.octets(payload);
+        page.end_line()
     }
 }
 
-fn show_reply(page: &mut Page, reply: &Reply, follows: bool) {
-    match reply {
-        Reply::Status { code } => {
-            page.byte(b' ');
-            show_status(page, *code);
-            page.end_line()
-        }
-        Reply::Report {
-            subscription,
-            items,
-            suppress,
-        } => {
-            show_report_head(page, *subscription, *suppress, follows);
-            show_items(page, items.as_slice())
-        }
-        Reply::Subscribed { id, ceiling } => {
-            page.text(", subscription ");
-            page.number(*id as u64);
-            page.text(", a report within ");
-            page.number(*ceiling as u64);
-            page.text(" s\n")
-        }
-        Reply::Written { items } => {
+fn show_message(page: &mut Page, opcode: u8, payload: &[u8]) -> Result<(), Unread> {
+    let mut fronts = Fronts::new(payload);
+    fronts.pass(&[STRUCTURE])?;
+    match opcode {
+        STATUS_RESPONSE => show_status_response(page, &mut fronts)?,
+        REPORT_DATA => show_report(page, &mut fronts)?,
+        SUBSCRIBE_RESPONSE => show_subscribed(page, &mut fronts)?,
+        WRITE_RESPONSE => {
             page.end_line();
-            show_written(page, items.as_slice())
+            hear_written(page, &mut fronts)?
         }
-        Reply::Invoked { command, fields } => {
+        INVOKE_RESPONSE => {
             page.end_line();
-            show_response(page, command, fields)
+            hear_invoked(page, &mut fronts)?
         }
-        Reply::InvokeStatus { command, code } => {
-            page.end_line();
-            page.blanks(ITEM);
-            show_path(page, &Path::from(*command), Leaf::Command);
-            page.text("  ");
-            show_status(page, *code);
-            page.end_line()
-        }
-        Reply::Nothing => page.end_line(),
+        _ => return Err(Unread),
     }
+    Ok(())
+}
+
+fn show_status_response(page: &mut Page, fronts: &mut Fronts<'_>) -> Result<(), Unread> {
+    let code = fronts.octet(0)?;
+    page.byte(b' ');
+    show_status(page, code);
+    page.end_line();
+    fronts.close()
+}
+
+fn show_subscribed(page: &mut Page, fronts: &mut Fronts<'_>) -> Result<(), Unread> {
+    let id = fronts.word(0)?;
+    let ceiling = fronts.short(2)?;
+    page.text(", subscription ");
+    page.number(id as u64);
+    page.text(", a report within ");
+    page.number(ceiling as u64);
+    page.text(" s\n");
+    fronts.close()
+}
+
+// What a report says of itself stands in front of its items, and is heard behind them: it is shown as it is expected, and
+// once more where it was not so.
+fn show_report(page: &mut Page, fronts: &mut Fronts<'_>) -> Result<(), Unread> {
+    let start = *fronts;
+    let before = page.len();
+    let mut report = expected_report(fronts);
+    for _ in 0..2 {
+        show_report_head(page, report);
+        let begun = page.len();
+        let heard = hear_report(page, fronts)?;
+        if heard == report {
+            if page.len() == begun {
+                page.blanks(ITEM);
+                page.text("nothing\n");
+            }
+            return Ok(());
+        }
+        page.cut(before);
+        *fronts = start;
+        report = heard;
+    }
+    Err(Unread)
 }
 
 // Of which subscription a report is, whether more follows, and whether the last is to be confirmed.
-fn show_report_head(page: &mut Page, subscription: Option<u32>, suppress: bool, follows: bool) {
-    if let Some(id) = subscription {
+fn show_report_head(page: &mut Page, report: Report) {
+    if let Some(id) = report.subscription {
         page.text(", subscription ");
         page.number(id as u64);
     }
-    if follows {
+    if report.follows {
         page.text(", more follows");
-    } else if !suppress {
+    } else if !report.suppress {
         page.text(", to be confirmed");
     }
     page.end_line()
 }
 
-fn show_items(page: &mut Page, items: &[Item]) {
-    if items.is_empty() {
-        page.blanks(ITEM);
-        return page.text("nothing\n");
+impl Hears for Page {
+    fn begin_attribute(&mut self, path: &Path, version: u32) {
+        self.blanks(ITEM);
+        show_path(self, path, Leaf::Attribute);
+        self.text("  version ");
+        self.number(version as u64);
+        self.text("  ")
     }
-    for item in items {
-        page.blanks(ITEM);
-        show_item(page, item);
-        page.end_line();
+
+    fn end_attribute(&mut self, _version: u32) {
+        self.end_line()
+    }
+
+    fn begin_event(&mut self, event: &Happening) {
+        self.blanks(ITEM);
+        self.text("event ");
+        self.number(event.number);
+        self.text(", ");
+        show_path(self, &event.path, Leaf::Event);
+        self.text(match event.priority {
+            0 => ", debug, at ",
+            1 => ", info, at ",
+            2 => ", critical, at ",
+            _ => ", at ",
+        });
+        self.number(event.at);
+        self.text(" ms  ")
+    }
+
+    fn end_event(&mut self) {
+        self.end_line()
+    }
+
+    fn begin_response(&mut self, path: &Path) {
+        self.blanks(ITEM);
+        show_path(self, path, Leaf::Response);
+        self.text(NO_FIELDS_YET)
+    }
+
+    // Fields that are none are not shown.
+    fn end_response(&mut self) {
+        if self.bytes().ends_with(NO_FIELDS) {
+            self.cut(self.len().saturating_sub(NO_FIELDS.len()));
+        }
+        self.end_line()
+    }
+
+    // Which items of lists were meant is said where they were asked.
+    fn refused(&mut self, path: &Path, leaf: Leaf, code: u8) {
+        self.blanks(ITEM);
+        if let Leaf::Event = leaf {
+            self.text("events ");
+        }
+        show_path(self, &whole_of(path), leaf);
+        self.text("  ");
+        show_status(self, code);
+        self.end_line()
     }
 }
 
-// The statuses of a write's items, in their order: which items of lists were meant is said where they were asked.
-fn show_written(page: &mut Page, items: &[Item]) {
-    for item in items {
-        if let Item::Refused { path, code } = item {
-            page.blanks(ITEM);
-            show_path(page, &whole_of(path), Leaf::Attribute);
-            page.text("  ");
-            show_status(page, *code);
-            page.end_line();
-        }
-    }
-}
+// What stands between a response and its fields, and what stands there where these are none.
+const NO_FIELDS_YET: &str = "  ";
 
-fn show_item(page: &mut Page, item: &Item) {
-    match item {
-        Item::Attribute {
-            path,
-            version,
-            value,
-        } => {
-            show_path(page, path, Leaf::Attribute);
-            page.text("  version ");
-            page.number(*version as u64);
-            page.text("  ");
-            show_value(page, value, shape_of_attribute(path, value), ITEM)
-        }
-        Item::Refused { path, code } => {
-            show_path(page, path, Leaf::Attribute);
-            page.text("  ");
-            show_status(page, *code)
-        }
-        Item::Event(happened) => show_event(page, happened),
-        Item::EventRefused { path, code } => {
-            page.text("events ");
-            show_path(page, path, Leaf::Event);
-            page.text("  ");
-            show_status(page, *code)
-        }
-    }
-}
-
-// An event that happened.
-fn show_event(page: &mut Page, happened: &Happened) {
-    page.text("event ");
-    page.number(happened.number);
-    page.text(", ");
-    show_path(page, &Path::from(happened.place), Leaf::Event);
-    page.text(match happened.priority {
-        0 => ", debug, at ",
-        1 => ", info, at ",
-        2 => ", critical, at ",
-        _ => ", at ",
-    });
-    page.number(happened.at);
-    page.text(" ms  ");
-    show_value(page, &happened.value, shape_of_event(&happened.place), ITEM)
-}
-
-fn show_response(page: &mut Page, command: &Place, fields: &Value) {
-    page.blanks(ITEM);
-    show_path(page, &Path::from(*command), Leaf::Response);
-    if !is_empty(fields) {
-        page.text("  ");
-        show_value(page, fields, shape_of_response(command), ITEM);
-    }
-    page.end_line()
-}
+const NO_FIELDS: &[u8] = b"  {}";

@@ -2,7 +2,8 @@
 
 ghost use Rattle.std.specs.Io.{StartsWith};
 
-use crate::json_messages::{put_answer, put_malformed, put_request};
+use crate::json_answers::put_answer;
+use crate::json_messages::{put_malformed, put_request};
 use crate::json_objects::Object;
 use crate::page::Page;
 use crate::telling::INTERACTION_MODEL;
@@ -17,7 +18,7 @@ use mt_outside::Peer;
 pub fn show_object(page: &mut Page, told: &Told<'_>)
     ensures kept { StartsWith page.new page.old }
 {
-    let mut out = Object::on(page);
+    let mut out = Object::on(page, told.room());
     put_told(&mut out, told);
     let mut line = out.into_page();
     line.end_line();
@@ -25,7 +26,7 @@ pub fn show_object(page: &mut Page, told: &Told<'_>)
 }
 
 fn put_told(out: &mut Object, told: &Told<'_>) {
-    let others = out.open();
+    out.open();
     put_asked(out, told);
     put_event(out, told.line, told.event);
     put_expiry(out, told.expiry);
@@ -33,7 +34,7 @@ fn put_told(out: &mut Object, told: &Told<'_>) {
         Some(messages) => put_messages(out, messages.as_slice()),
         None => out.truth("unsupported", true),
     }
-    out.close(others)
+    out.close()
 }
 
 // Whether the fail-safe expires, and for which fabrics.
@@ -132,10 +133,10 @@ fn put_cats(out: &mut Object, cats: &[u32; 3]) {
 
 fn put_cat(out: &mut Object, cat: u32) {
     let [a, b, c, d] = cat.to_be_bytes();
-    let others = out.open();
+    out.open();
     out.number("identifier", u16::from_be_bytes([a, b]) as u64);
     out.number("version", u16::from_be_bytes([c, d]) as u64);
-    out.close(others)
+    out.close()
 }
 
 // What was asked.
@@ -152,13 +153,13 @@ fn put_asked(out: &mut Object, told: &Told<'_>) {
         return;
     };
     out.key("asks");
-    let others = out.open();
+    out.open();
     match &told.asked {
         Some(Ok(request)) => put_request(out, *opcode, request),
         Some(Err(fault)) => { put_malformed(out, *opcode, payload.as_slice(), *fault) }
         None => {}
     }
-    out.close(others)
+    out.close()
 }
 
 // What was sent.
@@ -167,9 +168,9 @@ fn put_messages(out: &mut Object, messages: &[Message<'_>]) {
     out.open_list();
     for message in messages {
         out.next_item();
-        let others = out.open();
+        out.open();
         put_sent(out, message);
-        out.close(others);
+        out.close();
     }
     out.close_list()
 }
@@ -242,7 +243,7 @@ fn put_header(out: &mut Object, header: &ProtocolHeader) {
 fn put_payload(out: &mut Object, header: &ProtocolHeader, payload: &[u8], is_received: bool) {
     let opcode = header.opcode;
     out.key(if is_received { "asks" } else { "message" });
-    let others = out.open();
+    out.open();
     if header.vendor.is_some() || header.protocol != INTERACTION_MODEL {
         out.octets("bytes", payload);
         out.number("opcode", opcode as u64);
@@ -254,5 +255,5 @@ fn put_payload(out: &mut Object, header: &ProtocolHeader, payload: &[u8], is_rec
     } else {
         put_answer(out, opcode, payload);
     }
-    out.close(others)
+    out.close()
 }

@@ -1,16 +1,19 @@
-//! Requests and answers as objects of JSON.
+//! Requests as objects of JSON.
 
 use crate::json_objects::Object;
-use crate::json_values::{put_text, put_value};
-use crate::shapes::{shape_of_attribute, shape_of_command, shape_of_event, shape_of_response};
+use crate::json_values::put_text;
+use crate::shapes::{shape_of_attribute, shape_of_command};
+use crate::values::{Where, show_tree};
 use crate::words::{Leaf, query_of, show_cluster, show_fault, show_path, whole_of};
-use mt_answers::read_answer;
 use mt_im::ImFault;
-use mt_model::{Happened, Index, Item, Path, Reply, Request, Version, WriteItem};
+use mt_model::{Index, Path, Request, Version, WriteItem};
 use mt_names::{message_name, status_name, status_of};
 
-// The name of a message, and its opcode.
-fn put_name(out: &mut Object, opcode: u8) {
+// How many bytes the words for a fault take at most.
+const ROOM: usize = 128;
+
+/// The name of a message, and its opcode.
+pub(crate) fn put_name(out: &mut Object, opcode: u8) {
     if let Some(name) = message_name(opcode) {
         out.text("message", name);
     }
@@ -45,7 +48,7 @@ pub(crate) fn put_request(out: &mut Object, opcode: u8, request: &Request) {
             put_manner(out, *suppress, *timed);
             put_path(out, &Path::from(*command), Leaf::Command);
             out.key("fields");
-            put_value(out, fields, shape_of_command(command))
+            show_tree(out, fields, Where::whole(shape_of_command(command), 0))
         }
         Request::Timed { ms } => {
             put_name(out, opcode);
@@ -57,7 +60,7 @@ pub(crate) fn put_request(out: &mut Object, opcode: u8, request: &Request) {
 /// A payload that is no request: its first fault, and its bytes.
 pub(crate) fn put_malformed(out: &mut Object, opcode: u8, payload: &[u8], fault: ImFault) {
     out.octets("bytes", payload);
-    let mut page = out.page.fresh();
+    let mut page = out.page.plain(ROOM);
     show_fault(&mut page, opcode, payload, fault);
     out.key("malformed");
     match page.whole() {
@@ -100,21 +103,21 @@ fn put_paths(out: &mut Object, key: &str, paths: &[Path], leaf: Leaf) {
     out.open_list();
     for path in paths {
         out.next_item();
-        let others = out.open();
+        out.open();
         put_path(out, path, leaf);
-        out.close(others);
+        out.close();
     }
     out.close_list()
 }
 
-// A path by its names, and by its numbers; a wildcard has none.
-fn put_path(out: &mut Object, path: &Path, leaf: Leaf) {
+/// A path by its names, and by its numbers; a wildcard has none.
+pub(crate) fn put_path(out: &mut Object, path: &Path, leaf: Leaf) {
     put_cluster(out, path);
     put_leaf(out, path, leaf)
 }
 
-// What is refused, and why.
-fn put_refused(out: &mut Object, path: &Path, leaf: Leaf, code: u8) {
+/// What is refused, and why.
+pub(crate) fn put_refused(out: &mut Object, path: &Path, leaf: Leaf, code: u8) {
     put_cluster(out, path);
     out.number("code", code as u64);
     put_leaf(out, path, leaf);
@@ -133,13 +136,15 @@ fn put_cluster(out: &mut Object, path: &Path) {
 // What of a path stands behind its cluster. No name has anything to be escaped.
 fn put_leaf(out: &mut Object, path: &Path, leaf: Leaf) {
     if let Some(endpoint) = path.endpoint {
-        out.number("endpoint", endpoint as u64);
+        out.next_key("\"endpoint\":");
+        out.page.number(endpoint as u64);
     }
     if let Some(id) = path.leaf {
         out.number("id", id as u64);
     }
     if let Index::At(number) = path.index {
-        out.number("item", number as u64);
+        out.next_key("\"item\":");
+        out.page.number(number as u64);
     }
     out.key("path");
     out.page.byte(b'"');
@@ -159,7 +164,7 @@ fn put_versions(out: &mut Object, versions: &[Version]) {
 }
 
 fn put_version(out: &mut Object, known: &Version) {
-    let others = out.open();
+    out.open();
     out.number("cluster", known.cluster as u64);
     out.number("endpoint", known.endpoint as u64);
     out.key("name");
@@ -167,7 +172,7 @@ fn put_version(out: &mut Object, known: &Version) {
     show_cluster(&mut out.page, known.cluster);
     out.page.byte(b'"');
     out.number("version", known.version as u64);
-    out.close(others)
+    out.close()
 }
 
 fn put_writes(out: &mut Object, items: &[WriteItem]) {
@@ -181,118 +186,23 @@ fn put_writes(out: &mut Object, items: &[WriteItem]) {
 }
 
 fn put_write(out: &mut Object, item: &WriteItem) {
-    let others = out.open();
+    out.open();
     put_path(out, &item.path, Leaf::Attribute);
     out.key("value");
-    put_value(
+    show_tree(
         out,
         &item.value,
-        shape_of_attribute(&item.path, &item.value),
+        Where::whole(shape_of_attribute(&item.path), 0),
     );
     if let Some(version) = item.version {
         out.number("version", version as u64);
     }
-    out.close(others)
+    out.close()
 }
 
-// The name of a status.
-fn put_status_name(out: &mut Object, code: u8) {
+/// The name of a status.
+pub(crate) fn put_status_name(out: &mut Object, code: u8) {
     if let Some(status) = status_of(code) {
         out.text("status", status_name(status));
     }
-}
-
-/// An answer. What can't be read as one is told by its bytes.
-pub(crate) fn put_answer(out: &mut Object, opcode: u8, payload: &[u8]) {
-    match read_answer(out.page.alloc(), opcode, payload) {
-        Ok(Some(answer)) => put_reply(out, opcode, &answer.reply, answer.follows),
-        Ok(None) => {
-            out.octets("bytes", payload);
-            put_name(out, opcode)
-        }
-        Err(_) => out.page.leave_gap(),
-    }
-}
-
-fn put_reply(out: &mut Object, opcode: u8, reply: &Reply, follows: bool) {
-    match reply {
-        Reply::Status { code } => {
-            out.number("code", *code as u64);
-            put_name(out, opcode);
-            put_status_name(out, *code)
-        }
-        Reply::Report {
-            subscription,
-            items,
-            suppress,
-        } => {
-            out.truth("follows", follows);
-            put_items(out, items.as_slice());
-            put_name(out, opcode);
-            if let Some(id) = subscription {
-                out.number("subscription", *id as u64);
-            }
-            out.truth("suppress", *suppress)
-        }
-        Reply::Subscribed { id, ceiling } => {
-            out.number("ceiling", *ceiling as u64);
-            put_name(out, opcode);
-            out.number("subscription", *id as u64)
-        }
-        Reply::Written { items } => {
-            put_items(out, items.as_slice());
-            put_name(out, opcode)
-        }
-        Reply::Invoked { command, fields } => {
-            put_path(out, &Path::from(*command), Leaf::Response);
-            out.key("fields");
-            put_value(out, fields, shape_of_response(command));
-            put_name(out, opcode)
-        }
-        Reply::InvokeStatus { command, code } => {
-            put_refused(out, &Path::from(*command), Leaf::Command, *code);
-            put_name(out, opcode)
-        }
-        Reply::Nothing => put_name(out, opcode),
-    }
-}
-
-fn put_items(out: &mut Object, items: &[Item]) {
-    out.key("items");
-    out.open_list();
-    for item in items {
-        out.next_item();
-        let others = out.open();
-        put_item(out, item);
-        out.close(others);
-    }
-    out.close_list()
-}
-
-fn put_item(out: &mut Object, item: &Item) {
-    match item {
-        Item::Attribute {
-            path,
-            version,
-            value,
-        } => {
-            put_path(out, path, Leaf::Attribute);
-            out.key("value");
-            put_value(out, value, shape_of_attribute(path, value));
-            out.number("version", *version as u64)
-        }
-        Item::Refused { path, code } => put_refused(out, path, Leaf::Attribute, *code),
-        Item::Event(happened) => put_happened(out, happened),
-        Item::EventRefused { path, code } => put_refused(out, path, Leaf::Event, *code),
-    }
-}
-
-// An event that happened.
-fn put_happened(out: &mut Object, happened: &Happened) {
-    out.number("at", happened.at);
-    put_path(out, &Path::from(happened.place), Leaf::Event);
-    out.number("number", happened.number);
-    out.number("priority", happened.priority as u64);
-    out.key("value");
-    put_value(out, &happened.value, shape_of_event(&happened.place))
 }

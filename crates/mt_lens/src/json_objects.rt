@@ -6,35 +6,68 @@ use serde_json::Value as Json;
 use std::alloc::{AllocError, Global};
 use std::str;
 
+// How many members are in most objects that are open.
+const ROOM: usize = 32;
+
 /// An object that is written, and those that stand in it.
 #[derive(Drop)]
 pub(crate) struct Object {
     pub page: Page,
     /// Where each member begins of the objects that are open, those of the innermost last.
     starts: Vec<usize>,
+    /// How many members of others had begun where each object was opened, the innermost last.
+    opened: Vec<usize>,
+}
+
+/// How much stands in an object at some time.
+#[derive(Clone, Copy)]
+pub(crate) struct Written {
+    bytes: usize,
+    starts: usize,
+    opened: usize,
 }
 
 impl Object {
-    /// Nothing is written yet, and no object is open. Memory is that of a page.
-    pub(crate) fn on(page: &Page) -> Object {
+    /// Nothing is written yet, and no object is open. Memory is that of a page, with room for so many bytes.
+    pub(crate) fn on(page: &Page, room: usize) -> Object {
         Object {
-            page: page.plain(),
-            starts: Vec::new(page.alloc()),
+            page: page.plain(room),
+            starts: with_room(page.alloc()),
+            opened: with_room(page.alloc()),
         }
+    }
+
+    /// How much is written so far.
+    pub(crate) fn written(&self) -> Written {
+        Written {
+            bytes: self.page.len(),
+            starts: self.starts.len(),
+            opened: self.opened.len(),
+        }
+    }
+
+    /// Forgets what was written since.
+    pub(crate) fn go_back(&mut self, written: Written) {
+        self.page.cut(written.bytes);
+        self.starts.truncate(written.starts);
+        self.opened.truncate(written.opened)
     }
 
     pub(crate) fn into_page(self) -> Page {
         self.page
     }
 
-    /// Opens an object. What is answered, `close` is told.
-    pub(crate) fn open(&mut self) -> usize {
+    /// Opens an object.
+    pub(crate) fn open(&mut self) {
         self.page.byte(b'{');
-        self.starts.len()
+        if self.opened.push(self.starts.len()).is_err() {
+            self.page.leave_gap();
+        }
     }
 
-    /// Closes the innermost object, whose members begin behind so many starts.
-    pub(crate) fn close(&mut self, others: usize) {
+    /// Closes the innermost object.
+    pub(crate) fn close(&mut self) {
+        let others = self.opened.pop().unwrap_or(0);
         order(&mut self.page, self.starts.get(others..).unwrap_or(&[]));
         self.starts.truncate(others);
         self.page.byte(b'}')
@@ -80,6 +113,15 @@ impl Object {
         self.end_key()
     }
 
+    /// Begins a member whose name comes behind those that stand in the object, so that it keeps its place. It is given
+    /// in quotes, with a colon behind it.
+    pub(crate) fn next_key(&mut self, quoted: &str) {
+        if self.page.last() != b'{' {
+            self.page.byte(b',');
+        }
+        self.page.text(quoted)
+    }
+
     /// Text in quotes, with what JSON does not let stand escaped.
     pub(crate) fn quoted(&mut self, text: &str) {
         if is_plain(text.as_bytes()) {
@@ -118,6 +160,14 @@ impl Object {
     pub(crate) fn octets(&mut self, key: &str, octets: &[u8]) {
         self.key(key);
         self.hex(octets)
+    }
+}
+
+// A list with room for the members of most objects.
+fn with_room(alloc: Global) -> Vec<usize> {
+    match Vec::with_capacity(alloc, ROOM) {
+        Ok(list) => list,
+        Err(_) => Vec::new(alloc),
     }
 }
 
@@ -163,7 +213,7 @@ fn are_ordered(bytes: &[u8], starts: &[usize]) -> bool {
 
 // The members in the order of their names, with commas between them.
 fn ordered(page: &Page, starts: &[usize]) -> Page {
-    let mut ordered = page.fresh();
+    let mut ordered = page.plain(page.len());
     let Ok(mut members) = members_at(page, starts) else {
         ordered.leave_gap();
         return ordered;

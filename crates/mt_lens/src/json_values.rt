@@ -1,104 +1,80 @@
 //! Values as JSON. A structure is an object by the names of its fields, or by their numbers; octets are a text of
 //! hex digits behind `0x`; what a number stands for is said in place of it.
 
+use crate::fronts::{LIST, STRUCTURE};
 use crate::json_objects::Object;
-use crate::shapes::{Shape, unknown};
-use mt_tlv::{Tag, Value};
+use crate::shapes::Shape;
+use crate::values::{Shows, Where};
+use mt_tlv::{Part, Tag, Value};
+use std::alloc::Global;
 use std::str;
 
-/// How many containers may be open inside each other: as many as the encoding lets.
-const ROOM: u8 = 16;
+// A structure is an object. A list may have a tag twice, so it is an array of objects of one member.
+impl Shows for Object {
+    fn show_leaf(&mut self, leaf: &Part<'_>, at: Where) {
+        match leaf {
+            Part::Scalar(_, value) => put_scalar(self, value, at),
+            Part::Text(_, text) => self.quoted(text),
+            Part::Octets(_, octets) => self.hex(octets),
+            Part::Enter(_, _) | Part::Leave => {}
+        }
+    }
 
-/// Where a value stands: what its structures are, and the field in which it stands and of what.
-#[derive(Clone, Copy)]
-struct Where {
-    shape: Shape,
-    of: Shape,
-    field: Option<u8>,
+    fn begin_container(&mut self, kind: u8) {
+        if kind == STRUCTURE {
+            self.open()
+        } else {
+            self.open_list()
+        }
+    }
+
+    fn begin_member(&mut self, kind: u8, tag: Tag, shape: Shape) {
+        if kind != STRUCTURE {
+            self.next_item();
+        }
+        if kind == LIST {
+            self.open();
+        }
+        if kind == STRUCTURE || kind == LIST {
+            put_key(self, tag, shape)
+        }
+    }
+
+    fn end_member(&mut self, kind: u8) {
+        if kind == LIST {
+            self.close()
+        }
+    }
+
+    fn end_container(&mut self, kind: u8, _at: Where) {
+        if kind == STRUCTURE {
+            self.close()
+        } else {
+            self.close_list()
+        }
+    }
+
+    fn memory(&self) -> Global {
+        self.page.alloc()
+    }
+
+    fn miss(&mut self) {
+        self.page.leave_gap()
+    }
 }
 
-/// A value, behind what stands in front of it.
-pub(crate) fn put_value(out: &mut Object, value: &Value, shape: Shape) {
-    let at = Where {
-        shape,
-        of: unknown(),
-        field: None,
-    };
-    put(out, value, at, ROOM)
-}
-
-#[cycle(json)]
-fn put(out: &mut Object, value: &Value, at: Where, room: u8) {
+fn put_scalar(out: &mut Object, value: &Value, at: Where) {
     match value {
         Value::Int(number) => out.page.signed(*number),
         Value::Uint(number) => put_number(out, *number, at),
         Value::Bool(true) => out.page.text("true"),
         Value::Bool(false) => out.page.text("false"),
-        Value::Text(text) => put_text(out, text.as_slice()),
-        Value::Octets(octets) => out.hex(octets.as_slice()),
         Value::Null => out.page.text("null"),
         Value::Bits32(bits) => out.hex(&bits.to_be_bytes()),
         Value::Bits64(bits) => out.hex(&bits.to_be_bytes()),
-        Value::Struct(members) => put_structure(out, members.as_slice(), at, room),
-        Value::Array(members) => put_array(out, members.as_slice(), at, room),
-        Value::List(members) => put_list(out, members.as_slice(), at, room),
-    }
-}
-
-#[cycle(json)]
-fn put_structure(out: &mut Object, members: &[(Tag, Value)], at: Where, room: u8) {
-    let others = out.open();
-    if room > 0 {
-        for (tag, value) in members {
-            put_member(out, *tag, value, at, room - 1);
-        }
-    }
-    out.close(others)
-}
-
-#[cycle(json)]
-fn put_array(out: &mut Object, members: &[(Tag, Value)], at: Where, room: u8) {
-    out.open_list();
-    if room > 0 {
-        for (_, value) in members {
-            out.next_item();
-            put(out, value, at, room - 1);
-        }
-    }
-    out.close_list()
-}
-
-// A list may have a tag twice, so it is an array of objects of one member.
-#[cycle(json)]
-fn put_list(out: &mut Object, members: &[(Tag, Value)], at: Where, room: u8) {
-    out.open_list();
-    if room > 0 {
-        for (tag, value) in members {
-            out.next_item();
-            let others = out.open();
-            put_member(out, *tag, value, at, room - 1);
-            out.close(others);
-        }
-    }
-    out.close_list()
-}
-
-// A member by its name.
-#[cycle(json)]
-fn put_member(out: &mut Object, tag: Tag, value: &Value, at: Where, room: u8) {
-    put_key(out, tag, at.shape);
-    put(out, value, member(at, tag), room)
-}
-
-// Where a member stands. One without a tag stands where its array does.
-fn member(at: Where, tag: Tag) -> Where {
-    match tag {
-        Tag::Context(field) => Where {
-            shape: at.shape.inner(field),
-            of: at.shape,
-            field: Some(field),
-        },
-        _ => at,
+        Value::Text(text) => put_text(out, text.as_slice()),
+        Value::Octets(octets) => out.hex(octets.as_slice()),
+        Value::Struct(_) | Value::Array(_) | Value::List(_) => {}
     }
 }
 

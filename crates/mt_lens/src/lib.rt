@@ -3,14 +3,18 @@
 //!
 //! - `told`: what is told;
 //! - `page`: text that grows;
-//! - `telling`, `words`, `answers`, `values`: lines, requests, answers and values in words;
-//! - `json`, `json_messages`, `json_values`, `json_objects`: the same as objects of JSON;
+//! - `fronts`: what stands at the front of a payload; `hearing`, `values`: answers and values, as they are read;
+//! - `telling`, `words`, `answers`, `word_values`: lines, requests, answers and values in words;
+//! - `json`, `json_messages`, `json_answers`, `json_values`, `json_objects`: the same as objects of JSON;
 //! - `places`: where a payload's first fault stands;
 //! - `shapes`: what the fields of a value are called.
 #![tactic(auto)]
 
 mod answers;
+mod fronts;
+mod hearing;
 mod json;
+mod json_answers;
 mod json_messages;
 mod json_objects;
 mod json_values;
@@ -20,6 +24,7 @@ mod shapes;
 mod telling;
 mod told;
 mod values;
+mod word_values;
 mod words;
 
 pub use json::show_object;

@@ -19,11 +19,26 @@ pub(crate) enum Colour {
     Refusal,
 }
 
-// How many bytes most lines take at most.
-const ROOM: usize = 1024;
+// How many bytes stand between two members in one line: a comma and a blank.
+const SEPARATOR: usize = 2;
 
 // As many as most lines are indented by.
 const BLANKS: [u8; 48] = [b' '; 48];
+
+/// The most bytes of a container that stand in one line.
+const LONG: usize = 100;
+
+/// How far the members of a container that takes lines are indented beyond it.
+pub(crate) const STEP: usize = 2;
+
+// A container whose members are shown.
+#[derive(Clone, Copy)]
+struct Opened {
+    /// Where its bracket stands.
+    begins: usize,
+    /// How many members of others had begun.
+    others: usize,
+}
 
 /// Text that grows. A contract sees the bytes that stand on the page.
 #[derive(Drop)]
@@ -33,6 +48,9 @@ pub struct Page {
     colours: bool,
     /// Whether there was no memory for a part of the text.
     has_gap: bool,
+    /// The containers that are open, the innermost last, and where the members of each begin.
+    opened: Vec<Opened>,
+    members: Vec<usize>,
 }
 
 impl Model for Page {
@@ -48,12 +66,7 @@ impl Page {
     pub fn new(alloc: Global, colours: bool) -> Page
         ensures empty { result ≡ [] }
     {
-        Page {
-            alloc,
-            bytes: Vec::new(alloc),
-            colours,
-            has_gap: false,
-        }
+        blank(alloc, Vec::new(alloc), colours)
     }
 
     /// The whole text; an error where there was no memory for a part of it.
@@ -89,14 +102,14 @@ impl Page {
         }
     }
 
-    /// A page with nothing on it, which has colours where this one has.
-    pub(crate) fn fresh(&self) -> Page {
-        with_room(self.alloc, self.colours)
+    /// A page with nothing on it and room for so many bytes, which has colours where this one has.
+    pub(crate) fn fresh(&self, room: usize) -> Page {
+        with_room(self.alloc, room, self.colours)
     }
 
-    /// A page with nothing on it, which has no colours.
-    pub(crate) fn plain(&self) -> Page {
-        with_room(self.alloc, false)
+    /// A page with nothing on it and room for so many bytes, which has no colours.
+    pub(crate) fn plain(&self, room: usize) -> Page {
+        with_room(self.alloc, room, false)
     }
 
     pub(crate) fn alloc(&self) -> Global {
@@ -171,7 +184,8 @@ impl Page {
     /// Bytes in hex, two digits each.
     pub(crate) fn octets(&mut self, octets: &[u8]) {
         for octet in octets {
-            self.raw(&[digit(*octet / 16), digit(*octet % 16)]);
+            self.byte(digit(*octet / 16));
+            self.byte(digit(*octet % 16));
         }
     }
 
@@ -195,6 +209,15 @@ impl Page {
     /// A text in quotes, with what can't be printed as it would stand in a source.
     pub(crate) fn quoted(&mut self, text: &[u8]) {
         self.byte(b'"');
+        if text.iter().any(|byte| is_escaped(*byte)) {
+            self.escaped(text);
+        } else {
+            self.raw(text);
+        }
+        self.byte(b'"');
+    }
+
+    fn escaped(&mut self, text: &[u8]) {
         for byte in text {
             match *byte {
                 b'"' => self.text("\\\""),
@@ -207,7 +230,77 @@ impl Page {
                 other => self.byte(other),
             }
         }
-        self.byte(b'"');
+    }
+
+    /// Opens a container, whose members follow.
+    pub(crate) fn open_members(&mut self, bracket: u8) {
+        let opened = Opened {
+            begins: self.bytes.len(),
+            others: self.members.len(),
+        };
+        self.byte(bracket);
+        if self.opened.push(opened).is_err() {
+            self.has_gap = true;
+        }
+    }
+
+    /// Begins the next member of the innermost container.
+    pub(crate) fn next_member(&mut self) {
+        let others = match self.opened.last() {
+            Some(opened) => opened.others,
+            None => 0,
+        };
+        if self.members.len() > others {
+            self.text(", ");
+        }
+        if self.members.push(self.bytes.len()).is_err() {
+            self.has_gap = true;
+        }
+    }
+
+    /// Closes the innermost container, which stands beside what is indented so far. One that is long gets a line a member.
+    pub(crate) fn close_members(&mut self, bracket: u8, indent: usize) {
+        let Some(opened) = self.opened.pop() else {
+            return;
+        };
+        let end = self.bytes.len();
+        self.byte(bracket);
+        if end.saturating_sub(opened.begins) >= LONG && self.members.len() > opened.others {
+            let lines = self.in_lines(opened, end, indent);
+            self.bytes.truncate(opened.begins);
+            self.append(&lines);
+        }
+        self.members.truncate(opened.others);
+    }
+
+    // A container with its members in lines of their own.
+    fn in_lines(&self, opened: Opened, end: usize, indent: usize) -> Page {
+        let mut lines = self.plain(end.saturating_sub(opened.begins).saturating_mul(2));
+        let bytes = self.bytes.as_slice();
+        lines.raw(
+            bytes
+                .get(opened.begins..opened.begins.saturating_add(1))
+                .unwrap_or(&[]),
+        );
+        let mut begun = None;
+        for next in self.members.get(opened.others..).unwrap_or(&[]) {
+            lines.line(indent, bytes, begun, next.saturating_sub(SEPARATOR));
+            begun = Some(*next);
+        }
+        lines.line(indent, bytes, begun, end);
+        lines.end_line();
+        lines.blanks(indent);
+        lines.raw(bytes.get(end..).unwrap_or(&[]));
+        lines
+    }
+
+    // A line for the member between two places, where one has begun.
+    fn line(&mut self, indent: usize, bytes: &[u8], begun: Option<usize>, end: usize) {
+        if let Some(begun) = begun {
+            self.end_line();
+            self.blanks(indent.saturating_add(STEP));
+            self.raw(bytes.get(begun..end).unwrap_or(&[]));
+        }
     }
 
     /// Begins a colour, where the page has colours.
@@ -230,18 +323,31 @@ impl Page {
     }
 }
 
-// A page with nothing on it, with room for what most lines tell.
-fn with_room(alloc: Global, colours: bool) -> Page {
-    let bytes = match Vec::with_capacity(alloc, ROOM) {
+// A page with nothing on it; with no room where there is no memory for that.
+fn with_room(alloc: Global, room: usize, colours: bool) -> Page {
+    let bytes = match Vec::with_capacity(alloc, room) {
         Ok(bytes) => bytes,
         Err(_) => Vec::new(alloc),
     };
+    blank(alloc, bytes, colours)
+}
+
+fn blank(alloc: Global, bytes: Vec<u8>, colours: bool) -> Page
+    ensures { result ≡ bytes.items }
+{
     Page {
         alloc,
         bytes,
         colours,
         has_gap: false,
+        opened: Vec::new(alloc),
+        members: Vec::new(alloc),
     }
+}
+
+// Whether a byte of a text can't stand in quotes as it is.
+fn is_escaped(byte: u8) -> bool {
+    byte < 32 || byte == 127 || byte == b'"' || byte == b'\\'
 }
 
 fn digit(value: u8) -> u8

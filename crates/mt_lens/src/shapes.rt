@@ -7,7 +7,6 @@ use mt_names::{
     Named, auth_name, command_field_names, event_field_names, item_field_names, name_among,
     privilege_name, response_field_names, target_field_names, value_field_names,
 };
-use mt_tlv::Value;
 
 /// What the structures in a value are.
 #[derive(Clone, Copy)]
@@ -25,11 +24,11 @@ pub(crate) fn unknown() -> Shape {
     Shape::Fields(&[])
 }
 
-/// What the structures in a value of an attribute are. It is not looked up for a value that has no members.
-pub(crate) fn shape_of_attribute(path: &Path, value: &Value) -> Shape {
-    match (path.place(), value) {
-        (Some(place), Value::Struct(_) | Value::Array(_) | Value::List(_)) => shape_at(place),
-        _ => unknown(),
+/// What the structures in a value of an attribute are.
+pub(crate) fn shape_of_attribute(path: &Path) -> Shape {
+    match path.place() {
+        Some(place) => shape_at(place),
+        None => unknown(),
     }
 }
 
@@ -56,18 +55,24 @@ pub(crate) fn shape_of_command(command: &Place) -> Shape {
 }
 
 /// What the fields of a response are.
-pub(crate) fn shape_of_response(response: &Place) -> Shape {
-    Shape::Fields(response_field_names(response.cluster, response.leaf))
+pub(crate) fn shape_of_response(path: &Path) -> Shape {
+    match path.place() {
+        Some(response) => Shape::Fields(response_field_names(response.cluster, response.leaf)),
+        None => unknown(),
+    }
 }
 
 /// What the value of an event is.
-pub(crate) fn shape_of_event(event: &Place) -> Shape {
-    if event.cluster == ACCESS_CONTROL
-        && event.leaf == access_control::ACCESS_CONTROL_ENTRY_CHANGED
-    {
-        return Shape::Changed;
+pub(crate) fn shape_of_event(path: &Path) -> Shape {
+    match path.place() {
+        Some(event) if is_entry_changed(&event) => Shape::Changed,
+        Some(event) => Shape::Fields(event_field_names(event.cluster, event.leaf)),
+        None => unknown(),
     }
-    Shape::Fields(event_field_names(event.cluster, event.leaf))
+}
+
+fn is_entry_changed(event: &Place) -> bool {
+    event.cluster == ACCESS_CONTROL && event.leaf == access_control::ACCESS_CONTROL_ENTRY_CHANGED
 }
 
 impl Shape {

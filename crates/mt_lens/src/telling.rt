@@ -24,7 +24,7 @@ const ACKNOWLEDGEMENT: u8 = 0x10;
 pub fn show_words(page: &mut Page, told: &Told<'_>)
     ensures kept { StartsWith page.new page.old }
 {
-    let mut line = page.fresh();
+    let mut line = page.fresh(told.room());
     show_line(&mut line, told);
     page.append(&line);
 }

@@ -20,6 +20,26 @@ pub struct Told<'a> {
     pub sent: Option<Vec<Message<'a>>>,
 }
 
+// How many bytes most lines take at most, but for what was sent, and how many times as long that is in words.
+const ROOM: usize = 1_000;
+
+const TIMES: usize = 5;
+
+impl Told<'_> {
+    /// How much room most lines like this one take.
+    pub(crate) fn room(&self) -> usize {
+        let mut room = ROOM;
+        if let Some(messages) = &self.sent {
+            for message in messages {
+                room = room.saturating_add(
+                    message.sent.bytes.as_slice().len().saturating_mul(TIMES),
+                );
+            }
+        }
+        room
+    }
+}
+
 /// What an expiry of the fail-safe takes back, beside the networks.
 #[derive(Clone, Copy)]
 pub struct Expiry {

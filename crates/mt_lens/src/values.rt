@@ -1,17 +1,11 @@
-//! Values in words. One that is long is shown indented, a member a line.
+//! Values, as they are read part by part, and where each part stands. In which form they are shown is for whoever shows
+//! them.
 
-use crate::page::Page;
+use crate::fronts::{ARRAY, Fronts, Unread, numbers_of};
+use crate::page::STEP;
 use crate::shapes::{Shape, unknown};
-use mt_tlv::{Tag, Value};
-
-/// The most bytes of a value that stand in one line.
-const LONG: usize = 100;
-
-/// How far the members of a long value are indented beyond it.
-const STEP: usize = 2;
-
-// What a subject begins with that names CATs.
-const CAT_SUBJECT: [u8; 4] = [0xff, 0xff, 0xff, 0xfd];
+use mt_tlv::{Cursor, Part, Tag, Value, write};
+use std::alloc::Global;
 
 /// How many containers may be open inside each other: as many as the encoding lets.
 const ROOM: u8 = 16;
@@ -19,212 +13,161 @@ const ROOM: u8 = 16;
 /// Where a value is shown: what its structures are, the field in which it stands and of what, and how far
 /// what stands beside it is indented.
 #[derive(Clone, Copy)]
-struct Where {
-    shape: Shape,
-    of: Shape,
-    field: Option<u8>,
-    indent: usize,
+pub(crate) struct Where {
+    pub shape: Shape,
+    pub of: Shape,
+    pub field: Option<u8>,
+    pub indent: usize,
 }
 
-/// A value, behind what stands in its line, with lines of this indentation below it where it is long.
-pub(crate) fn show_value(page: &mut Page, value: &Value, shape: Shape, indent: usize) {
-    let at = Where {
-        shape,
-        of: unknown(),
-        field: None,
-        indent,
+impl Where {
+    /// Where a value stands that is no member of another.
+    pub(crate) fn whole(shape: Shape, indent: usize) -> Where {
+        Where {
+            shape,
+            of: unknown(),
+            field: None,
+            indent,
+        }
+    }
+
+    // Where a member stands. One without a tag stands where its array does.
+    fn member(self, tag: Tag) -> Where {
+        let indent = self.indent.saturating_add(STEP);
+        match tag {
+            Tag::Context(field) => Where {
+                shape: self.shape.inner(field),
+                of: self.shape,
+                field: Some(field),
+                indent,
+            },
+            _ => Where { indent, ..self },
+        }
+    }
+}
+
+/// A form in which values are shown.
+pub(crate) trait Shows {
+    /// A value that has no members.
+    fn show_leaf(&mut self, leaf: &Part<'_>, at: Where);
+
+    /// The front of a container of this element type.
+    fn begin_container(&mut self, kind: u8);
+
+    /// The front of a member of such a container, whose fields have these names.
+    fn begin_member(&mut self, kind: u8, tag: Tag, shape: Shape);
+
+    fn end_member(&mut self, kind: u8);
+
+    /// The end of the innermost container.
+    fn end_container(&mut self, kind: u8, at: Where);
+
+    /// From where memory is.
+    fn memory(&self) -> Global;
+
+    /// Notes that there was no memory for a part of what is shown.
+    fn miss(&mut self);
+}
+
+/// A value, whose bytes these are. Most that have members are arrays of numbers, which are gone over as such.
+pub(crate) fn show_value<S: Shows>(out: &mut S, bytes: &[u8], at: Where) -> Result<(), Unread> {
+    if let Some(numbers) = numbers_of(bytes) {
+        show_numbers(out, numbers, at);
+        return Ok(());
+    }
+    let mut reading = Reading {
+        cursor: Cursor::new(bytes),
+        most: bytes.len(),
     };
-    show(page, value, at, ROOM)
+    let value = reading.next()?;
+    show_within(out, &mut reading, &value, at, ROOM)
 }
 
-// In one line, or where that is long and there are members, in a line for each.
-#[cycle(value)]
-fn show(page: &mut Page, value: &Value, at: Where, room: u8) {
-    let before = page.len();
-    show_in_line(page, value, at, room);
-    if page.len().saturating_sub(before) <= LONG || room == 0 {
-        return;
+/// A number under a context tag, as most values are.
+pub(crate) fn show_number<S: Shows>(out: &mut S, number: u64, at: Where) {
+    out.show_leaf(&Part::Scalar(Tag::Anonymous, Value::Uint(number)), at)
+}
+
+fn show_numbers<S: Shows>(out: &mut S, numbers: Fronts<'_>, at: Where) {
+    let mut rest = numbers;
+    let inner = at.member(Tag::Anonymous);
+    out.begin_container(ARRAY);
+    for _ in 0..numbers.len() {
+        let Some(number) = rest.untagged() else {
+            break;
+        };
+        out.begin_member(ARRAY, Tag::Anonymous, at.shape);
+        show_number(out, number, inner);
+        out.end_member(ARRAY);
     }
-    match value {
-        Value::Struct(members) => {
-            page.cut(before);
-            show_members(page, members.as_slice(), at, room, ["{", "}"])
+    out.end_container(ARRAY, at)
+}
+
+// A place among the parts of a value.
+#[derive(Drop)]
+struct Reading<'a> {
+    cursor: Cursor<'a>,
+    /// No more parts than that.
+    most: usize,
+}
+
+impl<'a> Reading<'a> {
+    fn next(&mut self) -> Result<Part<'a>, Unread> {
+        match self.cursor.next() {
+            Ok(Some(part)) => Ok(part),
+            _ => Err(Unread),
         }
-        Value::Array(members) | Value::List(members) => {
-            page.cut(before);
-            show_members(page, members.as_slice(), at, room, ["[", "]"])
-        }
-        _ => {}
     }
 }
 
-// A line for each member.
-#[cycle(value)]
-fn show_members(
-    page: &mut Page,
-    members: &[(Tag, Value)],
+fn show_within<S: Shows>(
+    out: &mut S,
+    reading: &mut Reading<'_>,
+    value: &Part<'_>,
     at: Where,
     room: u8,
-    brackets: [&'static str; 2],
-) {
-    let [open, close] = brackets;
-    page.text(open);
-    let indent = at.indent.saturating_add(STEP);
-    for (tag, value) in members {
-        page.end_line();
-        page.blanks(indent);
-        show_tag(page, *tag, at.shape);
-        let inner = member(at, *tag, indent);
-        if room > 0 {
-            show(page, value, inner, room - 1);
+) -> Result<(), Unread> {
+    let kind = match value {
+        Part::Enter(_, kind) => *kind,
+        leaf => {
+            out.show_leaf(leaf, at);
+            return Ok(());
         }
-    }
-    page.end_line();
-    page.blanks(at.indent);
-    page.text(close)
-}
-
-#[cycle(line)]
-fn show_in_line(page: &mut Page, value: &Value, at: Where, room: u8) {
-    match value {
-        Value::Int(number) => page.signed(*number),
-        Value::Uint(number) => show_number(page, *number, at),
-        Value::Bool(true) => page.text("true"),
-        Value::Bool(false) => page.text("false"),
-        Value::Text(text) => page.quoted(text.as_slice()),
-        Value::Octets(octets) => show_octets(page, octets.as_slice()),
-        Value::Null => show_null(page, at),
-        Value::Bits32(bits) => show_bits(page, &bits.to_be_bytes()),
-        Value::Bits64(bits) => show_bits(page, &bits.to_be_bytes()),
-        Value::Struct(members) => { show_row(page, members.as_slice(), at, room, ["{", "}"]) }
-        Value::Array(members) | Value::List(members) => {
-            show_row(page, members.as_slice(), at, room, ["[", "]"])
-        }
-    }
-}
-
-// The members in one line.
-#[cycle(line)]
-fn show_row(
-    page: &mut Page,
-    members: &[(Tag, Value)],
-    at: Where,
-    room: u8,
-    brackets: [&'static str; 2],
-) {
-    let [open, close] = brackets;
-    page.text(open);
-    let mut is_first = true;
-    for (tag, value) in members {
-        if !is_first {
-            page.text(", ");
-        }
-        is_first = false;
-        show_tag(page, *tag, at.shape);
-        if room > 0 {
-            show_in_line(page, value, member(at, *tag, at.indent), room - 1);
-        }
-    }
-    page.text(close)
-}
-
-// Where a member stands. One without a tag stands where its array does.
-fn member(at: Where, tag: Tag, indent: usize) -> Where {
-    match tag {
-        Tag::Context(field) => Where {
-            shape: at.shape.inner(field),
-            of: at.shape,
-            field: Some(field),
-            indent,
-        },
-        _ => Where {
-            shape: at.shape,
-            of: at.of,
-            field: at.field,
-            indent,
-        },
-    }
-}
-
-// A number, or what it stands for.
-fn show_number(page: &mut Page, number: u64, at: Where) {
-    let Some(field) = at.field else {
-        return page.number(number);
     };
-    if let Some(word) = at.of.meaning(field, number) {
-        return page.text(word);
+    if room == 0 {
+        return Err(Unread);
     }
-    if at.of.has_subjects(field) {
-        return show_subject(page, number);
+    out.begin_container(kind);
+    for _ in 0..reading.most {
+        let member = reading.next()?;
+        let Some(tag) = tag_of(&member) else {
+            out.end_container(kind, at);
+            return Ok(());
+        };
+        out.begin_member(kind, tag, at.shape);
+        show_within(out, reading, &member, at.member(tag), room - 1)?;
+        out.end_member(kind);
     }
-    page.number(number)
+    Err(Unread)
 }
 
-/// Whom an entry names: a node by its id, or the CATs of an identifier from a version on.
-fn show_subject(page: &mut Page, subject: u64) {
-    let [a, b, c, d, identifier_high, identifier_low, high, low] = subject.to_be_bytes();
-    if [a, b, c, d] == CAT_SUBJECT {
-        page.text("CAT ");
-        page.octets(&[identifier_high, identifier_low]);
-        page.text(" version ");
-        return page.number(u16::from_be_bytes([high, low]) as u64);
-    }
-    if subject <= u32::MAX as u64 {
-        return page.number(subject);
-    }
-    page.octets(&subject.to_be_bytes())
-}
-
-// Octets in hex digits behind `0x`, so that they are told from numbers.
-fn show_octets(page: &mut Page, octets: &[u8]) {
-    if octets.is_empty() {
-        return page.text("no bytes");
-    }
-    page.text("0x");
-    page.octets(octets)
-}
-
-// Null, or that there are none.
-fn show_null(page: &mut Page, at: Where) {
-    match at.field {
-        Some(field) if at.of.has_none(field) => page.text("none"),
-        _ => page.text("null"),
-    }
-}
-
-// A float, by its bits.
-fn show_bits(page: &mut Page, bits: &[u8]) {
-    page.text("float of bits ");
-    page.octets(bits)
-}
-
-fn show_tag(page: &mut Page, tag: Tag, shape: Shape) {
-    match tag {
-        Tag::Anonymous => return,
-        Tag::Context(field) => match shape.name(field) {
-            Some(name) => page.text(name),
-            None => page.number(field as u64),
-        },
-        Tag::Common(number) => {
-            page.text("common profile ");
-            page.id(number);
+// The tag of a part; None at the end of a container.
+fn tag_of(part: &Part<'_>) -> Option<Tag> {
+    match part {
+        Part::Scalar(tag, _) | Part::Text(tag, _) | Part::Octets(tag, _) | Part::Enter(tag, _) => {
+            Some(*tag)
         }
-        Tag::Implicit(number) => {
-            page.text("implicit profile ");
-            page.id(number);
-        }
-        Tag::Full {
-            vendor,
-            profile,
-            number,
-        } => {
-            page.text("profile ");
-            page.id(profile as u32);
-            page.text(" of vendor ");
-            page.id(vendor as u32);
-            page.text(" ");
-            page.id(number);
-        }
+        Part::Leave => None,
     }
-    page.text(": ")
+}
+
+/// A value that is there as a tree. One that can't be read again is shown by its bytes.
+pub(crate) fn show_tree<S: Shows>(out: &mut S, tree: &Value, at: Where) {
+    let mut bytes = Vec::new(out.memory());
+    if write(&Tag::Anonymous, tree, &mut bytes).is_err() {
+        return out.miss();
+    }
+    if show_value(out, bytes.as_slice(), at).is_err() {
+        out.show_leaf(&Part::Octets(Tag::Anonymous, bytes.as_slice()), at)
+    }
 }

@@ -1,9 +1,10 @@
 //! Requests in words, and the places that they name.
 
+use crate::fronts::REVISION;
 use crate::page::{Colour, Page};
 use crate::places::{encoding_fault, fault_place};
 use crate::shapes::{shape_of_attribute, shape_of_command};
-use crate::values::show_value;
+use crate::values::{Where, show_tree};
 use mt_im::ImFault;
 use mt_model::opcode::{
     INVOKE_REQUEST, READ_REQUEST, STATUS_RESPONSE, SUBSCRIBE_REQUEST, TIMED_REQUEST, WRITE_REQUEST,
@@ -108,7 +109,7 @@ pub(crate) fn show_request(page: &mut Page, opcode: u8, request: &Request) {
             fields,
         } => {
             show_manner(page, *suppress, *timed);
-            show_command(page, command, fields, Leaf::Command)
+            show_command(page, command, fields)
         }
         Request::Timed { ms } => {
             page.text(", within ");
@@ -210,28 +211,27 @@ fn show_writes(page: &mut Page, items: &[WriteItem]) {
             page.number(version as u64);
         }
         page.text(": ");
-        show_value(
+        show_tree(
             page,
             &item.value,
-            shape_of_attribute(&item.path, &item.value),
-            ITEM,
+            Where::whole(shape_of_attribute(&item.path), ITEM),
         );
         page.end_line();
     }
 }
 
-fn show_command(page: &mut Page, command: &Place, fields: &Value, leaf: Leaf) {
+fn show_command(page: &mut Page, command: &Place, fields: &Value) {
     page.blanks(ITEM);
-    show_path(page, &Path::from(*command), leaf);
+    show_path(page, &Path::from(*command), Leaf::Command);
     if !is_empty(fields) {
         page.text(": ");
-        show_value(page, fields, shape_of_command(command), ITEM);
+        show_tree(page, fields, Where::whole(shape_of_command(command), ITEM));
     }
     page.end_line()
 }
 
-/// Whether fields are a structure with none.
-pub(crate) fn is_empty(fields: &Value) -> bool {
+// Whether fields are a structure with none.
+fn is_empty(fields: &Value) -> bool {
     match fields {
         Value::Struct(members) => members.as_slice().is_empty(),
         _ => false,
@@ -374,9 +374,6 @@ fn fields_of(opcode: u8) -> &'static [Named] {
         _ => &[],
     }
 }
-
-/// The field that each message ends with.
-const REVISION: u8 = 255;
 
 const STATUS_FIELDS: &[Named] = &[Named {
     number: 0,

@@ -1,4 +1,0 @@
-pub mod Fronts
-pub mod Parts
-pub mod Reports
-pub mod Widths
