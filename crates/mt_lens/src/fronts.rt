@@ -1,5 +1,7 @@
-//! What stands at the front of a payload, gone over as the node writes it: each number in as few bytes as it needs
-//! (Matter Core Specification, Appendix A). It takes no memory.
+//! What stands at the front of a payload (Matter Core Specification, Appendix A), gone over in the order in which the
+//! node writes it. It takes no memory.
+
+ghost use Rattle.std.specs.Prelude.{◌≤◌, IfOk};
 
 use mt_model::{Index, Path};
 
@@ -103,29 +105,30 @@ impl<'a> Fronts<'a> {
 
     /// A number of 8 bits.
     pub(crate) fn octet(&mut self, field: u8) -> Result<u8, Unread> {
-        let number = self.number(field)?;
-        if number > u8::MAX as u64 {
-            return Err(Unread);
-        }
-        Ok(number as u8)
+        Ok(self.number_up_to(u8::MAX as u64, field)? as u8)
     }
 
     /// A number of 16 bits.
     pub(crate) fn short(&mut self, field: u8) -> Result<u16, Unread> {
-        let number = self.number(field)?;
-        if number > u16::MAX as u64 {
-            return Err(Unread);
-        }
-        Ok(number as u16)
+        Ok(self.number_up_to(u16::MAX as u64, field)? as u16)
     }
 
     /// A number of 32 bits.
     pub(crate) fn word(&mut self, field: u8) -> Result<u32, Unread> {
-        let number = self.number(field)?;
-        if number > u32::MAX as u64 {
+        Ok(self.number_up_to(u32::MAX as u64, field)? as u32)
+    }
+
+    // A number that is no greater. Where another stands there, it stays.
+    fn number_up_to(&mut self, most: u64, field: u8) -> Result<u64, Unread>
+        ensures { IfOk result (λ number. number ≤ most) }
+    {
+        let mut behind = *self;
+        let number = behind.number(field)?;
+        if number > most {
             return Err(Unread);
         }
-        Ok(number as u32)
+        *self = behind;
+        Ok(number)
     }
 
     /// A status under the context tag 1.
@@ -172,6 +175,17 @@ impl<'a> Fronts<'a> {
             .split_at(self.rest.len().saturating_sub(rest.len()));
         self.rest = rest;
         Ok(value)
+    }
+}
+
+/// Whether a value is a container.
+pub(crate) fn has_members(value: &[u8]) -> bool {
+    match value.first() {
+        Some(control) => {
+            let kind = *control & !TAG_FORM;
+            kind == STRUCTURE || kind == ARRAY || kind == LIST
+        }
+        None => false,
     }
 }
 

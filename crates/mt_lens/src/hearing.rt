@@ -1,8 +1,10 @@
 //! Answers, as they are read part by part (Matter Core Specification, chapter 10, Interaction Model Encoding). What is
 //! read is told at once to whoever shows it, so no answer is kept.
 
-use crate::fronts::{ARRAY, END, FALSE, FIELD, Fronts, REVISION, STRUCTURE, TRUE, Unread};
-use crate::shapes::{shape_of_attribute, shape_of_event, shape_of_response, unknown};
+use crate::fronts::{
+    ARRAY, END, FALSE, FIELD, Fronts, REVISION, STRUCTURE, TRUE, Unread, has_members,
+};
+use crate::shapes::{Shape, shape_of_attribute, shape_of_event, shape_of_response, unknown};
 use crate::values::{Shows, Where, show_number, show_value};
 use crate::words::{ITEM, Leaf};
 use mt_model::Path;
@@ -109,11 +111,19 @@ fn hear_attribute<H: Hears>(out: &mut H, fronts: &mut Fronts<'_>) -> Result<(), 
         Ok(number) => show_number(out, number, Where::whole(unknown(), ITEM)),
         Err(Unread) => {
             let value = fronts.value(2)?;
-            show_value(out, value, Where::whole(shape_of_attribute(&path), ITEM))?
+            show_value(out, value, Where::whole(shape_of(&path, value), ITEM))?
         }
     }
     out.end_attribute(version);
     fronts.pass(&[END, END])
+}
+
+// What the structures in an attribute's value are. It is not looked up for a value that has no members.
+fn shape_of(path: &Path, value: &[u8]) -> Shape {
+    if has_members(value) {
+        return shape_of_attribute(path);
+    }
+    unknown()
 }
 
 // The body of a status of a path: path (0), whose fields are numbered from `first` on, and status (1).

@@ -102,8 +102,7 @@ impl Object {
     }
 
     pub(crate) fn end_key(&mut self) {
-        self.page.byte(b'"');
-        self.page.byte(b':')
+        self.page.text("\":")
     }
 
     /// Begins a member of this name, which has nothing to be escaped. Its value follows.
@@ -113,8 +112,8 @@ impl Object {
         self.end_key()
     }
 
-    /// Begins a member whose name comes behind those that stand in the object, so that it keeps its place. It is given
-    /// in quotes, with a colon behind it.
+    /// Begins a member whose name comes next behind that of the member in front of it, behind which it keeps its place. It
+    /// is given in quotes, with a colon behind it.
     pub(crate) fn next_key(&mut self, quoted: &str) {
         if self.page.last() != b'{' {
             self.page.byte(b',');
