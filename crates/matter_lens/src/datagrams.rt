@@ -24,10 +24,18 @@ struct Keyed {
 }
 
 /// The sessions of a configuration.
-#[derive(Drop)]
 pub(crate) struct Sessions {
     alloc: Global,
     sessions: Vec<Keyed>,
+}
+
+impl Drop for Sessions {
+    fn drop(self) {
+        let Sessions {
+            alloc: _,
+            sessions: _,
+        } = self;
+    }
 }
 
 impl Sessions {

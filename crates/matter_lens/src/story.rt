@@ -14,10 +14,18 @@ use std::io::{self, IsTerminal, Write};
 const PART: usize = 65_536;
 
 /// The node, and the verdicts on certificates by which it plays.
-#[derive(Drop)]
 struct Played {
     whole: Whole,
     verdicts: TableVerdicts,
+}
+
+impl Drop for Played {
+    fn drop(self) {
+        let Played {
+            whole: _,
+            verdicts: _,
+        } = self;
+    }
 }
 
 /// What has been told, and what that needs.

@@ -12,11 +12,20 @@ use mt_whole::{Whole, closed_sessions_are_those_that_end};
 use std::alloc::{AllocError, Global};
 
 /// A node, the verdicts by which it plays, and what is said over its sessions, which it does not store itself.
-#[derive(Drop)]
 pub(crate) struct Running {
     pub(crate) whole: Whole,
     verdicts: TableVerdicts,
     pub(crate) told: ToldTalks,
+}
+
+impl Drop for Running {
+    fn drop(self) {
+        let Running {
+            whole: _,
+            verdicts: _,
+            told: _,
+        } = self;
+    }
 }
 
 /// What an event makes of a fabric's place in the table.

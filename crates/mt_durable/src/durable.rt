@@ -34,9 +34,14 @@ impl Entry {
 }
 
 /// A change: entries whose keys ascend.
-#[derive(Drop)]
 pub struct Change {
     entries: Vec<Entry>,
+}
+
+impl Drop for Change {
+    fn drop(self) {
+        let Change { entries: _ } = self;
+    }
 }
 
 impl Model for Change {
@@ -86,7 +91,8 @@ impl Change {
         ensures value { result.items ≡ self }
         ensures ascend { IsTrue (keys_ascend self) }
     {
-        self.entries
+        let Change { entries } = self;
+        entries
     }
 
     /// The entries, lent.
@@ -100,9 +106,14 @@ impl Change {
 
 /// Durable state: a finite map from keys to values. Contracts see its entries, whose keys ascend and each
 /// of which has a value.
-#[derive(Drop)]
 pub struct Durable {
     entries: Vec<Entry>,
+}
+
+impl Drop for Durable {
+    fn drop(self) {
+        let Durable { entries: _ } = self;
+    }
 }
 
 impl Model for Durable {
@@ -155,9 +166,8 @@ impl Durable {
     pub fn into_change(self) -> Change
         ensures { result ≡ self }
     {
-        Change {
-            entries: self.entries,
-        }
+        let Durable { entries } = self;
+        Change { entries }
     }
 
     /// The value under a key, None where there is none.

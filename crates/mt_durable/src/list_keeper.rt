@@ -14,7 +14,6 @@ use std::marker::Model;
 
 /// A keeper of a map in memory. Contracts see the map, the numbers of the calls that are to fail, how many
 /// calls and faults there were, and whether it has failed.
-#[derive(Drop)]
 pub struct ListKeeper {
     alloc: Global,
     map: Durable,
@@ -22,6 +21,19 @@ pub struct ListKeeper {
     calls: u64,
     faults: u64,
     failed: bool,
+}
+
+impl Drop for ListKeeper {
+    fn drop(self) {
+        let ListKeeper {
+            alloc: _,
+            map: _,
+            fail: _,
+            calls: _,
+            faults: _,
+            failed: _,
+        } = self;
+    }
 }
 
 impl Model for ListKeeper {

@@ -18,9 +18,14 @@ const RINGS: usize = FABRICS + 1;
 
 /// The latest events: 128 of those that all may see, and 32 of those that are private to each fabric. Contracts see
 /// the rings as lists of events, the first for all and then one for each fabric by its index. In each the numbers rise.
-#[derive(Drop)]
 pub struct Rings {
     pub(crate) rings: Vec<HeapCircularBuffer<Happened>>,
+}
+
+impl Drop for Rings {
+    fn drop(self) {
+        let Rings { rings: _ } = self;
+    }
 }
 
 impl Model for Rings {

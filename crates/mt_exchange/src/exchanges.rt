@@ -8,11 +8,20 @@ use mt_model::ExactCopy;
 use std::alloc::{AllocError, Global};
 
 /// The open exchanges of a session, and the id that the node's next exchange tries first.
-#[derive(Drop)]
 pub struct Exchanges {
     pub(crate) alloc: Global,
     pub(crate) table: Table,
     pub(crate) next_id: u16,
+}
+
+impl Drop for Exchanges {
+    fn drop(self) {
+        let Exchanges {
+            alloc: _,
+            table: _,
+            next_id: _,
+        } = self;
+    }
 }
 
 impl Exchanges {

@@ -41,7 +41,6 @@ struct Opened {
 }
 
 /// Text that grows. A contract sees the bytes that stand on the page.
-#[derive(Drop)]
 pub struct Page {
     alloc: Global,
     bytes: Vec<u8>,
@@ -51,6 +50,19 @@ pub struct Page {
     /// The containers that are open, the innermost last, and where the members of each begin.
     opened: Vec<Opened>,
     members: Vec<usize>,
+}
+
+impl Drop for Page {
+    fn drop(self) {
+        let Page {
+            alloc: _,
+            bytes: _,
+            colours: _,
+            has_gap: _,
+            opened: _,
+            members: _,
+        } = self;
+    }
 }
 
 impl Model for Page {

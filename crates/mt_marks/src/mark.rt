@@ -31,7 +31,6 @@ pub type Owners = Listed<u8>;
 pub type Recent = Listed<Happened>;
 
 /// An event that a fabric sees, with what is public to the fabric just before it.
-#[derive(Drop)]
 pub struct Mark {
     pub event: Event,
     /// The rows of nobody, and those of others without their sensitive fields.
@@ -54,4 +53,25 @@ pub struct Mark {
     pub boot: u32,
     /// The time of the latest event, in ms.
     pub now: u64,
+}
+
+impl Drop for Mark {
+    fn drop(self) {
+        let Mark {
+            event: _,
+            rows: _,
+            owners: _,
+            fabrics: _,
+            roots: _,
+            networks: _,
+            failsafe: _,
+            versions: _,
+            changes: _,
+            changed: _,
+            events: _,
+            next: _,
+            boot: _,
+            now: _,
+        } = self;
+    }
 }

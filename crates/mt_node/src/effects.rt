@@ -18,7 +18,7 @@ ghost use Rattle.mt_node.specs.Plan.{HaveRoom, IsMade, IsReady, IsRoomFor, appli
 use crate::behind::made_whole;
 use crate::differences::differing;
 use crate::node::Node;
-use crate::outcome::Outcome;
+use crate::outcome::{Outcome, OutcomeParts};
 use crate::rooms::rooms;
 use crate::telling::events_in;
 use mt_machine::{actions_set_values, actions_tell_their_own};
@@ -165,7 +165,7 @@ pub(crate) fn apply(alloc: Global, state: &mut NodeState, outcome: Outcome) -> S
     ensures state { state.new ≡ applied outcome state.old }
     ensures told { result ≡ outcome.told }
 {
-    let Outcome {
+    let OutcomeParts {
         told,
         behind,
         steps,
@@ -173,8 +173,7 @@ pub(crate) fn apply(alloc: Global, state: &mut NodeState, outcome: Outcome) -> S
         rows_rooms,
         entries_room,
         clock,
-        ..
-    } = outcome;
+    } = outcome.into_parts();
     match behind {
         Some(behind) => *state = Box::into_inner(behind),
         None => {

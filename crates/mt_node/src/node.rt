@@ -27,11 +27,20 @@ use std::alloc::{AllocError, Global};
 use std::marker::Model;
 
 /// The node. Contracts see its state and the configuration with which it was started.
-#[derive(Drop)]
 pub struct Node {
     pub(crate) alloc: Global,
     pub(crate) state: NodeState,
     config: Config,
+}
+
+impl Drop for Node {
+    fn drop(self) {
+        let Node {
+            alloc: _,
+            state: _,
+            config: _,
+        } = self;
+    }
 }
 
 impl Model for Node {

@@ -1,9 +1,10 @@
 //! What comes of what the node is asked.
 
+ghost use Rattle.std.specs.Prelude.{◌≡◌};
+
 use mt_model::{AclEntry, Actor, NodeState, Places, Reply, Row, SessionIds, Steps};
 
 /// What a planned action answers, and what it makes of the node.
-#[derive(Drop)]
 pub struct Outcome {
     /// What the asker is answered.
     pub reply: Reply,
@@ -29,4 +30,74 @@ pub struct Outcome {
     pub(crate) entries_room: Vec<AclEntry>,
     /// The time of the action, in ms.
     pub(crate) clock: u64,
+}
+
+impl Drop for Outcome {
+    fn drop(self) {
+        let Outcome {
+            reply: _,
+            session: _,
+            closed: _,
+            gone: _,
+            told: _,
+            asking: _,
+            behind: _,
+            steps: _,
+            places: _,
+            rows_rooms: _,
+            entries_room: _,
+            clock: _,
+        } = self;
+    }
+}
+
+/// What putting an outcome in place needs of it.
+#[derive(Drop)]
+pub(crate) struct OutcomeParts {
+    pub(crate) told: Steps,
+    pub(crate) behind: Option<Box<NodeState>>,
+    pub(crate) steps: Steps,
+    pub(crate) places: Places,
+    pub(crate) rows_rooms: Vec<Vec<Row>>,
+    pub(crate) entries_room: Vec<AclEntry>,
+    pub(crate) clock: u64,
+}
+
+impl Outcome {
+    /// What putting it in place needs; the rest is let go.
+    pub(crate) fn into_parts(self) -> OutcomeParts
+        ensures { result ≡ record {
+          told = self.told;
+          behind = self.behind;
+          steps = self.steps;
+          places = self.places;
+          rows_rooms = self.rows_rooms;
+          entries_room = self.entries_room;
+          clock = self.clock;
+        } }
+    {
+        let Outcome {
+            reply: _,
+            session: _,
+            closed: _,
+            gone: _,
+            told,
+            asking: _,
+            behind,
+            steps,
+            places,
+            rows_rooms,
+            entries_room,
+            clock,
+        } = self;
+        OutcomeParts {
+            told,
+            behind,
+            steps,
+            places,
+            rows_rooms,
+            entries_room,
+            clock,
+        }
+    }
 }

@@ -11,11 +11,20 @@ use std::marker::Model;
 
 /// A source of bytes in memory. A contract sees what is left, the numbers of the calls that are to
 /// fail, and how many calls and faults there were.
-#[derive(Drop)]
 pub struct MemSource {
     contents: Vec<u8>,
     at: usize,
     failures: Failures,
+}
+
+impl Drop for MemSource {
+    fn drop(self) {
+        let MemSource {
+            contents: _,
+            at: _,
+            failures: _,
+        } = self;
+    }
 }
 
 impl Model for MemSource {
@@ -91,10 +100,18 @@ impl Source for MemSource {
 
 /// A sink that keeps its bytes in memory. A contract sees what was written, the numbers of the calls
 /// that are to fail, and how many calls and faults there were.
-#[derive(Drop)]
 pub struct MemSink {
     bytes: Vec<u8>,
     failures: Failures,
+}
+
+impl Drop for MemSink {
+    fn drop(self) {
+        let MemSink {
+            bytes: _,
+            failures: _,
+        } = self;
+    }
 }
 
 impl Model for MemSink {

@@ -24,7 +24,6 @@ const LONGEST: u64 = 1 << 62;
 /// A disk of bytes in memory. A contract sees what it held when it was made or restarted, each write and
 /// sync since, the numbers of the calls that are to fail, how many calls and faults there were, and where
 /// it stops. So it keeps each write until it is restarted.
-#[derive(Drop)]
 pub struct MemDisk {
     alloc: Global,
     first: Vec<u8>,
@@ -33,6 +32,20 @@ pub struct MemDisk {
     bytes: Vec<u8>,
     failures: Failures,
     stop: Option<Stop>,
+}
+
+impl Drop for MemDisk {
+    fn drop(self) {
+        let MemDisk {
+            alloc: _,
+            first: _,
+            events: _,
+            synced: _,
+            bytes: _,
+            failures: _,
+            stop: _,
+        } = self;
+    }
 }
 
 impl Model for MemDisk {

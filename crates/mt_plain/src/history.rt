@@ -32,10 +32,18 @@ const MOST_EVENTS: usize = 0x4_0000_0000_0000;
 const LAST_CEILING: u64 = 0x2000_0000_0000_0000;
 
 /// The rings of the latest events, and the numbers. Contracts see the history that they are.
-#[derive(Drop)]
 pub(crate) struct History {
     rings: Rings,
     numbers: Numbers,
+}
+
+impl Drop for History {
+    fn drop(self) {
+        let History {
+            rings: _,
+            numbers: _,
+        } = self;
+    }
 }
 
 impl Model for History {

@@ -10,7 +10,6 @@ use mt_node::Outcome;
 use std::alloc::AllocError;
 
 /// What a planned event sends, and what it makes of the plain.
-#[derive(Drop)]
 pub struct PlainOutcome {
     /// The messages, in the order of sending.
     pub sent: SentList,
@@ -23,12 +22,39 @@ pub struct PlainOutcome {
     pub(crate) subs: SubsBehind,
 }
 
+impl Drop for PlainOutcome {
+    fn drop(self) {
+        let PlainOutcome {
+            sent: _,
+            ms: _,
+            node: _,
+            deadlines: _,
+            subs: _,
+        } = self;
+    }
+}
+
 impl PlainOutcome {
     /// The sessions that end.
     pub fn closed(&self) -> &[u16]
         ensures { result.now ≡ self.now.node.closed }
     {
         self.node.closed.as_slice()
+    }
+
+    /// What putting it in place needs: the time, in ms, the node's outcome, the deadlines and the subscriptions. The messages are
+    /// let go.
+    pub(crate) fn into_parts(self) -> (u64, Outcome, Option<PlainDeadlines>, SubsBehind)
+        ensures { result ≡ (self.ms, self.node, self.deadlines, self.subs) }
+    {
+        let PlainOutcome {
+            sent: _,
+            ms,
+            node,
+            deadlines,
+            subs,
+        } = self;
+        (ms, node, deadlines, subs)
     }
 }
 

@@ -22,13 +22,24 @@ use std::marker::Model;
 
 /// The node, and around it what it remembers of events and subscriptions, and the deadlines of plain actors. Contracts see the
 /// state of the node and the deadlines, the ledger of events and subscriptions, and the configuration with which it was started.
-#[derive(Drop)]
 pub struct Plain {
     pub(crate) alloc: Global,
     pub(crate) node: Node,
     pub(crate) history: History,
     pub(crate) subs: Subs,
     pub(crate) deadlines: PlainDeadlines,
+}
+
+impl Drop for Plain {
+    fn drop(self) {
+        let Plain {
+            alloc: _,
+            node: _,
+            history: _,
+            subs: _,
+            deadlines: _,
+        } = self;
+    }
 }
 
 impl Model for Plain {
@@ -99,13 +110,7 @@ impl Plain {
         requires { IsPlainPlanned self.old.state self.old.ledger outcome }
         ensures { self.new ≡ behind (applied_plain outcome self.old.state) (applied_ledger outcome self.old.state self.old.ledger) self.old }
     {
-        let PlainOutcome {
-            sent: _,
-            ms,
-            node,
-            deadlines,
-            subs,
-        } = outcome;
+        let (ms, node, deadlines, subs) = outcome.into_parts();
         let gone = node.gone;
         let told = self.node.apply(node);
         self.history.pass_on(gone, ms, told);

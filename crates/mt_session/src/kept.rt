@@ -7,13 +7,23 @@ use mt_window::Window;
 use std::alloc::{AllocError, Global};
 
 /// A session: its row, the window of the peer's counters, and the counter of its next message.
-#[derive(Drop)]
 pub struct Session {
     pub(crate) alloc: Global,
     pub(crate) row: SessionRow,
     pub(crate) window: Window,
     pub(crate) counter: u32,
     pub(crate) ghost is_secured: { 0 < row.peer_session },
+}
+
+impl Drop for Session {
+    fn drop(self) {
+        let Session {
+            alloc: _,
+            row: _,
+            window: _,
+            counter: _,
+        } = self;
+    }
 }
 
 impl ExactCopy for Session {

@@ -18,10 +18,18 @@ use std::marker::Model;
 
 /// The subscriptions of a node. Contracts see what a node keeps of them: no fabric has more than three,
 /// and its ids ascend, each below its next one.
-#[derive(Drop)]
 pub struct Subs {
     pub(crate) subscriptions: Vec<Subscription>,
     next_ids: [u32; 256],
+}
+
+impl Drop for Subs {
+    fn drop(self) {
+        let Subs {
+            subscriptions: _,
+            next_ids: _,
+        } = self;
+    }
 }
 
 impl Model for Subs {
@@ -70,9 +78,12 @@ impl Subs {
         ensures value { result ≡ self }
         ensures valid { IsSubs result }
     {
-        let next_ids = self.next_ids;
+        let Subs {
+            subscriptions,
+            next_ids,
+        } = self;
         SubState {
-            subscriptions: Subscriptions::from_vec(self.subscriptions),
+            subscriptions: Subscriptions::from_vec(subscriptions),
             next_ids,
         }
     }

@@ -11,13 +11,23 @@ use mt_session::Session;
 use std::alloc::{AllocError, Global};
 
 /// What is said over a session, as far as it is still needed. Contracts speak of all that was said, which nothing stores.
-#[derive(Drop)]
 pub struct Talk {
     pub(crate) alloc: Global,
     pub(crate) session: Session,
     pub(crate) exchanges: Exchanges,
     /// From where the latest fresh message came, None before the first.
     pub(crate) latest: Option<Peer>,
+}
+
+impl Drop for Talk {
+    fn drop(self) {
+        let Talk {
+            alloc: _,
+            session: _,
+            exchanges: _,
+            latest: _,
+        } = self;
+    }
 }
 
 impl Talk {

@@ -24,9 +24,14 @@ pub(crate) struct Told {
 
 /// What was said over the sessions of the first boot, in the order of their rows. Contracts see the talks of the written
 /// whole.
-#[derive(Drop)]
 pub struct ToldTalks {
     talks: Vec<Told>,
+}
+
+impl Drop for ToldTalks {
+    fn drop(self) {
+        let ToldTalks { talks: _ } = self;
+    }
 }
 
 impl Model for ToldTalks {

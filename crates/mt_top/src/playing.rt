@@ -15,11 +15,20 @@ use std::alloc::{AllocError, Global};
 
 /// A node, and the verdicts on certificates by which it plays. It stands for what is given to a node, and for its whole
 /// with all that was said, which nothing stores.
-#[derive(Drop)]
 pub struct Player {
     alloc: Global,
     pub(crate) whole: Whole,
     pub(crate) verdicts: TableVerdicts,
+}
+
+impl Drop for Player {
+    fn drop(self) {
+        let Player {
+            alloc: _,
+            whole: _,
+            verdicts: _,
+        } = self;
+    }
 }
 
 impl Player {

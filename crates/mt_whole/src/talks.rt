@@ -12,10 +12,18 @@ use mt_talk::Talk;
 use std::alloc::{AllocError, Global};
 
 /// What is said over the session of an id.
-#[derive(Drop)]
 pub struct SessionTalk {
     pub(crate) id: u16,
     pub(crate) talk: Talk,
+}
+
+impl Drop for SessionTalk {
+    fn drop(self) {
+        let SessionTalk {
+            id: _,
+            talk: _,
+        } = self;
+    }
 }
 
 /// The talks of the sessions of the first boot, in which nothing has been said.

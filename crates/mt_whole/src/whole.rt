@@ -21,11 +21,20 @@ use std::mem::replace;
 
 /// The node, the deadlines of plain actors, its events and subscriptions, and what is said over each session. Contracts
 /// speak of all that was said, which nothing stores: a whole stands for lists of it.
-#[derive(Drop)]
 pub struct Whole {
     pub(crate) alloc: Global,
     pub(crate) plain: Plain,
     pub(crate) talks: Vec<SessionTalk>,
+}
+
+impl Drop for Whole {
+    fn drop(self) {
+        let Whole {
+            alloc: _,
+            plain: _,
+            talks: _,
+        } = self;
+    }
 }
 
 impl Whole {

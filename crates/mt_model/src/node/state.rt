@@ -89,7 +89,6 @@ impl ExactCopy for NodeSession {
 pub type NodeSessions = Listed<NodeSession>;
 
 /// What the node keeps, as plain data.
-#[derive(Drop)]
 pub struct NodeState {
     /// The stored attributes.
     pub rows: StoredRows,
@@ -112,6 +111,26 @@ pub struct NodeState {
     pub boot: u32,
     /// The time of the latest event, in ms.
     pub clock: u64,
+}
+
+impl Drop for NodeState {
+    fn drop(self) {
+        let NodeState {
+            rows: _,
+            entries: _,
+            fabrics: _,
+            roots: _,
+            networks: _,
+            armed: _,
+            versions: _,
+            changes: _,
+            changed: _,
+            sessions: _,
+            plain: _,
+            boot: _,
+            clock: _,
+        } = self;
+    }
 }
 
 impl NodeState {

@@ -125,7 +125,6 @@ pub type Ssids = Listed<Bytes>;
 
 /// With what a node is started. It keeps the rules on configurations: whoever makes one has shown
 /// them.
-#[derive(Drop)]
 pub struct Config {
     /// The fabrics of a new node, and their access control entries.
     pub fabrics: Fabrics,
@@ -144,6 +143,20 @@ pub struct Config {
     pub ghost csrs_are_valid: { IsTrue (are_csrs csrs) },
     pub ghost joins_are_valid: { IsTrue (are_joins joins) },
     pub ghost reachable_are_valid: { IsTrue (are_network_ids reachable) },
+}
+
+impl Drop for Config {
+    fn drop(self) {
+        let Config {
+            fabrics: _,
+            entries: _,
+            sessions: _,
+            roots: _,
+            csrs: _,
+            joins: _,
+            reachable: _,
+        } = self;
+    }
 }
 
 impl ExactCopy for Config {

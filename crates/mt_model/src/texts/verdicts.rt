@@ -42,7 +42,6 @@ pub trait Verdicts {
 }
 
 /// The verdicts of a configuration.
-#[derive(Drop)]
 pub struct TableVerdicts {
     pub roots: RootRows,
     pub csrs: CsrRows,
@@ -50,6 +49,16 @@ pub struct TableVerdicts {
     pub ghost roots_keep_rules: { IsTrue (list_all is_root roots) },
     pub ghost csrs_keep_rules: { IsTrue (list_all is_csr csrs) },
     pub ghost joins_keep_rules: { IsTrue (list_all is_join joins) },
+}
+
+impl Drop for TableVerdicts {
+    fn drop(self) {
+        let TableVerdicts {
+            roots: _,
+            csrs: _,
+            joins: _,
+        } = self;
+    }
 }
 
 impl TableVerdicts {
