@@ -6,7 +6,7 @@ use Rattle.mt_words.specs.declared.asked.Asked.{Asked}
 use Rattle.mt_endings.specs.Endings.{of_files}
 use Rattle.mt_endings.specs.Moments.{input, moment}
 use Rattle.mt_top.specs.Asked.{asked_of, comes_to}
-use Rattle.mt_top.proofs.Faults.{not_read}
+use Rattle.mt_top.proofs.Faults.{is_no_fault, not_read}
 use Rattle.mt_top.proofs.Wanted.{wanted_within}
 use Rattle.mt_top.proofs.running.run_watched.Goals as goal
 
@@ -29,7 +29,7 @@ returns-in-Ok-read_configuration-clause-ends g c =
     (input (g.A.Source.left c.args.first.now) (g.A.Source.faults c.args.first.now)) (input (g.A.Source.left c.carry_out.new.first) (g.A.Source.faults c.carry_out.new.first))
     (input (g.B.Source.left c.args.second.now) (g.B.Source.faults c.args.second.now)) (input (g.B.Source.left c.carry_out.new.second) (g.B.Source.faults c.carry_out.new.second))
     (g.W.Sink.written c.args.out.now) (g.W.Sink.written c.carry_out.new.out) (g.W.Sink.faults c.args.out.now) (g.W.Sink.faults c.carry_out.new.out) c.carry_out.result
-    h.2 h.1 (c.read_configuration.ensures.calm (search rules)) c.carry_out.ensures.ends)
+    h.2 h.1 (c.read_configuration.ensures.calm (is_no_fault c.read_configuration.result c.in-Ok-read_configuration.is)) c.carry_out.ensures.ends)
 
 pub returns-in-Err-clause-ends : goal.returns-in-Err-clause-ends
 returns-in-Err-clause-ends g c =
