@@ -1,12 +1,8 @@
 //! The program: opens the files that the words name, and hands them to the top call.
 #![tactic(auto)]
 
-mod adapters;
-mod progress;
-
-use adapters::{ReaderSource, WriterSink};
-use mt_top::{files_of, run_watched};
-use progress::TerminalProgress;
+use mt_os::{ReaderSource, TerminalProgress, WriterSink};
+use mt_top::{Progress, files_of, run_watched};
 use std::fs::File;
 use std::process::ExitCode;
 use std::rt::Env;
@@ -14,6 +10,16 @@ use std::{env, io};
 
 // The status where there is no memory for the words.
 const NO_MEMORY: u8 = 7;
+
+// The terminal, as who watches a run.
+#[derive(Drop)]
+struct Terminal<'a>(TerminalProgress<'a>);
+
+impl Progress for Terminal<'_> {
+    fn done(&mut self, events: u32, all: u32) {
+        self.0.done(events, all);
+    }
+}
 
 fn main(rt: HostRuntime) -> ExitCode {
     let words = match words(&rt) {
@@ -32,7 +38,7 @@ fn main(rt: HostRuntime) -> ExitCode {
     let mut first = ReaderSource::new(named(&rt, &words, first));
     let mut second = ReaderSource::new(named(&rt, &words, second));
     let mut out = WriterSink::new(io::writer(&rt));
-    let mut progress = TerminalProgress::new(&rt);
+    let mut terminal = Terminal(TerminalProgress::new(&rt));
     ExitCode::from(run_watched(
         rt.alloc(),
         &words,
@@ -40,7 +46,7 @@ fn main(rt: HostRuntime) -> ExitCode {
         &mut first,
         &mut second,
         &mut out,
-        &mut progress,
+        &mut terminal,
     ))
 }
 
@@ -58,6 +64,3 @@ fn words(rt: &(impl Env + AllocGlobal)) -> io::Result<Vec<String>> {
     }
     Ok(words)
 }
-
-#[cfg(test)]
-mod tests;

@@ -1,9 +1,9 @@
-//! A disk over an open file. What a file holds no contract can say, so it tells no contents, only its
-//! counts of calls and of failures.
+//! A disk over an open file.
 
 ghost use Rattle.std.specs.Prelude.{◌≡◌, ◌≤◌, ◌+◌, ◌^◌, false, None, length, IfOk, IfSome, IsTrue, OnOk, OnErr};
 ghost use Rattle.mt_outside.specs.Stream.{HasCause, one_more};
 
+use crate::ATTEMPTS;
 use mt_outside::{Disk, Failed};
 use std::fs::File;
 use std::io::ErrorKind;
@@ -11,9 +11,6 @@ use std::os::unix::fs::FileExt;
 
 // A disk's length at most, and how far a write may come.
 const LONGEST: u64 = 1 << 62;
-
-// How often a read is made that signals interrupt, before it counts as failed: so that it ends.
-const ATTEMPTS: u32 = 1_000;
 
 /// A disk over a file that is open for reading and writing. A sync makes its bytes and its length safe by
 /// `fdatasync`; that a new file's name is safe in its directory is the matter of whoever makes the file.

@@ -1,4 +1,4 @@
-use super::adapters::{ReaderSource, WriterSink};
+use crate::adapters::{ReaderSource, WriterSink};
 use mt_outside::{Failed, Sink, Source};
 use std::test::Fail;
 

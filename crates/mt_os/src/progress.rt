@@ -2,7 +2,6 @@
 
 ghost use Rattle.std.specs.Prelude.{◌≡◌, None, false};
 
-use mt_top::Progress;
 use std::io::IsTerminal;
 use std::time::{Duration, Instant};
 
@@ -36,24 +35,11 @@ impl<'a> TerminalProgress<'a> {
         }
     }
 
-    // Whether it is time for the line, which is not at once.
-    fn is_due(&mut self) -> bool {
-        let Ok(now) = Instant::now(self.rt) else {
-            return false;
-        };
-        let is_due = match self.last {
-            Some(last) => now.duration_since(last) >= Duration::from_millis(PAUSE),
-            None => false,
-        };
-        if is_due || self.last.is_none() {
-            self.last = Some(now);
-        }
-        is_due
-    }
-}
-
-impl Progress for TerminalProgress<'_> {
-    fn done(&mut self, events: u32, all: u32) {
+    /// So many events of all are done: the line is written, where it is time for it.
+    pub fn done(&mut self, events: u32, all: u32)
+        ensures silent { self.old.is_terminal ≡ false → self.new.has_line ≡ self.old.has_line }
+        ensures place { self.new.is_terminal ≡ self.old.is_terminal }
+    {
         if !self.is_terminal {
             return;
         }
@@ -66,5 +52,22 @@ impl Progress for TerminalProgress<'_> {
             self.has_line = true;
             let _ = eprint!(self.rt; "\r{events} of {all} events");
         }
+    }
+
+    // Whether it is time for the line, which is not at once.
+    fn is_due(&mut self) -> bool
+        ensures place { self.new.is_terminal ≡ self.old.is_terminal }
+    {
+        let Ok(now) = Instant::now(self.rt) else {
+            return false;
+        };
+        let is_due = match self.last {
+            Some(last) => now.duration_since(last) >= Duration::from_millis(PAUSE),
+            None => false,
+        };
+        if is_due || self.last.is_none() {
+            self.last = Some(now);
+        }
+        is_due
     }
 }

@@ -1,5 +1,5 @@
 use Rattle.std.proofs.Common.{◌≡◌, ◌≤◌, ◌^◌, length}
-use Rattle.mt_file_disk.proofs.file_disk.read_all_at.Given as goal
+use Rattle.mt_os.proofs.file_disk.read_all_at.Given as goal
 
 abbrev pub invariant-loop : goal.invariant-loop
 invariant-loop l = record {

@@ -1,8 +1,7 @@
-use Rattle.std.proofs.Common.{◌≡◌, ◌≤◌, ℕ, List, length, take, drop, refl, arith}
-use Rattle.std.specs.Prelude.{min, max}
+use Rattle.std.proofs.Common.{ℕ, List, length, refl, arith}
 use Rattle.std.proofs.lemmas.List.{take_min}
 use Rattle.mt_outside.specs.Disk.{CutShort}
-use Rattle.mt_file_disk.proofs.file_disk.FileDiskDisk.write_at.Goals as goal
+use Rattle.mt_os.proofs.file_disk.FileDiskDisk.write_at.Goals as goal
 
 -- a write that is cut short may leave all as it was
 nothing_written : (at n : ℕ) (image : List ℕ) → CutShort at n image image

@@ -1,13 +1,10 @@
-//! A source over any reader and a sink over any writer. What a file or a terminal holds no contract
-//! can say, so they tell no content, only their counts of failures.
+//! A source over any reader and a sink over any writer.
 
 ghost use Rattle.std.specs.Prelude.{◌≡◌, ◌≤◌, None, IfSome, length};
 
+use crate::ATTEMPTS;
 use mt_outside::{Failed, Sink, Source};
 use std::io::{ErrorKind, Read, Write};
-
-// How often a call is made that signals interrupt, before it counts as failed: so that it ends.
-const ATTEMPTS: u32 = 1_000;
 
 /// A source over a reader, or over a file that could not be opened, of which each read fails.
 #[derive(Drop)]

@@ -1,6 +1,0 @@
-//! A disk that is a file of the operating system.
-#![tactic(auto)]
-
-mod file_disk;
-
-pub use file_disk::FileDisk;
