@@ -8,51 +8,81 @@
 
 ghost use Rattle.std.specs.Prelude.{IsTrue};
 ghost use Rattle.mt_model.specs.rows.Order.{fabrics_ascend};
+ghost use Rattle.mt_model.specs.texts.Config.{ascend_from};
 
-use crate::invoke;
-use crate::words::{Asked, byte, no_case, octets};
+use cases_page::{no_case, pieces};
 use mt_fabrics::FabricTable;
 use mt_model::{
-    AclEntries, Armed, Config, Effect, ExactCopy, Fabrics, Network, Networks, Roots, StoredRows,
-    TableVerdicts, View,
+    AclEntries, Armed, Config, ExactCopy, Fabrics, Network, Networks, Roots, StoredRows, View,
 };
 use mt_tlv::Bytes;
-use std::alloc::Global;
+use std::alloc::{AllocError, Global};
 use std::io;
 
-/// What the node of these words answers.
-pub(crate) fn answer(
-    alloc: Global,
-    config: &Config,
-    verdicts: &TableVerdicts,
-    state: &str,
-    asked: &Asked,
-) -> io::Result<Effect> {
-    are_known(state)?;
-    let table = table(alloc, config, state)?;
-    let networks = networks(alloc, state)?;
-    let armed = armed(alloc, state)?;
-    let rows = StoredRows::new(alloc)?;
-    let entries = AclEntries::new(alloc);
-    let roots = Roots::new(alloc);
-    let fabrics = fabrics_of(&table);
-    let armed = armed.as_ref();
-    let view = View {
-        rows: &rows,
-        entries: &entries,
-        fabrics,
-        roots: &roots,
-        networks: &networks,
-        armed,
-    };
-    let effect = invoke(alloc, config, verdicts, &view, asked)?;
-    Ok(effect)
+/// A node.
+pub(crate) struct Node {
+    rows: StoredRows,
+    entries: AclEntries,
+    table: FabricTable,
+    roots: Roots,
+    networks: Networks,
+    armed: Option<Armed>,
+    ghost entries_ascend: { IsTrue (ascend_from 0 entries) },
+}
+
+impl Drop for Node {
+    fn drop(self) {
+        let Node {
+            rows: _,
+            entries: _,
+            table: _,
+            roots: _,
+            networks: _,
+            armed: _,
+        } = self;
+    }
+}
+
+impl Node {
+    /// What a command observes of it.
+    pub(crate) fn view(&self) -> View<'_> {
+        View {
+            rows: &self.rows,
+            entries: &self.entries,
+            fabrics: fabrics_of(&self.table),
+            roots: &self.roots,
+            networks: &self.networks,
+            armed: self.armed.as_ref(),
+        }
+    }
 }
 
 fn fabrics_of(table: &FabricTable) -> &Fabrics
     ensures { IsTrue (fabrics_ascend result.now) }
 {
     table.fabrics()
+}
+
+/// The node of these words.
+pub(crate) fn node_of(alloc: Global, config: &Config, state: &str) -> io::Result<Node> {
+    are_known(state)?;
+    let mut node = bare_node(alloc)?;
+    node.table = table(alloc, config, state)?;
+    node.networks = networks(alloc, state)?;
+    node.armed = armed(alloc, state)?;
+    Ok(node)
+}
+
+fn bare_node(alloc: Global) -> Result<Node, AllocError> {
+    let rows = StoredRows::new(alloc)?;
+    Ok(Node {
+        rows,
+        entries: AclEntries::new(alloc),
+        table: FabricTable::new(alloc),
+        roots: Roots::new(alloc),
+        networks: Networks::new(alloc),
+        armed: None,
+    })
 }
 
 fn are_known(state: &str) -> io::Result<()> {
@@ -86,31 +116,33 @@ fn said<'a>(state: &'a str, name: &str) -> Option<&'a str> {
     None
 }
 
-fn number(state: &str, name: &str) -> io::Result<Option<u8>> {
+fn number(state: &str, name: &str) -> Option<u8> {
     match said(state, name) {
-        Some(word) => Ok(Some(byte(word)?)),
-        None => Ok(None),
+        Some(word) => Some(word.parse::<u8>().unwrap_or(0)),
+        None => None,
     }
 }
 
 fn table(alloc: Global, config: &Config, state: &str) -> io::Result<FabricTable> {
-    let count = number(state, "fabrics")?.unwrap_or(2);
+    let count = number(state, "fabrics").unwrap_or(2);
     let mut table = FabricTable::new(alloc);
     for fabric in config.fabrics.as_slice().iter().take(count as usize) {
         if table.add(fabric.copy()?).is_err() {
             return Err(no_case());
         }
     }
-    match number(state, "gone")? {
-        Some(index) if table.remove(index).is_err() => Err(no_case()),
-        _ => Ok(table),
+    if let Some(index) = number(state, "gone") {
+        if table.remove(index).is_err() {
+            return Err(no_case());
+        }
     }
+    Ok(table)
 }
 
 const NETWORKS: [&str; 4] = ["n1", "n2", "n3", "n4"];
 
-fn networks(alloc: Global, state: &str) -> io::Result<Networks> {
-    let count = number(state, "networks")?.unwrap_or(0);
+fn networks(alloc: Global, state: &str) -> Result<Networks, AllocError> {
+    let count = number(state, "networks").unwrap_or(0);
     let mut networks = Networks::new(alloc);
     for id in NETWORKS.iter().take(count as usize) {
         networks.push(Network {
@@ -123,12 +155,12 @@ fn networks(alloc: Global, state: &str) -> io::Result<Networks> {
 }
 
 fn armed(alloc: Global, state: &str) -> io::Result<Option<Armed>> {
-    let Some(owner) = number(state, "armed")? else {
+    let Some(owner) = number(state, "armed") else {
         return Ok(None);
     };
-    let context = number(state, "context")?.unwrap_or(owner);
-    let added = number(state, "added")?;
-    let updated = number(state, "updated")?;
+    let context = number(state, "context").unwrap_or(owner);
+    let added = number(state, "added");
+    let updated = number(state, "updated");
     let root = root(alloc, state)?;
     let csr = csr(alloc, state)?;
     Ok(Some(Armed {
@@ -147,7 +179,7 @@ fn armed(alloc: Global, state: &str) -> io::Result<Option<Armed>> {
 
 fn root(alloc: Global, state: &str) -> io::Result<Option<Bytes>> {
     match said(state, "root") {
-        Some(cert) => Ok(Some(octets(alloc, cert)?)),
+        Some(cert) => Ok(Some(Bytes::from_vec(pieces(alloc, cert)?))),
         None => Ok(None),
     }
 }
@@ -160,5 +192,5 @@ fn csr(alloc: Global, state: &str) -> io::Result<Option<(Bytes, bool)>> {
         Some(_) => return Err(no_case()),
         None => return Ok(None),
     };
-    Ok(Some((octets(alloc, "0e*32")?, update)))
+    Ok(Some((Bytes::from_vec(pieces(alloc, "0e*32")?), update)))
 }

@@ -1,65 +1,80 @@
 //! What a command comes to, in words. Bytes and values are in hex, ids and places in hex digits.
 
+use cases_page::Page;
 use mt_model::{AclEntry, Credentials, Effect, Fabric, NodeStep, Place, Reply};
 use mt_tlv::{Bytes, Tag, Value, write};
-use std::io;
+use std::alloc::Global;
 
 /// The reply, and each step.
-pub(crate) fn tell(rt: &HostRuntime, effect: &Effect) -> io::Result<()> {
+pub(crate) fn tell(alloc: Global, page: &mut Page, effect: &Effect) {
     match &effect.reply {
         Reply::Invoked { command, fields } => {
-            print!(rt; "  response {}", name(rt, command)?)?;
-            tell_value(rt, fields)?;
+            page.add("  response ");
+            tell_place(page, command);
+            tell_value(alloc, page, fields);
+            page.end_line();
         }
         Reply::InvokeStatus { command, code } => {
-            println!(rt; "  status {code:02x} of {}", name(rt, command)?)?;
+            page.add("  status ");
+            page.add_hex(&[*code]);
+            page.add(" of ");
+            tell_place(page, command);
+            page.end_line();
         }
-        _ => println!(rt; "  another reply")?,
+        _ => page.line("  another reply"),
     }
     for step in effect.steps.as_slice() {
-        tell_step(rt, step)?;
+        page.add("  ");
+        tell_step(alloc, page, step);
+        page.end_line();
     }
-    Ok(())
 }
 
-fn name(rt: &HostRuntime, place: &Place) -> io::Result<String> {
-    let Place {
-        endpoint,
-        cluster,
-        leaf,
-    } = place;
-    let name = format!(in rt.alloc(); "{endpoint:x}/{cluster:x}/{leaf:x}")?;
-    Ok(name)
+fn tell_place(page: &mut Page, place: &Place) {
+    page.add_id(u64::from(place.endpoint));
+    page.add("/");
+    page.add_id(u64::from(place.cluster));
+    page.add("/");
+    page.add_id(u64::from(place.leaf));
 }
 
-// The bytes of its narrow encoding, at the end of a line.
-fn tell_value(rt: &HostRuntime, value: &Value) -> io::Result<()> {
-    let mut bytes = Vec::new(rt.alloc());
-    write(&Tag::Anonymous, value, &mut bytes)?;
-    println!(rt; " = {}", hex::encode(rt.alloc(), bytes.as_slice())?)
+// The bytes of its narrow encoding.
+fn tell_value(alloc: Global, page: &mut Page, value: &Value) {
+    let mut bytes = Vec::new(alloc);
+    if write(&Tag::Anonymous, value, &mut bytes).is_err() {
+        page.leave_gap();
+    }
+    page.add(" = ");
+    page.add_hex(&bytes);
 }
 
 // Bytes behind a word, `-` where there are none.
-fn tell_bytes(rt: &HostRuntime, word: &str, bytes: &Bytes) -> io::Result<()> {
+fn tell_bytes(page: &mut Page, word: &str, bytes: &Bytes) {
+    page.add(word);
     if bytes.as_slice().is_empty() {
-        return print!(rt; "{word} -");
+        return page.add(" -");
     }
-    print!(rt; "{word} {}", hex::encode(rt.alloc(), bytes.as_slice())?)
+    page.add(" ");
+    page.add_hex(bytes.as_slice());
 }
 
-fn tell_step(rt: &HostRuntime, step: &NodeStep) -> io::Result<()> {
-    print!(rt; "  ")?;
+// A number behind a word.
+fn tell_number(page: &mut Page, word: &str, number: u64) {
+    page.add(word);
+    page.add_number(number);
+}
+
+fn tell_step(alloc: Global, page: &mut Page, step: &NodeStep) {
     match step {
         NodeStep::SetRow {
             place,
             fabric,
             values,
         } => {
-            print!(rt; "set {} of fabric {fabric}", name(rt, place)?)?;
-            for value in values.as_slice() {
-                tell_value(rt, value)?;
-            }
-            Ok(())
+            page.add("set ");
+            tell_place(page, place);
+            tell_number(page, " of fabric ", u64::from(*fabric));
+            tell_values(alloc, page, values.as_slice());
         }
         NodeStep::Emit {
             place,
@@ -67,95 +82,119 @@ fn tell_step(rt: &HostRuntime, step: &NodeStep) -> io::Result<()> {
             fabric,
             value,
         } => {
-            let name = name(rt, place)?;
-            print!(rt; "event {name} of priority {priority} for fabric {fabric}")?;
-            tell_value(rt, value)
+            page.add("event ");
+            tell_place(page, place);
+            tell_number(page, " of priority ", u64::from(*priority));
+            tell_number(page, " for fabric ", u64::from(*fabric));
+            tell_value(alloc, page, value);
         }
-        _ => tell_failsafe(rt, step),
+        _ => tell_failsafe(page, step),
     }
 }
 
-fn tell_failsafe(rt: &HostRuntime, step: &NodeStep) -> io::Result<()> {
+fn tell_values(alloc: Global, page: &mut Page, values: &[Value]) {
+    for value in values {
+        tell_value(alloc, page, value);
+    }
+}
+
+fn tell_failsafe(page: &mut Page, step: &NodeStep) {
     match step {
-        NodeStep::Arm { owner, seconds } => println!(rt; "arm for fabric {owner}, {seconds} s"),
-        NodeStep::Renew { seconds } => println!(rt; "renew for {seconds} s"),
-        NodeStep::Expire => println!(rt; "expire"),
-        NodeStep::Complete => println!(rt; "complete"),
-        NodeStep::AddRoot { cert } => {
-            tell_bytes(rt, "root", cert)?;
-            println!(rt; "")
+        NodeStep::Arm { owner, seconds } => {
+            tell_number(page, "arm for fabric ", u64::from(*owner));
+            tell_number(page, ", ", u64::from(*seconds));
+            page.add(" s");
         }
+        NodeStep::Renew { seconds } => {
+            tell_number(page, "renew for ", u64::from(*seconds));
+            page.add(" s");
+        }
+        NodeStep::Expire => page.add("expire"),
+        NodeStep::Complete => page.add("complete"),
+        NodeStep::AddRoot { cert } => tell_bytes(page, "root", cert),
         NodeStep::Csr { nonce, update } => {
-            tell_bytes(rt, "csr", nonce)?;
-            println!(rt; " update {update}")
+            tell_bytes(page, "csr", nonce);
+            page.add(" update ");
+            page.add_shown(update);
         }
-        _ => tell_network(rt, step),
+        _ => tell_network(page, step),
     }
 }
 
-fn tell_network(rt: &HostRuntime, step: &NodeStep) -> io::Result<()> {
+fn tell_network(page: &mut Page, step: &NodeStep) {
     match step {
         NodeStep::PutNetwork { id, secret } => {
-            tell_bytes(rt, "put", id)?;
-            tell_bytes(rt, " secret", secret)?;
+            tell_bytes(page, "put", id);
+            tell_bytes(page, " secret", secret);
         }
-        NodeStep::RemoveNetwork { id } => tell_bytes(rt, "remove", id)?,
-        NodeStep::ConnectNetwork { id } => tell_bytes(rt, "connect", id)?,
+        NodeStep::RemoveNetwork { id } => tell_bytes(page, "remove", id),
+        NodeStep::ConnectNetwork { id } => tell_bytes(page, "connect", id),
         NodeStep::MoveNetwork { id, index } => {
-            tell_bytes(rt, "move", id)?;
-            print!(rt; " to {index}")?;
+            tell_bytes(page, "move", id);
+            tell_number(page, " to ", u64::from(*index));
         }
-        _ => return tell_fabric_step(rt, step),
+        _ => tell_fabric_step(page, step),
     }
-    println!(rt; "")
 }
 
-fn tell_fabric_step(rt: &HostRuntime, step: &NodeStep) -> io::Result<()> {
+fn tell_fabric_step(page: &mut Page, step: &NodeStep) {
     match step {
-        NodeStep::AddFabric { fabric } => tell_fabric(rt, fabric)?,
+        NodeStep::AddFabric { fabric } => tell_fabric(page, fabric),
         NodeStep::UpdateFabric { index, credentials } => {
-            print!(rt; "fabric {index} has")?;
-            tell_credentials(rt, credentials)?;
+            tell_number(page, "fabric ", u64::from(*index));
+            page.add(" has");
+            tell_credentials(page, credentials);
         }
-        NodeStep::RemoveFabric { index } => print!(rt; "fabric {index} leaves")?,
+        NodeStep::RemoveFabric { index } => {
+            tell_number(page, "fabric ", u64::from(*index));
+            page.add(" leaves");
+        }
         NodeStep::Label { index, label } => {
-            print!(rt; "fabric {index} has")?;
-            tell_bytes(rt, " label", label)?;
+            tell_number(page, "fabric ", u64::from(*index));
+            tell_bytes(page, " has label", label);
         }
         NodeStep::SetEntries { fabric, entries } => {
-            print!(rt; "fabric {fabric} has")?;
-            for entry in entries.as_slice() {
-                tell_entry(rt, entry)?;
-            }
+            tell_number(page, "fabric ", u64::from(*fabric));
+            page.add(" has");
+            tell_entries(page, entries.as_slice());
         }
-        _ => print!(rt; "another step")?,
+        _ => page.add("another step"),
     }
-    println!(rt; "")
 }
 
-fn tell_fabric(rt: &HostRuntime, fabric: &Fabric) -> io::Result<()> {
-    print!(rt; "fabric {} joins", fabric.index)?;
-    tell_credentials(rt, &fabric.credentials)?;
-    print!(rt; " vendor {:x}", fabric.vendor)?;
-    tell_bytes(rt, " label", &fabric.label)
+fn tell_fabric(page: &mut Page, fabric: &Fabric) {
+    tell_number(page, "fabric ", u64::from(fabric.index));
+    page.add(" joins");
+    tell_credentials(page, &fabric.credentials);
+    page.add(" vendor ");
+    page.add_id(u64::from(fabric.vendor));
+    tell_bytes(page, " label", &fabric.label);
 }
 
-fn tell_credentials(rt: &HostRuntime, given: &Credentials) -> io::Result<()> {
-    print!(rt; " id {:x} node {:x}", given.fabric_id, given.node_id)?;
-    tell_bytes(rt, " root", &given.root)?;
-    tell_bytes(rt, " key", &given.root_key)?;
-    tell_bytes(rt, " noc", &given.noc)?;
-    tell_bytes(rt, " icac", &given.icac)?;
-    tell_bytes(rt, " ipk", &given.ipk)
+fn tell_credentials(page: &mut Page, given: &Credentials) {
+    page.add(" id ");
+    page.add_id(given.fabric_id);
+    page.add(" node ");
+    page.add_id(given.node_id);
+    tell_bytes(page, " root", &given.root);
+    tell_bytes(page, " key", &given.root_key);
+    tell_bytes(page, " noc", &given.noc);
+    tell_bytes(page, " icac", &given.icac);
+    tell_bytes(page, " ipk", &given.ipk);
 }
 
-fn tell_entry(rt: &HostRuntime, entry: &AclEntry) -> io::Result<()> {
-    print!(rt;
-        " {:?} {:?} of fabric {}",
-        entry.privilege, entry.auth, entry.fabric
-    )?;
-    for subject in entry.subjects.as_slice() {
-        print!(rt; " for {subject:x}")?;
+fn tell_entries(page: &mut Page, entries: &[AclEntry]) {
+    for entry in entries {
+        page.add(" ");
+        page.add_debug(&entry.privilege);
+        page.add(" ");
+        page.add_debug(&entry.auth);
+        tell_number(page, " of fabric ", u64::from(entry.fabric));
+        for subject in entry.subjects.as_slice() {
+            page.add(" for ");
+            page.add_id(*subject);
+        }
+        tell_number(page, " with ", entry.targets.len() as u64);
+        page.add(" targets");
     }
-    print!(rt; " with {} targets", entry.targets.len())
 }

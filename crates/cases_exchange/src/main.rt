@@ -19,32 +19,42 @@
 //! reports, of which each is let go.
 #![tactic(auto)]
 
+mod shown;
 mod stand;
 mod talking;
 mod words;
 
+use cases_page::Page;
 use stand::Stand;
+use std::alloc::{AllocError, Global};
 use std::{fs, io};
 use talking::Talking;
 
 fn main(rt: HostRuntime) -> io::Result<()> {
+    let mut page = Page::new(rt.alloc());
     let happenings = fs::read_to_string(&rt, "happenings.txt")?;
-    let mut stand = Stand::new(rt.alloc(), false, 5000);
-    for line in happenings.as_str().lines() {
-        println!(rt; "{line}")?;
-        let words: Vec<&str> = line.split(' ').collect(rt.alloc())?;
-        stand.happen(&rt, &words)?;
-    }
-    talks(&rt)
+    tell_happenings(rt.alloc(), &mut page, happenings.as_str())?;
+    let talks = fs::read_to_string(&rt, "talks.txt")?;
+    tell_talks(rt.alloc(), &mut page, talks.as_str())?;
+    print!(rt; "{}", page.whole()?)
 }
 
-fn talks(rt: &HostRuntime) -> io::Result<()> {
-    let talks = fs::read_to_string(rt, "talks.txt")?;
-    let mut talking = Talking::new(rt.alloc(), false, 5000);
-    for line in talks.as_str().lines() {
-        println!(rt; "{line}")?;
-        let words: Vec<&str> = line.split(' ').collect(rt.alloc())?;
-        talking.happen(rt, &words)?;
+fn tell_happenings(alloc: Global, page: &mut Page, happenings: &str) -> Result<(), AllocError> {
+    let mut stand = Stand::new(alloc, false, 5000);
+    for line in happenings.lines() {
+        page.line(line);
+        let words: Vec<&str> = line.split(' ').collect(alloc)?;
+        stand.happen(page, &words)?;
+    }
+    Ok(())
+}
+
+fn tell_talks(alloc: Global, page: &mut Page, talks: &str) -> Result<(), AllocError> {
+    let mut talking = Talking::new(alloc, false, 5000);
+    for line in talks.lines() {
+        page.line(line);
+        let words: Vec<&str> = line.split(' ').collect(alloc)?;
+        talking.happen(page, &words)?;
     }
     Ok(())
 }

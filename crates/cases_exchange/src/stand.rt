@@ -3,13 +3,14 @@
 ghost use Rattle.std.specs.Prelude.{◌≢◌};
 ghost use Rattle.mt_model.specs.declared.tables.access.Auth.TheVariants.{Group};
 
-use crate::words::{bytes, header, key, number, payloads, time, word};
+use crate::shown::{tell_bytes, tell_debug, tell_ends, tell_number, tell_resent};
+use crate::words::{header, key, number_or_none, payloads};
+use cases_page::{Page, hex_bytes, id, number, word};
 use mt_exchange::Exchanges;
 use mt_model::{Auth, ExactCopy, SessionRow};
 use mt_session::{Opened, SealFault, Session};
 use mt_tlv::Bytes;
-use std::alloc::Global;
-use std::io;
+use std::alloc::{AllocError, Global};
 
 /// The row of a session of node 10 with node 1.
 pub(crate) fn row(alloc: Global, is_pase: bool, counter_out: u32) -> SessionRow
@@ -36,138 +37,139 @@ pub(crate) fn row(alloc: Global, is_pase: bool, counter_out: u32) -> SessionRow
 }
 
 /// A session of node 10 with node 1, and its exchanges.
-#[derive(Drop)]
 pub struct Stand {
+    alloc: Global,
     session: Session,
     exchanges: Exchanges,
+}
+
+impl Drop for Stand {
+    fn drop(self) {
+        let Stand {
+            alloc: _,
+            session: _,
+            exchanges: _,
+        } = self;
+    }
 }
 
 impl Stand {
     /// A new session on which nothing has happened, whose first own counter is given.
     pub(crate) fn new(alloc: Global, is_pase: bool, counter_out: u32) -> Stand {
         Stand {
+            alloc,
             session: Session::new(row(alloc, is_pase, counter_out)),
             exchanges: Exchanges::new(alloc),
         }
     }
 
-    /// Lets it happen, and prints what is answered. A line that begins otherwise is a title.
-    pub(crate) fn happen(&mut self, rt: &HostRuntime, words: &[&str]) -> io::Result<()> {
+    /// Lets it happen, and tells what is answered. A line that begins otherwise is a title.
+    pub(crate) fn happen(&mut self, page: &mut Page, words: &[&str]) -> Result<(), AllocError> {
         match word(words, 0) {
-            "CASE" => self.begin(rt, false, words),
-            "PASE" => self.begin(rt, true, words),
-            "unseal" => self.unseal(rt, words),
-            "receive" => self.receive(rt, words),
-            "answer" => self.answer(rt, words),
-            "report" => self.report(rt, words),
-            "resend" => self.resend(rt, words),
-            "ends" => self.ends(rt),
-            "seal" => self.seal(rt, words),
-            "counter" => println!(rt; "  {}", self.session.next_counter()),
-            "copy" => self.copy(),
-            "drop" => {
-                self.exchanges.drop_all();
-                Ok(())
-            }
-            _ => Ok(()),
+            "CASE" | "PASE" => self.begin(word(words, 0) == "PASE", id(words, 1)),
+            "unseal" => self.unseal(page, word(words, 1)),
+            "receive" => self.receive(page, words)?,
+            "answer" => self.answer(page, words)?,
+            "report" => self.report(page, words)?,
+            "resend" => self.resend(page, words)?,
+            "ends" => tell_ends(page, self.exchanges.ends()?.as_slice()),
+            "seal" => self.seal(page, words),
+            "counter" => tell_number(page, "  ", u64::from(self.session.next_counter())),
+            "copy" => self.copy()?,
+            "drop" => self.exchanges.drop_all(),
+            _ => {}
         }
-    }
-
-    fn begin(&mut self, rt: &HostRuntime, is_pase: bool, words: &[&str]) -> io::Result<()> {
-        *self = Stand::new(rt.alloc(), is_pase, number(words, 1).unwrap_or(0));
         Ok(())
     }
 
-    fn unseal(&mut self, rt: &HostRuntime, words: &[&str]) -> io::Result<()> {
-        let mut datagram = bytes(rt.alloc(), word(words, 1));
+    fn begin(&mut self, is_pase: bool, counter_out: u32) {
+        self.session = Session::new(row(self.alloc, is_pase, counter_out));
+        self.exchanges = Exchanges::new(self.alloc);
+    }
+
+    fn unseal(&mut self, page: &mut Page, datagram: &str) {
+        let mut datagram = hex_bytes(self.alloc, datagram);
         if datagram.len() > 1_280 {
-            return Ok(());
+            return;
         }
         match self.session.unseal(&mut datagram) {
-            Ok(opened) => {
-                println!(rt; "  {} {:?}", opened.counter, opened.header)?;
-                print_bytes(rt, opened.payload)
-            }
-            Err(dropped) => println!(rt; "  {dropped:?}"),
+            Ok(opened) => tell_opened(page, &opened),
+            Err(dropped) => tell_debug(page, &dropped),
         }
     }
 
     // A message that belongs to no exchange.
-    fn seal(&mut self, rt: &HostRuntime, words: &[&str]) -> io::Result<()> {
-        let payload = bytes(rt.alloc(), word(words, 7));
+    fn seal(&mut self, page: &mut Page, words: &[&str]) {
+        let payload = hex_bytes(self.alloc, word(words, 7));
         match self.session.seal(&header(words), &payload) {
-            Ok(datagram) => print_bytes(rt, datagram.as_slice()),
-            Err(fault) => println!(rt; "  {fault:?}"),
+            Ok(datagram) => tell_bytes(page, datagram.as_slice()),
+            Err(fault) => tell_debug(page, &fault),
         }
     }
 
     // What happens from here on happens to copies.
-    fn copy(&mut self) -> io::Result<()> {
+    fn copy(&mut self) -> Result<(), AllocError> {
         self.session = self.session.copy()?;
         self.exchanges = self.exchanges.copy()?;
         Ok(())
     }
 
-    fn receive(&mut self, rt: &HostRuntime, words: &[&str]) -> io::Result<()> {
-        let payload = bytes(rt.alloc(), word(words, 7));
+    fn receive(&mut self, page: &mut Page, words: &[&str]) -> Result<(), AllocError> {
+        let payload = hex_bytes(self.alloc, word(words, 7));
         let opened = Opened {
             counter: 1000,
             header: header(words),
             payload: &payload,
         };
-        let turn = self.exchanges.receive(&opened)?;
-        println!(rt; "  {turn:?}")
-    }
-
-    fn answer(&mut self, rt: &HostRuntime, words: &[&str]) -> io::Result<()> {
-        let payloads = payloads(rt.alloc(), words, 5)?;
-        let now = time(words, 4).unwrap_or(0);
-        let acknowledged = number(words, 3);
-        let answer = self
-            .exchanges
-            .answer(&mut self.session, key(words), acknowledged, payloads, now);
-        print_sent(rt, answer)
-    }
-
-    fn report(&mut self, rt: &HostRuntime, words: &[&str]) -> io::Result<()> {
-        let payloads = payloads(rt.alloc(), words, 3)?;
-        let subscription = number(words, 1).unwrap_or(0);
-        let now = time(words, 2).unwrap_or(0);
-        let answer = self
-            .exchanges
-            .report(&mut self.session, subscription, payloads, now);
-        print_sent(rt, answer)
-    }
-
-    fn resend(&mut self, rt: &HostRuntime, words: &[&str]) -> io::Result<()> {
-        let now = time(words, 1).unwrap_or(0);
-        let (datagrams, ends) = self.exchanges.resend(now)?;
-        for datagram in datagrams.as_slice() {
-            print_bytes(rt, datagram.as_slice())?;
-        }
-        for subscription in ends.as_slice() {
-            println!(rt; "  subscription {subscription} ends")?;
-        }
+        tell_debug(page, &self.exchanges.receive(&opened)?);
         Ok(())
     }
 
-    fn ends(&self, rt: &HostRuntime) -> io::Result<()> {
-        let ends = self.exchanges.ends()?;
-        for end in ends.as_slice() {
-            println!(rt; "  subscription {} ends at {}", end.subscription, end.ms)?;
-        }
+    fn answer(&mut self, page: &mut Page, words: &[&str]) -> Result<(), AllocError> {
+        let payloads = payloads(self.alloc, words, 5)?;
+        let answer = self.exchanges.answer(
+            &mut self.session,
+            key(words),
+            number_or_none(words, 3),
+            payloads,
+            number(words, 4),
+        );
+        tell_sent(page, answer);
+        Ok(())
+    }
+
+    fn report(&mut self, page: &mut Page, words: &[&str]) -> Result<(), AllocError> {
+        let payloads = payloads(self.alloc, words, 3)?;
+        let answer = self.exchanges.report(
+            &mut self.session,
+            id(words, 1),
+            payloads,
+            number(words, 2),
+        );
+        tell_sent(page, answer);
+        Ok(())
+    }
+
+    fn resend(&mut self, page: &mut Page, words: &[&str]) -> Result<(), AllocError> {
+        let (datagrams, ends) = self.exchanges.resend(number(words, 1))?;
+        tell_resent(page, datagrams.as_slice(), ends.as_slice());
         Ok(())
     }
 }
 
-fn print_sent(rt: &HostRuntime, answer: Result<Option<Bytes>, SealFault>) -> io::Result<()> {
+fn tell_opened(page: &mut Page, opened: &Opened<'_>) {
+    page.add("  ");
+    page.add_number(u64::from(opened.counter));
+    page.add(" ");
+    page.add_debug(&opened.header);
+    page.end_line();
+    tell_bytes(page, opened.payload);
+}
+
+fn tell_sent(page: &mut Page, answer: Result<Option<Bytes>, SealFault>) {
     match answer {
-        Ok(Some(datagram)) => print_bytes(rt, datagram.as_slice()),
-        Ok(None) => Ok(()),
-        Err(fault) => println!(rt; "  {fault:?}"),
+        Ok(Some(datagram)) => tell_bytes(page, datagram.as_slice()),
+        Ok(None) => {}
+        Err(fault) => tell_debug(page, &fault),
     }
-}
-
-pub(crate) fn print_bytes(rt: &HostRuntime, bytes: &[u8]) -> io::Result<()> {
-    println!(rt; "  {}", hex::encode(rt.alloc(), bytes)?)
 }

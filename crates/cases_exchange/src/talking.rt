@@ -1,130 +1,118 @@
 //! A talk over a session, and what is heard and said in it.
 
-use crate::stand::{print_bytes, row};
-use crate::words::{bytes, key, number, payloads, time, word};
+use crate::shown::{tell_bytes, tell_ends, tell_number, tell_resent};
+use crate::stand::row;
+use crate::words::{key, number_or_none, payloads};
+use cases_page::{Page, hex_bytes, id, number, short, word};
 use mt_model::{ExactCopy, Payload};
 use mt_outside::Peer;
 use mt_talk::{Heard, Hearing, Talk};
 use mt_tlv::Bytes;
-use std::alloc::Global;
-use std::io;
+use std::alloc::{AllocError, Global};
+use std::fmt::Debug;
 
 /// A talk of node 10 with node 1.
-#[derive(Drop)]
 pub struct Talking {
+    alloc: Global,
     talk: Talk,
+}
+
+impl Drop for Talking {
+    fn drop(self) {
+        let Talking { alloc: _, talk: _ } = self;
+    }
 }
 
 impl Talking {
     /// A new talk, in which nothing has been said.
     pub(crate) fn new(alloc: Global, is_pase: bool, counter_out: u32) -> Talking {
         Talking {
+            alloc,
             talk: Talk::new(alloc, row(alloc, is_pase, counter_out)),
         }
     }
 
-    /// Lets it happen, and prints what is heard or said. A line that begins otherwise is a title.
-    pub(crate) fn happen(&mut self, rt: &HostRuntime, words: &[&str]) -> io::Result<()> {
+    /// Lets it happen, and tells what is heard or said. A line that begins otherwise is a title.
+    pub(crate) fn happen(&mut self, page: &mut Page, words: &[&str]) -> Result<(), AllocError> {
         match word(words, 0) {
-            "CASE" => self.begin(rt, false, words),
-            "PASE" => self.begin(rt, true, words),
-            "hear" => self.hear(rt, words),
-            "answer" => self.answer(rt, words),
-            "report" => self.report(rt, words),
-            "resend" => self.resend(rt, words),
-            "ends" => self.ends(rt),
-            "pass" => self.pass(rt, words),
-            "copy" => {
-                self.talk = self.talk.copy()?;
-                Ok(())
-            }
-            "drop" => {
-                self.talk.drop_all();
-                Ok(())
-            }
-            _ => Ok(()),
+            "CASE" | "PASE" => self.begin(word(words, 0) == "PASE", id(words, 1)),
+            "hear" => self.hear(page, words)?,
+            "answer" => self.answer(page, words)?,
+            "report" => self.report(page, words)?,
+            "resend" => self.resend(page, words)?,
+            "ends" => tell_ends(page, self.talk.ends()?.as_slice()),
+            "pass" => self.pass(words)?,
+            "copy" => self.talk = self.talk.copy()?,
+            "drop" => self.talk.drop_all(),
+            _ => {}
         }
-    }
-
-    fn begin(&mut self, rt: &HostRuntime, is_pase: bool, words: &[&str]) -> io::Result<()> {
-        *self = Talking::new(rt.alloc(), is_pase, number(words, 1).unwrap_or(0));
         Ok(())
     }
 
-    fn hear(&mut self, rt: &HostRuntime, words: &[&str]) -> io::Result<()> {
-        let mut datagram = bytes(rt.alloc(), word(words, 3));
+    fn begin(&mut self, is_pase: bool, counter_out: u32) {
+        self.talk = Talk::new(self.alloc, row(self.alloc, is_pase, counter_out));
+    }
+
+    fn hear(&mut self, page: &mut Page, words: &[&str]) -> Result<(), AllocError> {
+        let mut datagram = hex_bytes(self.alloc, word(words, 3));
         if datagram.len() > 1_280 {
             return Ok(());
         }
         let from = Peer {
             ip: [0; 16],
-            port: word(words, 2).parse::<u16>().unwrap_or(0),
+            port: short(words, 2),
         };
-        let hearing = self
-            .talk
-            .hear(word(words, 1) == "live", from, &mut datagram)?;
-        print_hearing(rt, &hearing)?;
+        let is_live = word(words, 1) == "live";
+        tell_hearing(page, &self.talk.hear(is_live, from, &mut datagram)?);
         match self.talk.latest() {
-            Some(peer) => println!(rt; "  latest {}", peer.port),
-            None => println!(rt; "  latest none"),
+            Some(peer) => tell_number(page, "  latest ", u64::from(peer.port)),
+            None => page.line("  latest none"),
         }
+        Ok(())
     }
 
-    fn answer(&mut self, rt: &HostRuntime, words: &[&str]) -> io::Result<()> {
-        let payloads = payloads(rt.alloc(), words, 5)?;
-        let now = time(words, 4).unwrap_or(0);
-        let sent = self
-            .talk
-            .answer(key(words), number(words, 3), payloads, now)?;
-        print_sent(rt, &sent)
+    fn answer(&mut self, page: &mut Page, words: &[&str]) -> Result<(), AllocError> {
+        let payloads = payloads(self.alloc, words, 5)?;
+        let acknowledged = number_or_none(words, 3);
+        let now = number(words, 4);
+        tell_sent(
+            page,
+            &self.talk.answer(key(words), acknowledged, payloads, now)?,
+        );
+        Ok(())
     }
 
-    fn report(&mut self, rt: &HostRuntime, words: &[&str]) -> io::Result<()> {
-        let payloads = payloads(rt.alloc(), words, 3)?;
-        let subscription = number(words, 1).unwrap_or(0);
-        let now = time(words, 2).unwrap_or(0);
-        let sent = self.talk.report(subscription, payloads, now)?;
-        print_sent(rt, &sent)
+    fn report(&mut self, page: &mut Page, words: &[&str]) -> Result<(), AllocError> {
+        let payloads = payloads(self.alloc, words, 3)?;
+        let now = number(words, 2);
+        tell_sent(page, &self.talk.report(id(words, 1), payloads, now)?);
+        Ok(())
     }
 
     // So many reports, one after the other, of which each is let go.
-    fn pass(&mut self, rt: &HostRuntime, words: &[&str]) -> io::Result<()> {
-        for _ in 0..number(words, 1).unwrap_or(0) {
-            let payloads = payloads(rt.alloc(), words, 3)?;
-            let now = time(words, 2).unwrap_or(0);
-            self.talk.report(1, payloads, now)?;
+    fn pass(&mut self, words: &[&str]) -> Result<(), AllocError> {
+        for _ in 0..id(words, 1) {
+            let payloads = payloads(self.alloc, words, 3)?;
+            self.talk.report(1, payloads, number(words, 2))?;
             self.talk.drop_all();
         }
         Ok(())
     }
 
-    fn resend(&mut self, rt: &HostRuntime, words: &[&str]) -> io::Result<()> {
-        let (datagrams, ends) = self.talk.resend(time(words, 1).unwrap_or(0))?;
-        for datagram in datagrams.as_slice() {
-            print_bytes(rt, datagram.as_slice())?;
-        }
-        for subscription in ends.as_slice() {
-            println!(rt; "  subscription {subscription} ends")?;
-        }
-        Ok(())
-    }
-
-    fn ends(&self, rt: &HostRuntime) -> io::Result<()> {
-        let ends = self.talk.ends()?;
-        for end in ends.as_slice() {
-            println!(rt; "  subscription {} ends at {}", end.subscription, end.ms)?;
-        }
+    fn resend(&mut self, page: &mut Page, words: &[&str]) -> Result<(), AllocError> {
+        let (datagrams, ends) = self.talk.resend(number(words, 1))?;
+        tell_resent(page, datagrams.as_slice(), ends.as_slice());
         Ok(())
     }
 }
 
-fn print_hearing(rt: &HostRuntime, hearing: &Hearing<'_>) -> io::Result<()> {
+fn tell_hearing(page: &mut Page, hearing: &Hearing<'_>) {
     match &hearing.fresh {
-        Some(opened) => println!(rt; "  fresh {}", opened.counter)?,
-        None => println!(rt; "  not fresh")?,
+        Some(opened) => tell_number(page, "  fresh ", u64::from(opened.counter)),
+        None => page.line("  not fresh"),
     }
     match &hearing.heard {
-        Heard::Nothing => println!(rt; "  nothing"),
+        Heard::Nothing => page.line("  nothing"),
         Heard::Asks {
             key,
             acknowledge,
@@ -132,40 +120,68 @@ fn print_hearing(rt: &HostRuntime, hearing: &Hearing<'_>) -> io::Result<()> {
             payload,
             timed,
         } => {
-            println!(rt; "  asks {key:?} {acknowledge:?} {opcode} {timed:?}")?;
-            print_bytes(rt, payload)
+            tell_three(page, "  asks ", key, acknowledge);
+            page.add(" ");
+            page.add_number(u64::from(*opcode));
+            page.add(" ");
+            page.add_debug(timed);
+            page.end_line();
+            tell_bytes(page, payload);
         }
+        _ => tell_other(page, &hearing.heard),
+    }
+}
+
+fn tell_other(page: &mut Page, heard: &Heard<'_>) {
+    match heard {
         Heard::Confirms {
             key,
             acknowledge,
             subscription,
-        } => println!(rt; "  confirms {key:?} {acknowledge:?} {subscription}"),
+        } => {
+            tell_three(page, "  confirms ", key, acknowledge);
+            tell_number(page, " ", u64::from(*subscription));
+        }
         Heard::Ends {
             key,
             acknowledge,
             subscription,
-        } => println!(rt; "  ends {key:?} {acknowledge:?} {subscription:?}"),
+        } => {
+            tell_three(page, "  ends ", key, acknowledge);
+            page.add(" ");
+            page.add_debug(subscription);
+            page.end_line();
+        }
         Heard::Answers {
             key,
             acknowledge,
             payloads,
         } => {
-            println!(rt; "  answers {key:?} {acknowledge:?}")?;
-            print_payloads(rt, payloads.as_slice())
+            tell_three(page, "  answers ", key, acknowledge);
+            page.end_line();
+            tell_payloads(page, payloads.as_slice());
         }
+        _ => {}
     }
 }
 
-fn print_payloads(rt: &HostRuntime, payloads: &[Payload]) -> io::Result<()> {
+// A word, the key of an exchange, and what is acknowledged there.
+fn tell_three<K: Debug, A: Debug>(page: &mut Page, word: &str, key: &K, acknowledge: &A) {
+    page.add(word);
+    page.add_debug(key);
+    page.add(" ");
+    page.add_debug(acknowledge);
+}
+
+fn tell_payloads(page: &mut Page, payloads: &[Payload]) {
     for payload in payloads {
-        print_bytes(rt, payload.bytes.as_slice())?;
+        tell_bytes(page, payload.bytes.as_slice());
     }
-    Ok(())
 }
 
-fn print_sent(rt: &HostRuntime, sent: &Option<Bytes>) -> io::Result<()> {
+fn tell_sent(page: &mut Page, sent: &Option<Bytes>) {
     match sent {
-        Some(datagram) => print_bytes(rt, datagram.as_slice()),
-        None => println!(rt; "  nothing is sent"),
+        Some(datagram) => tell_bytes(page, datagram.as_slice()),
+        None => page.line("  nothing is sent"),
     }
 }

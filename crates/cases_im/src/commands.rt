@@ -2,41 +2,33 @@
 
 use crate::access::actor;
 use crate::node::Kept;
-use crate::reading::{no_case, place, truth, value};
+use crate::reading::{place, truth, value};
+use cases_page::{Page, word};
 use mt_invoke::{check, has_form};
-use mt_model::Actor;
+use std::alloc::Global;
 use std::io;
 
 /// Whether a command may be carried out: by whom (fabric, mode, node, CATs), where, and whether the request
-/// was timed. Whether a value may be its fields.
-pub(crate) fn tell(rt: &HostRuntime, node: &Kept, words: &[&str]) -> io::Result<()> {
-    match *words {
-        ["check", fabric, proved, named, cats, at, timed] => {
-            let actor = actor(fabric, proved, named, cats)?;
-            tell_check(rt, node, &actor, at, timed)
-        }
-        ["fields", at, data] => tell_form(rt, at, data),
-        _ => Err(no_case()),
+/// was timed.
+pub(crate) fn tell_check(page: &mut Page, node: &Kept, words: &[&str]) {
+    let actor = actor(
+        word(words, 1),
+        word(words, 2),
+        word(words, 3),
+        word(words, 4),
+    );
+    let command = place(word(words, 5));
+    match check(node, &actor, &command, truth(word(words, 6))) {
+        Ok(_) => page.add("carried out"),
+        Err(status) => page.add_debug(&status),
     }
+    page.end_line();
 }
 
-fn tell_check(
-    rt: &HostRuntime,
-    node: &Kept,
-    actor: &Actor,
-    at: &str,
-    timed: &str,
-) -> io::Result<()> {
-    let command = place(at)?;
-    let timed = truth(timed)?;
-    match check(node, actor, &command, timed) {
-        Ok(_) => println!(rt; "carried out"),
-        Err(status) => println!(rt; "{status:?}"),
-    }
-}
-
-fn tell_form(rt: &HostRuntime, at: &str, data: &str) -> io::Result<()> {
-    let fields = value(rt.alloc(), data)?;
-    let fits = has_form(&place(at)?, &fields);
-    println!(rt; "{fits}")
+/// Whether a value may be the fields of a command.
+pub(crate) fn tell_form(alloc: Global, page: &mut Page, words: &[&str]) -> io::Result<()> {
+    let fields = value(alloc, word(words, 2))?;
+    page.add_shown(&has_form(&place(word(words, 1)), &fields));
+    page.end_line();
+    Ok(())
 }

@@ -6,14 +6,14 @@ ghost use Rattle.mt_model.specs.rows.Order.{fabrics_ascend};
 
 use crate::reading::place;
 use crate::telling::tell_value;
+use cases_page::Page;
 use mt_apps::rows_at;
 use mt_model::{
     AclEntries, AclEntry, Auth, Credentials, Fabric, Fabrics, Network, Networks, Place, Privilege,
-    Roots, StoredRows, Subjects, Target, Targets, View,
+    Roots, Row, Rows, StoredRows, Subjects, Target, Targets, View,
 };
 use mt_tlv::Bytes;
 use std::alloc::{AllocError, Global};
-use std::io;
 
 fn entries(alloc: Global) -> Result<AclEntries, AllocError>
     ensures { IfOk result (λ entries. IsTrue (ascend_from 0 entries)) }
@@ -101,19 +101,29 @@ fn roots(alloc: Global) -> Result<Roots, AllocError> {
 }
 
 // The parts of the node.
-#[derive(Drop)]
 struct Parts {
     rows: StoredRows,
     entries: AclEntries,
     fabrics: Fabrics,
     roots: Roots,
     networks: Networks,
+    ghost entries_ascend: { IsTrue (ascend_from 0 entries) },
+    ghost fabrics_ascend: { IsTrue (fabrics_ascend fabrics) },
 }
 
-fn some_parts(alloc: Global) -> Result<Parts, AllocError>
-    ensures entries { IfOk result (λ parts. IsTrue (ascend_from 0 parts.entries)) }
-    ensures fabrics { IfOk result (λ parts. IsTrue (fabrics_ascend parts.fabrics)) }
-{
+impl Drop for Parts {
+    fn drop(self) {
+        let Parts {
+            rows: _,
+            entries: _,
+            fabrics: _,
+            roots: _,
+            networks: _,
+        } = self;
+    }
+}
+
+fn some_parts(alloc: Global) -> Result<Parts, AllocError> {
     let rows = StoredRows::new(alloc)?;
     let entries = entries(alloc)?;
     let fabrics = fabrics(alloc)?;
@@ -129,10 +139,14 @@ fn some_parts(alloc: Global) -> Result<Parts, AllocError>
 }
 
 /// The rows that are computed at a place.
-pub(crate) fn tell(rt: &HostRuntime, at: &str) -> io::Result<()> {
-    let place = place(at)?;
-    let parts = some_parts(rt.alloc())?;
-    let parts = &parts;
+pub(crate) fn tell(alloc: Global, page: &mut Page, at: &str) -> Result<(), AllocError> {
+    let parts = some_parts(alloc)?;
+    let rows = rows_of(alloc, &parts, &place(at))?;
+    tell_rows(alloc, page, rows.as_slice());
+    Ok(())
+}
+
+fn rows_of(alloc: Global, parts: &Parts, place: &Place) -> Result<Rows, AllocError> {
     let view = View {
         rows: &parts.rows,
         entries: &parts.entries,
@@ -141,17 +155,16 @@ pub(crate) fn tell(rt: &HostRuntime, at: &str) -> io::Result<()> {
         networks: &parts.networks,
         armed: None,
     };
-    tell_rows(rt, &view, &place)
+    rows_at(alloc, &view, place)
 }
 
-fn tell_rows(rt: &HostRuntime, view: &View, place: &Place) -> io::Result<()> {
-    let rows = rows_at(rt.alloc(), view, place)?;
-    if rows.len() == 0 {
-        return println!(rt; "no row");
+fn tell_rows(alloc: Global, page: &mut Page, rows: &[Row]) {
+    if rows.is_empty() {
+        page.line("no row");
     }
-    for row in rows.as_slice() {
-        print!(rt; "of fabric {}", row.fabric)?;
-        tell_value(rt, &row.value)?;
+    for row in rows {
+        page.add("of fabric ");
+        page.add_shown(&row.fabric);
+        tell_value(alloc, page, &row.value);
     }
-    Ok(())
 }

@@ -1,21 +1,32 @@
 //! A node that keeps rows, one data version and one access control entry, and how it answers.
 
-use crate::telling::{tell_path, tell_value};
+use crate::telling::{tell_path, tell_place, tell_value};
+use cases_page::Page;
 use mt_model::{
-    AclEntry, Actor, ExactCopy, Item, Items, NodeStep, Paths, Place, Row, Rows, Sight, Version,
-    Versions, Writes,
+    AclEntry, Actor, ExactCopy, Item, NodeStep, Paths, Place, Row, Rows, Sight, Version, Versions,
+    Writes,
 };
 use mt_read::read;
+use mt_tlv::Value;
 use mt_write::write;
-use std::alloc::AllocError;
-use std::{io, slice};
+use std::alloc::{AllocError, Global};
+use std::slice;
 
 /// What the node keeps.
-#[derive(Drop)]
 pub(crate) struct Kept {
     pub(crate) rows: Vec<Row>,
     pub(crate) version: Version,
     pub(crate) entry: AclEntry,
+}
+
+impl Drop for Kept {
+    fn drop(self) {
+        let Kept {
+            rows: _,
+            version: _,
+            entry: _,
+        } = self;
+    }
 }
 
 impl Sight for Kept {
@@ -68,94 +79,133 @@ fn stands_at(row: &Row, place: &Place) -> bool
 }
 
 impl Kept {
+    /// A node without rows.
+    pub(crate) fn new(alloc: Global, entry: AclEntry) -> Kept {
+        Kept {
+            rows: Vec::new(alloc),
+            version: Version {
+                endpoint: 0,
+                cluster: 0,
+                version: 0,
+            },
+            entry,
+        }
+    }
+
+    /// From here on it is a node without rows, with this entry and version.
+    pub(crate) fn begin(&mut self, entry: AclEntry, version: Version) {
+        self.rows.clear();
+        self.version = version;
+        self.entry = entry;
+    }
+
     /// Tells what a read is answered by a reader that knows the data in this version.
     pub(crate) fn tell_read(
         &self,
-        rt: &HostRuntime,
+        alloc: Global,
+        page: &mut Page,
         actor: &Actor,
         paths: &Paths,
         filtered: bool,
         known: u32,
-    ) -> io::Result<()> {
-        let alloc = rt.alloc();
+    ) -> Result<(), AllocError> {
+        let versions = self.versions(alloc, known)?;
+        match read(alloc, self, actor, paths, filtered, &versions) {
+            Ok(items) => tell_items(alloc, page, items.as_slice()),
+            Err(fault) => {
+                page.add_debug(&fault);
+                page.end_line();
+            }
+        }
+        Ok(())
+    }
+
+    fn versions(&self, alloc: Global, known: u32) -> Result<Versions, AllocError> {
         let version = Version {
             endpoint: self.version.endpoint,
             cluster: self.version.cluster,
             version: known,
         };
-        let versions = Versions::from_vec(vec![in alloc; version]?);
-        match read(alloc, self, actor, paths, filtered, &versions) {
-            Ok(items) => tell_items(rt, &items),
-            Err(fault) => println!(rt; "{fault:?}"),
-        }
+        Ok(Versions::from_vec(vec![in alloc; version]?))
     }
 
     /// Tells the statuses of a write, and what it would change.
     pub(crate) fn tell_write(
         &self,
-        rt: &HostRuntime,
+        alloc: Global,
+        page: &mut Page,
         actor: &Actor,
         items: &Writes,
         timed: bool,
-    ) -> io::Result<()> {
-        let written = write(rt.alloc(), self, actor, items, timed)?;
-        tell_items(rt, &written.statuses)?;
+    ) -> Result<(), AllocError> {
+        let written = write(alloc, self, actor, items, timed)?;
+        tell_items(alloc, page, written.statuses.as_slice());
         for step in written.rows.as_slice() {
-            tell_step(rt, step)?;
+            tell_step(alloc, page, step);
         }
         Ok(())
     }
 }
 
-fn tell_items(rt: &HostRuntime, items: &Items) -> io::Result<()> {
+fn tell_items(alloc: Global, page: &mut Page, items: &[Item]) {
     if items.is_empty() {
-        return println!(rt; "no item");
+        page.line("no item");
     }
-    for item in items.as_slice() {
-        tell_item(rt, item)?;
+    for item in items {
+        tell_item(alloc, page, item);
     }
-    Ok(())
 }
 
-fn tell_item(rt: &HostRuntime, item: &Item) -> io::Result<()> {
+fn tell_item(alloc: Global, page: &mut Page, item: &Item) {
     match item {
         Item::Attribute {
             path,
             version,
             value,
         } => {
-            print!(rt; "data")?;
-            tell_path(rt, path)?;
-            print!(rt; " version {version:x}")?;
-            tell_value(rt, value)
+            page.add("data");
+            tell_path(page, path);
+            page.add(" version ");
+            page.add_id(u64::from(*version));
+            tell_value(alloc, page, value);
         }
         Item::Refused { path, code } => {
-            print!(rt; "status {code:02x}")?;
-            tell_path(rt, path)?;
-            println!(rt; "")
+            page.add("status ");
+            page.add_hex(&[*code]);
+            tell_path(page, path);
+            page.end_line();
         }
-        _ => println!(rt; "an event"),
+        _ => page.line("an event"),
     }
 }
 
-fn tell_step(rt: &HostRuntime, step: &NodeStep) -> io::Result<()> {
+fn tell_step(alloc: Global, page: &mut Page, step: &NodeStep) {
     match step {
         NodeStep::SetRow {
             place,
             fabric,
             values,
         } => {
-            print!(rt; "{:x}/{:x}/{:x}", place.endpoint, place.cluster, place.leaf)?;
-            println!(rt; " of fabric {fabric} becomes")?;
-            for value in values.as_slice() {
-                print!(rt; " ")?;
-                tell_value(rt, value)?;
-            }
-            Ok(())
+            tell_place(page, place);
+            page.add(" of fabric ");
+            page.add_shown(fabric);
+            page.line(" becomes");
+            tell_values(alloc, page, values.as_slice());
         }
         NodeStep::SetEntries { fabric, entries } => {
-            println!(rt; "fabric {fabric} has {} entries", entries.len())
+            page.add("fabric ");
+            page.add_shown(fabric);
+            page.add(" has ");
+            page.add_number(entries.len() as u64);
+            page.line(" entries");
         }
-        _ => println!(rt; "another step"),
+        _ => page.line("another step"),
+    }
+}
+
+fn tell_values(alloc: Global, page: &mut Page, values: &[Value]) {
+    for value in values {
+        page.add(" ");
+        tell_value(alloc, page, value);
     }
 }

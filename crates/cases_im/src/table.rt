@@ -1,111 +1,131 @@
 //! What the table of clusters says.
 
-use crate::reading::{narrow_number, no_case, path, place};
-use crate::telling::tell_value;
+use crate::reading::{narrow_number, path, place};
+use crate::telling::{tell_place, tell_value};
+use cases_page::{Page, word};
 use mt_meta::{
-    Asked, all_places, expand, find, find_command, find_event, first_rows, is_global, is_stored,
-    privilege_asked, responses_of,
+    Asked, Meta, all_places, expand, find, find_command, find_event, first_rows, is_global,
+    is_stored, privilege_asked, responses_of,
 };
-use mt_model::{Path, Row};
-use std::io;
+use mt_model::{Path, Place, Row};
+use std::alloc::Global;
 
 /// What is asked of the table.
-pub(crate) fn tell(rt: &HostRuntime, words: &[&str]) -> io::Result<()> {
-    match *words {
-        ["find", at] => {
-            let found = find(&place(at)?);
-            println!(rt; "{found:?}")
+pub(crate) fn tell(alloc: Global, page: &mut Page, words: &[&str]) {
+    let named = word(words, 1);
+    match word(words, 0) {
+        "expand" => tell_expanded(alloc, page, &path(named)),
+        "attributes" => tell_attributes(alloc, page),
+        "first-rows" => tell_first_rows(alloc, page),
+        _ => {
+            tell_found(page, words);
+            page.end_line();
         }
-        ["find-command", at] => {
-            let found = find_command(&place(at)?);
-            println!(rt; "{found:?}")
-        }
-        ["find-event", at] => {
-            let found = find_event(&place(at)?);
-            println!(rt; "{found:?}")
-        }
-        ["responses", cluster] => {
-            let responses = responses_of(narrow_number(cluster)?);
-            println!(rt; "{responses:?}")
-        }
-        ["global", number] => {
-            let global = is_global(narrow_number(number)?);
-            println!(rt; "{global}")
-        }
-        ["asked", at, what] => {
-            let asked = privilege_asked(&place(at)?, asked(what)?);
-            println!(rt; "{asked:?}")
-        }
-        ["expand", named] => tell_expanded(rt, &path(named)?),
-        ["attributes"] => tell_attributes(rt, &path("*/*/*")?),
-        ["first-rows"] => tell_first_rows(rt),
-        _ => Err(no_case()),
     }
 }
 
-fn asked(word: &str) -> io::Result<Asked> {
+fn tell_found(page: &mut Page, words: &[&str]) {
+    let place = place(word(words, 1));
+    match word(words, 0) {
+        "find" => page.add_debug(&find(&place)),
+        "find-command" => page.add_debug(&find_command(&place)),
+        "find-event" => page.add_debug(&find_event(&place)),
+        _ => tell_known(page, words),
+    }
+}
+
+fn tell_known(page: &mut Page, words: &[&str]) {
+    let named = word(words, 1);
+    match word(words, 0) {
+        "responses" => page.add_debug(&responses_of(narrow_number(named))),
+        "global" => page.add_shown(&is_global(narrow_number(named))),
+        "asked" => page.add_debug(&privilege_asked(&place(named), asked(word(words, 2)))),
+        _ => page.add("no case"),
+    }
+}
+
+fn asked(word: &str) -> Asked {
     match word {
-        "read" => Ok(Asked::Read),
-        "write" => Ok(Asked::Write),
-        "command" => Ok(Asked::Command),
-        "event" => Ok(Asked::Event),
-        _ => Err(no_case()),
+        "read" => Asked::Read,
+        "write" => Asked::Write,
+        "command" => Asked::Command,
+        _ => Asked::Event,
     }
 }
 
 // How many places a path names.
-fn tell_expanded(rt: &HostRuntime, path: &Path) -> io::Result<()> {
-    match expand(rt.alloc(), path) {
-        Ok(places) => println!(rt; "{}", places.len()),
-        Err(fault) => println!(rt; "{fault:?}"),
+fn tell_expanded(alloc: Global, page: &mut Page, path: &Path) {
+    match expand(alloc, path) {
+        Ok(places) => page.add_number(places.len() as u64),
+        Err(fault) => page.add_debug(&fault),
     }
+    page.end_line();
 }
 
 // Each attribute of the node, and what is known of it.
-fn tell_attributes(rt: &HostRuntime, all: &Path) -> io::Result<()> {
-    let Ok(places) = expand(rt.alloc(), all) else {
-        return Err(no_case());
-    };
-    for place in places.as_slice() {
-        print!(rt;
-            "{:x}/{:x}/{:x} ",
-            place.endpoint, place.cluster, place.leaf
-        )?;
-        match find(place) {
-            Ok(meta) => {
-                print!(rt; "{:?} {:?} {:?}", meta.kind, meta.read, meta.write)?;
-                println!(rt;
-                    " scoped {} timed {} kept {} limit {}",
-                    meta.scoped, meta.timed, meta.kept, meta.limit
-                )?;
+fn tell_attributes(alloc: Global, page: &mut Page) {
+    match expand(alloc, &path("*/*/*")) {
+        Ok(places) => {
+            for place in places.as_slice() {
+                tell_attribute(page, place);
             }
-            Err(status) => println!(rt; "{status:?}")?,
         }
+        Err(_) => page.leave_gap(),
     }
-    Ok(())
+}
+
+fn tell_attribute(page: &mut Page, place: &Place) {
+    tell_place(page, place);
+    page.add(" ");
+    match find(place) {
+        Ok(meta) => tell_meta(page, &meta),
+        Err(status) => page.add_debug(&status),
+    }
+    page.end_line();
+}
+
+fn tell_meta(page: &mut Page, meta: &Meta) {
+    page.add_debug(&meta.kind);
+    page.add(" ");
+    page.add_debug(&meta.read);
+    page.add(" ");
+    page.add_debug(&meta.write);
+    page.add(" scoped ");
+    page.add_shown(&meta.scoped);
+    page.add(" timed ");
+    page.add_shown(&meta.timed);
+    page.add(" kept ");
+    page.add_shown(&meta.kept);
+    page.add(" limit ");
+    page.add_shown(&meta.limit);
 }
 
 // The rows of a new node.
-fn tell_first_rows(rt: &HostRuntime) -> io::Result<()> {
-    let Ok(rows) = first_rows(rt.alloc()) else {
-        return Err(no_case());
-    };
-    let Ok(places) = all_places(rt.alloc()) else {
-        return Err(no_case());
-    };
-    for place in places.as_slice() {
-        tell_rows(rt, rows.at(place))?;
+fn tell_first_rows(alloc: Global, page: &mut Page) {
+    match all_places(alloc) {
+        Ok(places) => tell_rows_at(alloc, page, places.as_slice()),
+        Err(_) => page.leave_gap(),
     }
-    Ok(())
 }
 
-fn tell_rows(rt: &HostRuntime, rows: &[Row]) -> io::Result<()> {
-    for row in rows {
-        let place = row.place;
-        let stored = is_stored(&place);
-        print!(rt; "{:x}/{:x}/{:x}", place.endpoint, place.cluster, place.leaf)?;
-        print!(rt; " of fabric {} stored {stored}", row.fabric)?;
-        tell_value(rt, &row.value)?;
+fn tell_rows_at(alloc: Global, page: &mut Page, places: &[Place]) {
+    match first_rows(alloc) {
+        Ok(rows) => {
+            for place in places {
+                tell_rows(alloc, page, rows.at(place));
+            }
+        }
+        Err(_) => page.leave_gap(),
     }
-    Ok(())
+}
+
+fn tell_rows(alloc: Global, page: &mut Page, rows: &[Row]) {
+    for row in rows {
+        tell_place(page, &row.place);
+        page.add(" of fabric ");
+        page.add_shown(&row.fabric);
+        page.add(" stored ");
+        page.add_shown(&is_stored(&row.place));
+        tell_value(alloc, page, &row.value);
+    }
 }

@@ -1,18 +1,57 @@
 //! What came of a case, in words. Numbers are in hex digits.
 
-use mt_im::ImFault;
-use mt_model::{Index, Path, Payloads, Place, Request, Version, WriteItem};
+use cases_page::Page;
+use mt_model::{Index, Path, Payload, Place, Request, Version, WriteItem};
 use mt_tlv::{Tag, Value, write};
-use std::io;
+use std::alloc::Global;
 
-pub(crate) fn tell_fault(rt: &HostRuntime, fault: ImFault) -> io::Result<()> {
-    println!(rt; "{fault:?}")
+/// What a request asks for.
+pub(crate) fn tell_request(alloc: Global, page: &mut Page, request: &Request) {
+    match request {
+        Request::Status { code } => {
+            page.add("status ");
+            page.add_hex(&[*code]);
+            page.end_line();
+        }
+        Request::Timed { ms } => {
+            page.add("timed ");
+            page.add_id(u64::from(*ms));
+            page.end_line();
+        }
+        Request::Write {
+            suppress,
+            timed,
+            items,
+        } => {
+            tell_intent(page, "write", *suppress, *timed);
+            page.end_line();
+            tell_items(alloc, page, items.as_slice());
+        }
+        Request::Invoke {
+            suppress,
+            timed,
+            command,
+            fields,
+        } => {
+            tell_intent(page, "invoke", *suppress, *timed);
+            page.add(" ");
+            tell_place(page, command);
+            tell_value(alloc, page, fields);
+        }
+        _ => tell_reading(page, request),
+    }
 }
 
-pub(crate) fn tell_request(rt: &HostRuntime, request: &Request) -> io::Result<()> {
+fn tell_intent(page: &mut Page, name: &str, suppress: bool, timed: bool) {
+    page.add(name);
+    page.add(" suppress ");
+    page.add_shown(&suppress);
+    page.add(" timed ");
+    page.add_shown(&timed);
+}
+
+fn tell_reading(page: &mut Page, request: &Request) {
     match request {
-        Request::Status { code } => println!(rt; "status {code:02x}"),
-        Request::Timed { ms } => println!(rt; "timed {ms:x}"),
         Request::Read {
             paths,
             events,
@@ -20,10 +59,9 @@ pub(crate) fn tell_request(rt: &HostRuntime, request: &Request) -> io::Result<()
             filtered,
             versions,
         } => {
-            print!(rt; "read")?;
-            tell_paths(rt, paths.as_slice(), events.as_slice())?;
-            println!(rt; " minimum {minimum:x} filtered {filtered}")?;
-            tell_versions(rt, versions.as_slice())
+            page.add("read");
+            tell_paths(page, paths.as_slice(), events.as_slice());
+            tell_wanted(page, *minimum, *filtered, versions.as_slice());
         }
         Request::Subscribe {
             keep,
@@ -35,125 +73,136 @@ pub(crate) fn tell_request(rt: &HostRuntime, request: &Request) -> io::Result<()
             filtered,
             versions,
         } => {
-            print!(rt; "subscribe keep {keep} floor {floor:x} ceiling {ceiling:x}")?;
-            tell_paths(rt, paths.as_slice(), events.as_slice())?;
-            println!(rt; " minimum {minimum:x} filtered {filtered}")?;
-            tell_versions(rt, versions.as_slice())
+            tell_pace(page, *keep, *floor, *ceiling);
+            tell_paths(page, paths.as_slice(), events.as_slice());
+            tell_wanted(page, *minimum, *filtered, versions.as_slice());
         }
-        Request::Write {
-            suppress,
-            timed,
-            items,
-        } => {
-            println!(rt; "write suppress {suppress} timed {timed}")?;
-            tell_items(rt, items.as_slice())
-        }
-        Request::Invoke {
-            suppress,
-            timed,
-            command,
-            fields,
-        } => tell_command(rt, *suppress, *timed, command, fields),
+        _ => {}
     }
 }
 
-fn tell_paths(rt: &HostRuntime, paths: &[Path], events: &[Path]) -> io::Result<()> {
-    print!(rt; " paths")?;
+fn tell_pace(page: &mut Page, keep: bool, floor: u16, ceiling: u16) {
+    page.add("subscribe keep ");
+    page.add_shown(&keep);
+    page.add(" floor ");
+    page.add_id(u64::from(floor));
+    page.add(" ceiling ");
+    page.add_id(u64::from(ceiling));
+}
+
+fn tell_paths(page: &mut Page, paths: &[Path], events: &[Path]) {
+    page.add(" paths");
     for path in paths {
-        tell_path(rt, path)?;
+        tell_path(page, path);
     }
-    print!(rt; " events")?;
+    page.add(" events");
     for path in events {
-        tell_path(rt, path)?;
+        tell_path(page, path);
     }
-    Ok(())
+}
+
+fn tell_wanted(page: &mut Page, minimum: u64, filtered: bool, versions: &[Version]) {
+    page.add(" minimum ");
+    page.add_id(minimum);
+    page.add(" filtered ");
+    page.add_shown(&filtered);
+    page.end_line();
+    for known in versions {
+        tell_version(page, known);
+    }
+}
+
+fn tell_version(page: &mut Page, known: &Version) {
+    page.add("  version ");
+    page.add_id(u64::from(known.endpoint));
+    page.add("/");
+    page.add_id(u64::from(known.cluster));
+    page.add(" ");
+    page.add_id(u64::from(known.version));
+    page.end_line();
+}
+
+/// ENDPOINT/CLUSTER/ID.
+pub(crate) fn tell_place(page: &mut Page, place: &Place) {
+    page.add_id(u64::from(place.endpoint));
+    page.add("/");
+    page.add_id(u64::from(place.cluster));
+    page.add("/");
+    page.add_id(u64::from(place.leaf));
 }
 
 /// ENDPOINT/CLUSTER/ID, with `*` for a wildcard, and `+` or the number of the item behind it.
-pub(crate) fn tell_path(rt: &HostRuntime, path: &Path) -> io::Result<()> {
-    print!(rt; " ")?;
+pub(crate) fn tell_path(page: &mut Page, path: &Path) {
+    page.add(" ");
     match path.endpoint {
-        Some(endpoint) => print!(rt; "{endpoint:x}")?,
-        None => print!(rt; "*")?,
+        Some(endpoint) => page.add_id(u64::from(endpoint)),
+        None => page.add("*"),
     }
-    tell_id(rt, path.cluster)?;
-    tell_id(rt, path.leaf)?;
+    tell_id(page, path.cluster);
+    tell_id(page, path.leaf);
     match path.index {
-        Index::Whole => Ok(()),
-        Index::Append => print!(rt; "+"),
-        Index::At(number) => print!(rt; "[{number:x}]"),
-    }
-}
-
-fn tell_id(rt: &HostRuntime, id: Option<u32>) -> io::Result<()> {
-    match id {
-        Some(id) => print!(rt; "/{id:x}"),
-        None => print!(rt; "/*"),
-    }
-}
-
-fn tell_versions(rt: &HostRuntime, versions: &[Version]) -> io::Result<()> {
-    for known in versions {
-        println!(rt;
-            "  version {:x}/{:x} {:x}",
-            known.endpoint, known.cluster, known.version
-        )?;
-    }
-    Ok(())
-}
-
-fn tell_items(rt: &HostRuntime, items: &[WriteItem]) -> io::Result<()> {
-    for item in items {
-        print!(rt; " ")?;
-        tell_path(rt, &item.path)?;
-        if let Some(version) = item.version {
-            print!(rt; " version {version:x}")?;
+        Index::Whole => {}
+        Index::Append => page.add("+"),
+        Index::At(number) => {
+            page.add("[");
+            page.add_id(u64::from(number));
+            page.add("]");
         }
-        tell_value(rt, &item.value)?;
     }
-    Ok(())
 }
 
-fn tell_command(
-    rt: &HostRuntime,
-    suppress: bool,
-    timed: bool,
-    command: &Place,
-    fields: &Value,
-) -> io::Result<()> {
-    print!(rt;
-        "invoke suppress {suppress} timed {timed} {:x}/{:x}/{:x}",
-        command.endpoint, command.cluster, command.leaf
-    )?;
-    tell_value(rt, fields)
+fn tell_id(page: &mut Page, id: Option<u32>) {
+    page.add("/");
+    match id {
+        Some(id) => page.add_id(u64::from(id)),
+        None => page.add("*"),
+    }
+}
+
+fn tell_items(alloc: Global, page: &mut Page, items: &[WriteItem]) {
+    for item in items {
+        tell_item(alloc, page, item);
+    }
+}
+
+fn tell_item(alloc: Global, page: &mut Page, item: &WriteItem) {
+    page.add(" ");
+    tell_path(page, &item.path);
+    if let Some(version) = item.version {
+        page.add(" version ");
+        page.add_id(u64::from(version));
+    }
+    tell_value(alloc, page, &item.value);
 }
 
 /// A value as the bytes of its narrow encoding, at the end of a line.
-pub(crate) fn tell_value(rt: &HostRuntime, value: &Value) -> io::Result<()> {
-    let alloc = rt.alloc();
+pub(crate) fn tell_value(alloc: Global, page: &mut Page, value: &Value) {
     let mut bytes = Vec::new(alloc);
-    write(&Tag::Anonymous, value, &mut bytes)?;
-    let text = hex::encode(alloc, bytes.as_slice())?;
-    println!(rt; " = {text}")
+    if write(&Tag::Anonymous, value, &mut bytes).is_err() {
+        page.leave_gap();
+    }
+    page.add(" = ");
+    page.add_hex(&bytes);
+    page.end_line();
 }
 
 /// Each payload with its opcode.
-pub(crate) fn tell_payloads(rt: &HostRuntime, payloads: &Payloads) -> io::Result<()> {
+pub(crate) fn tell_payloads(page: &mut Page, payloads: &[Payload]) {
     if payloads.is_empty() {
-        return println!(rt; "no payload");
+        page.line("no payload");
     }
-    for payload in payloads.as_slice() {
-        let text = hex::encode(rt.alloc(), payload.bytes.as_slice())?;
-        println!(rt; "{:02x} {text}", payload.opcode)?;
+    for payload in payloads {
+        page.add_hex(&[payload.opcode]);
+        page.add(" ");
+        page.add_hex(payload.bytes.as_slice());
+        page.end_line();
     }
-    Ok(())
 }
 
 /// How many bytes each payload has, in decimal digits.
-pub(crate) fn tell_lengths(rt: &HostRuntime, payloads: &Payloads) -> io::Result<()> {
-    for payload in payloads.as_slice() {
-        let length = payload.bytes.as_slice().len();
-        println!(rt; "{length} bytes")?;
+pub(crate) fn tell_lengths(page: &mut Page, payloads: &[Payload]) {
+    for payload in payloads {
+        page.add_number(payload.bytes.as_slice().len() as u64);
+        page.line(" bytes");
     }
-    Ok(())
 }

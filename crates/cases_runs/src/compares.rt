@@ -1,72 +1,52 @@
 //! Comparisons of two recordings by what a fabric sees of them.
 
 use crate::narrow::NarrowSink;
-use crate::numbers::numbers;
-use crate::runs::{Endless, output, print_ended, recording, words};
-use mt_outside::MemSource;
+use crate::runs::{Endless, output, recording, source, tell_ended, words_of};
+use cases_page::{Page, word};
 use mt_top::run;
+use std::alloc::{AllocError, Global};
 use std::{fs, io};
 
-/// What a run is given: the words of the command line, the configuration's file and the recordings, and the numbers of
-/// the calls that fail.
-#[derive(Drop)]
-struct Case<'a> {
-    words: &'a str,
-    config: &'a str,
-    first: &'a str,
-    second: &'a str,
-    config_fails: &'a str,
-    first_fails: &'a str,
-    second_fails: &'a str,
-}
-
-/// Prints what a run answers and writes that is given two recordings. A case is
+/// Tells what a run answers and writes that is given two recordings. A case is
 /// `NAME|WORDS|CONFIGURATION|FIRST|SECOND|FAILS|FAILS|FAILS|FAILS|BYTES`: the numbers of the calls that fail, of
 /// the configuration's source, of the first recording's, of the second's, of the output, and how many bytes the
 /// output takes a call. The configuration is the name of a file; in a recording `/` ends a line. The second can be
 /// `endless`.
-pub(crate) fn print_compared(rt: &HostRuntime, case: &str) -> io::Result<()> {
+pub(crate) fn tell(rt: &HostRuntime, page: &mut Page, case: &str) -> io::Result<()> {
     let alloc = rt.alloc();
-    let fields: Vec<&str> = case.split('|').collect(alloc)?;
-    let [
-        name,
-        words,
-        config,
-        first,
-        second,
-        config_fails,
-        first_fails,
-        second_fails,
-        out_fails,
-        most,
-    ] = *fields
-    else {
-        return println!(rt; "no case: {case}");
+    let words: Vec<&str> = case.split('|').collect(alloc)?;
+    let bytes = fs::read(rt, word(&words, 2))?;
+    let mut out = output(alloc, word(&words, 8), word(&words, 9))?;
+    let status = if word(&words, 4) == "endless" {
+        with_endless(alloc, &bytes, &words, &mut out)?
+    } else {
+        with_second(alloc, &bytes, &words, &mut out)?
     };
-    let case = Case {
-        words,
-        config,
-        first,
-        second,
-        config_fails,
-        first_fails,
-        second_fails,
-    };
-    let mut out = output(alloc, out_fails, most)?;
-    let status = status_of(rt, &case, &mut out)?;
-    print_ended(rt, name, status, out.inner.bytes())
+    tell_ended(page, word(&words, 0), status, out.inner.bytes());
+    Ok(())
 }
 
-fn status_of(rt: &HostRuntime, case: &Case, out: &mut NarrowSink) -> io::Result<u8> {
-    let alloc = rt.alloc();
-    let words = words(alloc, case.words)?;
-    let bytes = fs::read(rt, case.config)?;
-    let fails = numbers(alloc, case.config_fails)?;
-    let mut config = MemSource::new(alloc, &bytes, &fails)?;
-    let mut first = recording(alloc, case.first, case.first_fails)?;
-    if case.second == "endless" {
-        return Ok(run(alloc, &words, &mut config, &mut first, &mut Endless, out));
-    }
-    let mut second = recording(alloc, case.second, case.second_fails)?;
-    Ok(run(alloc, &words, &mut config, &mut first, &mut second, out))
+fn with_endless(
+    alloc: Global,
+    bytes: &[u8],
+    words: &[&str],
+    out: &mut NarrowSink,
+) -> Result<u8, AllocError> {
+    let asked = words_of(alloc, word(words, 1))?;
+    let mut config = source(alloc, bytes, word(words, 5))?;
+    let mut first = recording(alloc, word(words, 3), word(words, 6))?;
+    Ok(run(alloc, &asked, &mut config, &mut first, &mut Endless, out))
+}
+
+fn with_second(
+    alloc: Global,
+    bytes: &[u8],
+    words: &[&str],
+    out: &mut NarrowSink,
+) -> Result<u8, AllocError> {
+    let asked = words_of(alloc, word(words, 1))?;
+    let mut config = source(alloc, bytes, word(words, 5))?;
+    let mut first = recording(alloc, word(words, 3), word(words, 6))?;
+    let mut second = recording(alloc, word(words, 4), word(words, 7))?;
+    Ok(run(alloc, &asked, &mut config, &mut first, &mut second, out))
 }

@@ -5,10 +5,15 @@ ghost use Rattle.std.specs.Prelude.{Some};
 use mt_outside::{Failed, MemSink, Sink};
 
 /// It takes at most so many bytes a call, and one at least.
-#[derive(Drop)]
 pub(crate) struct NarrowSink {
     pub(crate) inner: MemSink,
     pub(crate) most: usize,
+}
+
+impl Drop for NarrowSink {
+    fn drop(self) {
+        let NarrowSink { inner: _, most: _ } = self;
+    }
 }
 
 impl Sink for NarrowSink {

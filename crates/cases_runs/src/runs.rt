@@ -4,23 +4,13 @@ ghost use Rattle.std.specs.Prelude.{None};
 
 use crate::narrow::NarrowSink;
 use crate::numbers::numbers;
+use cases_page::{Page, word};
 use mt_files::config as configuration;
+use mt_model::Config;
 use mt_outside::{Failed, MemSink, MemSource, Source};
 use mt_top::{replay_with, run};
 use std::alloc::{AllocError, Global};
 use std::{fs, io};
-
-/// A case: its name, the words of the command line, the configuration's file, the recording, and the numbers
-/// of the calls that fail.
-#[derive(Drop)]
-struct Case<'a> {
-    name: &'a str,
-    words: &'a str,
-    config: &'a str,
-    recording: &'a str,
-    config_fails: &'a str,
-    first_fails: &'a str,
-}
 
 /// A source that never ends.
 #[derive(Drop)]
@@ -36,80 +26,102 @@ impl Source for Endless {
     }
 }
 
-/// Prints what a run answers and writes; `..` stands behind an output that was cut off in a line. A case is
+/// Tells what a run answers and writes; `..` stands behind an output that was cut off in a line. A case is
 /// `NAME|WORDS|CONFIGURATION|RECORDING|FAILS|FAILS|FAILS|BYTES`: the numbers of the calls that fail, of the
 /// configuration's source, of the recording's, of the output, and how many bytes the output takes a call. The
 /// configuration is the name of a file; in the recording `/` ends a line. Either can be `endless`. Where the
 /// words are `in hand` there are none, and the configuration is in hand.
-pub(crate) fn print_told(rt: &HostRuntime, case: &str) -> io::Result<()> {
+pub(crate) fn tell(rt: &HostRuntime, page: &mut Page, case: &str) -> io::Result<()> {
     let alloc = rt.alloc();
-    let fields: Vec<&str> = case.split('|').collect(alloc)?;
-    let [
-        name,
-        words,
-        config,
-        recording,
-        config_fails,
-        first_fails,
-        out_fails,
-        most,
-    ] = *fields
-    else {
-        return println!(rt; "no case: {case}");
-    };
-    let case = Case {
-        name,
-        words,
-        config,
-        recording,
-        config_fails,
-        first_fails,
-    };
-    let mut out = output(alloc, out_fails, most)?;
-    if words == "in hand" {
-        in_hand(rt, &case, &mut out)
-    } else {
-        with_words(rt, &case, &mut out)
+    let words: Vec<&str> = case.split('|').collect(alloc)?;
+    if word(&words, 1) == "in hand" {
+        return in_hand(rt, page, &words);
     }
+    asked_in_words(rt, page, &words)
 }
 
-fn in_hand(rt: &HostRuntime, case: &Case, out: &mut NarrowSink) -> io::Result<()> {
+fn in_hand(rt: &HostRuntime, page: &mut Page, words: &[&str]) -> io::Result<()> {
+    let bytes = fs::read(rt, word(words, 2))?;
+    match configuration(rt.alloc(), &bytes) {
+        Ok(config) => tell_replayed(rt.alloc(), page, &config, words)?,
+        Err(fault) => {
+            page.add(word(words, 0));
+            page.add(": ");
+            page.add_shown(&fault);
+            page.end_line();
+        }
+    }
+    Ok(())
+}
+
+fn tell_replayed(
+    alloc: Global,
+    page: &mut Page,
+    config: &Config,
+    words: &[&str],
+) -> Result<(), AllocError> {
+    let mut out = output(alloc, word(words, 6), word(words, 7))?;
+    let status = replayed(alloc, config, words, &mut out)?;
+    tell_ended(page, word(words, 0), status, out.inner.bytes());
+    Ok(())
+}
+
+fn replayed(
+    alloc: Global,
+    config: &Config,
+    words: &[&str],
+    out: &mut NarrowSink,
+) -> Result<u8, AllocError> {
+    if word(words, 3) == "endless" {
+        return Ok(replay_with(alloc, config, &mut Endless, out));
+    }
+    let mut first = recording(alloc, word(words, 3), word(words, 5))?;
+    Ok(replay_with(alloc, config, &mut first, out))
+}
+
+fn asked_in_words(rt: &HostRuntime, page: &mut Page, words: &[&str]) -> io::Result<()> {
     let alloc = rt.alloc();
-    let bytes = fs::read(rt, case.config)?;
-    let config = match configuration(alloc, &bytes) {
-        Ok(config) => config,
-        Err(fault) => return println!(rt; "{}: {fault}", case.name),
-    };
-    let status = if case.recording == "endless" {
-        replay_with(alloc, &config, &mut Endless, out)
+    let mut out = output(alloc, word(words, 6), word(words, 7))?;
+    let status = if word(words, 2) == "endless" {
+        over_endless(alloc, words, &mut out)?
     } else {
-        let mut first = recording(alloc, case.recording, case.first_fails)?;
-        replay_with(alloc, &config, &mut first, out)
+        let bytes = fs::read(rt, word(words, 2))?;
+        with_words(alloc, &bytes, words, &mut out)?
     };
-    print_ended(rt, case.name, status, out.inner.bytes())
+    tell_ended(page, word(words, 0), status, out.inner.bytes());
+    Ok(())
 }
 
-fn with_words(rt: &HostRuntime, case: &Case, out: &mut NarrowSink) -> io::Result<()> {
-    let alloc = rt.alloc();
-    let words = words(alloc, case.words)?;
-    let mut first = recording(alloc, case.recording, case.first_fails)?;
+fn over_endless(alloc: Global, words: &[&str], out: &mut NarrowSink) -> Result<u8, AllocError> {
+    let asked = words_of(alloc, word(words, 1))?;
+    let mut first = recording(alloc, word(words, 3), word(words, 5))?;
     let mut second = MemSource::new(alloc, &[], &[])?;
-    let status = if case.config == "endless" {
-        run(alloc, &words, &mut Endless, &mut first, &mut second, out)
-    } else {
-        let bytes = fs::read(rt, case.config)?;
-        let fails = numbers(alloc, case.config_fails)?;
-        let mut config = MemSource::new(alloc, &bytes, &fails)?;
-        run(alloc, &words, &mut config, &mut first, &mut second, out)
-    };
-    print_ended(rt, case.name, status, out.inner.bytes())
+    Ok(run(alloc, &asked, &mut Endless, &mut first, &mut second, out))
+}
+
+fn with_words(
+    alloc: Global,
+    bytes: &[u8],
+    words: &[&str],
+    out: &mut NarrowSink,
+) -> Result<u8, AllocError> {
+    let asked = words_of(alloc, word(words, 1))?;
+    let mut config = source(alloc, bytes, word(words, 4))?;
+    let mut first = recording(alloc, word(words, 3), word(words, 5))?;
+    let mut second = MemSource::new(alloc, &[], &[])?;
+    Ok(run(alloc, &asked, &mut config, &mut first, &mut second, out))
+}
+
+/// The source of these bytes.
+pub(crate) fn source(alloc: Global, bytes: &[u8], fails: &str) -> Result<MemSource, AllocError> {
+    let fails = numbers(alloc, fails)?;
+    MemSource::new(alloc, bytes, &fails)
 }
 
 /// The source of a recording, in which `/` ends a line.
 pub(crate) fn recording(alloc: Global, text: &str, fails: &str) -> Result<MemSource, AllocError> {
     let text = text.replace(alloc, '/', "\n")?;
-    let fails = numbers(alloc, fails)?;
-    MemSource::new(alloc, text.as_bytes(), &fails)
+    source(alloc, text.as_bytes(), fails)
 }
 
 /// An output that takes so many bytes a call, and as many as there are where that is no number.
@@ -122,7 +134,7 @@ pub(crate) fn output(alloc: Global, fails: &str, most: &str) -> Result<NarrowSin
 }
 
 /// The words of a command line.
-pub(crate) fn words(alloc: Global, text: &str) -> Result<Vec<String>, AllocError> {
+pub(crate) fn words_of(alloc: Global, text: &str) -> Result<Vec<String>, AllocError> {
     let mut words = Vec::new(alloc);
     for word in text.split_whitespace() {
         words.push(String::from_str(alloc, word)?)?;
@@ -130,18 +142,15 @@ pub(crate) fn words(alloc: Global, text: &str) -> Result<Vec<String>, AllocError
     Ok(words)
 }
 
-/// Prints the status of a run and what it wrote; `..` stands behind an output that was cut off in a line.
-pub(crate) fn print_ended(
-    rt: &HostRuntime,
-    name: &str,
-    status: u8,
-    output: &[u8],
-) -> io::Result<()> {
-    println!(rt; "{name}: {status}")?;
-    let text = String::from_utf8_lossy(rt.alloc(), output)?;
-    print!(rt; "{text}")?;
+/// Tells the status of a run and what it wrote; `..` stands behind an output that was cut off in a line.
+pub(crate) fn tell_ended(page: &mut Page, name: &str, status: u8, output: &[u8]) {
+    page.add(name);
+    page.add(": ");
+    page.add_number(u64::from(status));
+    page.end_line();
+    page.add_lossy(output);
     match output {
-        [.., b'\n'] | [] => Ok(()),
-        _ => println!(rt; ".."),
+        [.., b'\n'] | [] => {}
+        _ => page.line(".."),
     }
 }

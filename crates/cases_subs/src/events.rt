@@ -1,25 +1,36 @@
 //! Events, in their rings, and their numbers.
 
 use crate::granted::Granted;
-use crate::telling::tell_items;
-use crate::words::{actor, byte, number, paths, place, short, word};
+use crate::telling::{tell_items, tell_number, tell_truth};
+use crate::words::{actor, paths, place};
+use cases_page::{Page, byte, number, short, word};
 use mt_events::{Numbers, Rings};
 use mt_model::limits::FABRICS;
 use mt_model::{Happened, Place};
 use mt_tlv::{Bytes, Value};
 use std::alloc::{AllocError, Global};
-use std::io;
 
 /// The rings of events, and the numbers.
-#[derive(Drop)]
 pub(crate) struct Happenings {
+    alloc: Global,
     rings: Rings,
     numbers: Numbers,
 }
 
+impl Drop for Happenings {
+    fn drop(self) {
+        let Happenings {
+            alloc: _,
+            rings: _,
+            numbers: _,
+        } = self;
+    }
+}
+
 impl Happenings {
-    pub(crate) fn new(alloc: Global) -> io::Result<Happenings> {
+    pub(crate) fn new(alloc: Global) -> Result<Happenings, AllocError> {
         Ok(Happenings {
+            alloc,
             rings: Rings::new(alloc)?,
             numbers: Numbers::begin(0),
         })
@@ -28,81 +39,69 @@ impl Happenings {
     /// What a call answers; nothing where the line is none.
     pub(crate) fn call(
         &mut self,
-        rt: &HostRuntime,
+        page: &mut Page,
         granted: &Granted,
         words: &[&str],
-    ) -> io::Result<()> {
+    ) -> Result<(), AllocError> {
         match word(words, 0) {
-            "numbers" => self.begin(rt, number(words, 1)),
-            "take" => self.take(rt, short(words, 1)),
-            "rings" => {
-                self.rings = Rings::new(rt.alloc())?;
-                Ok(())
-            }
-            "push" => self.push(rt, words),
-            "fill" => self.fill(rt, words),
-            "forget" => {
-                self.rings.forget(byte(words, 1));
-                Ok(())
-            }
-            "after" | "told" | "tells" => self.tell(rt, granted, words),
-            _ => Ok(()),
-        }
-    }
-
-    fn begin(&mut self, rt: &HostRuntime, ceiling: u64) -> io::Result<()> {
-        if ceiling > HIGHEST {
-            return println!(rt; "  too high");
-        }
-        self.numbers = Numbers::begin(ceiling);
-        println!(rt;
-            "  next {} ceiling {}",
-            self.numbers.next, self.numbers.ceiling
-        )
-    }
-
-    fn take(&mut self, rt: &HostRuntime, count: u16) -> io::Result<()> {
-        for _ in 0..count {
-            if self.numbers.next > self.numbers.ceiling || self.numbers.ceiling > HIGHEST {
-                return println!(rt; "  too high");
-            }
-            self.numbers.take();
-        }
-        println!(rt;
-            "  next {} ceiling {}",
-            self.numbers.next, self.numbers.ceiling
-        )
-    }
-
-    // An event whose value is a string of so many bytes.
-    fn push(&mut self, rt: &HostRuntime, words: &[&str]) -> io::Result<()> {
-        let place = place(word(words, 3))?;
-        let value = string(rt.alloc(), short(words, 4))?;
-        self.happen(rt, byte(words, 1), number(words, 2), place, value)
-    }
-
-    fn fill(&mut self, rt: &HostRuntime, words: &[&str]) -> io::Result<()> {
-        let place = place(word(words, 4))?;
-        for more in 0..short(words, 3) {
-            let number = number(words, 2).saturating_add(u64::from(more));
-            self.happen(rt, byte(words, 1), number, place, Value::Null)?;
+            "numbers" => self.begin(page, number(words, 1)),
+            "take" => self.take(page, short(words, 1)),
+            "rings" => self.rings = Rings::new(self.alloc)?,
+            "push" => self.push(page, words)?,
+            "fill" => self.fill(page, words),
+            "forget" => self.rings.forget(byte(words, 1)),
+            "after" | "told" | "tells" => self.tell(page, granted, words)?,
+            _ => {}
         }
         Ok(())
     }
 
-    fn happen(
-        &mut self,
-        rt: &HostRuntime,
-        fabric: u8,
-        number: u64,
-        place: Place,
-        value: Value,
-    ) -> io::Result<()> {
+    fn begin(&mut self, page: &mut Page, ceiling: u64) {
+        if ceiling > HIGHEST {
+            return page.line("  too high");
+        }
+        self.numbers = Numbers::begin(ceiling);
+        self.tell_numbers(page);
+    }
+
+    fn take(&mut self, page: &mut Page, count: u16) {
+        for _ in 0..count {
+            if self.numbers.next > self.numbers.ceiling || self.numbers.ceiling > HIGHEST {
+                return page.line("  too high");
+            }
+            self.numbers.take();
+        }
+        self.tell_numbers(page);
+    }
+
+    fn tell_numbers(&self, page: &mut Page) {
+        tell_number(page, "  next ", self.numbers.next);
+        tell_number(page, " ceiling ", self.numbers.ceiling);
+        page.end_line();
+    }
+
+    // An event whose value is a string of so many bytes.
+    fn push(&mut self, page: &mut Page, words: &[&str]) -> Result<(), AllocError> {
+        let value = string(self.alloc, short(words, 4))?;
+        let place = place(word(words, 3));
+        self.happen(page, byte(words, 1), number(words, 2), place, value);
+        Ok(())
+    }
+
+    fn fill(&mut self, page: &mut Page, words: &[&str]) {
+        let place = place(word(words, 4));
+        for more in 0..short(words, 3) {
+            let number = number(words, 2).saturating_add(u64::from(more));
+            self.happen(page, byte(words, 1), number, place, Value::Null);
+        }
+    }
+
+    fn happen(&mut self, page: &mut Page, fabric: u8, number: u64, place: Place, value: Value) {
         if usize::from(fabric) > FABRICS {
-            return println!(rt; "  no fabric");
+            return page.line("  no fabric");
         }
         if !self.rings.is_new(number) {
-            return println!(rt; "  not new");
+            return page.line("  not new");
         }
         self.rings.push(Happened {
             number,
@@ -112,34 +111,32 @@ impl Happenings {
             fabric,
             value,
         });
-        Ok(())
     }
 
-    fn tell(&self, rt: &HostRuntime, granted: &Granted, words: &[&str]) -> io::Result<()> {
+    fn tell(&self, page: &mut Page, granted: &Granted, words: &[&str]) -> Result<(), AllocError> {
         let minimum = number(words, 1);
         let actor = actor(byte(words, 2));
-        let paths = paths(rt.alloc(), word(words, 3))?;
+        let paths = paths(self.alloc, word(words, 3))?;
         if paths.len() > 16 {
-            return println!(rt; "  too many paths");
+            page.line("  too many paths");
+            return Ok(());
         }
         match word(words, 0) {
-            "after" => {
-                let items = self
+            "after" => tell_items(
+                page,
+                &self
                     .rings
-                    .after(rt.alloc(), granted, minimum, &paths, &actor)?;
-                tell_items(rt, &items)
-            }
-            "told" => {
-                let items = self
+                    .after(self.alloc, granted, minimum, &paths, &actor)?,
+            ),
+            "told" => tell_items(
+                page,
+                &self
                     .rings
-                    .told(rt.alloc(), granted, minimum, &paths, &actor)?;
-                tell_items(rt, &items)
-            }
-            _ => {
-                let tells = self.rings.tells(granted, minimum, &paths, &actor);
-                println!(rt; "  {tells}")
-            }
+                    .told(self.alloc, granted, minimum, &paths, &actor)?,
+            ),
+            _ => tell_truth(page, self.rings.tells(granted, minimum, &paths, &actor)),
         }
+        Ok(())
     }
 }
 

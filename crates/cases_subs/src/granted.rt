@@ -3,7 +3,7 @@
 ghost use Rattle.std.specs.Prelude.{[], IsTrue};
 ghost use Rattle.mt_model.specs.texts.Config.{ascend_from};
 
-use crate::words::no_case;
+use cases_page::no_case;
 use mt_model::{
     AclEntries, AclEntry, Auth, Place, Privilege, Rows, Sight, Subjects, Target, Targets,
     entries_ascend_from, entries_of,
@@ -12,11 +12,19 @@ use std::alloc::{AllocError, Global};
 use std::io;
 
 /// Access control entries that ascend by fabric.
-#[derive(Drop)]
 pub(crate) struct Granted {
     alloc: Global,
     entries: AclEntries,
     ghost ascend: { IsTrue (ascend_from 1 entries) },
+}
+
+impl Drop for Granted {
+    fn drop(self) {
+        let Granted {
+            alloc: _,
+            entries: _,
+        } = self;
+    }
 }
 
 impl Granted {
@@ -63,39 +71,35 @@ impl Sight for Granted {
 }
 
 // FABRIC:PRIVILEGE, for all subjects, and where `@` and an endpoint stand behind it for that alone.
-fn entry(alloc: Global, word: &str) -> io::Result<AclEntry> {
-    let (fabric, reach) = word.split_once(':').ok_or(no_case())?;
-    let fabric = fabric.parse::<u8>().ok().ok_or(no_case())?;
+fn entry(alloc: Global, word: &str) -> Result<AclEntry, AllocError> {
+    let (fabric, reach) = word.split_once(':').unwrap_or((word, ""));
     let (privilege, endpoint) = reach.split_once('@').unwrap_or((reach, ""));
     Ok(AclEntry {
-        privilege: privilege_of(privilege)?,
+        privilege: privilege_of(privilege),
         auth: Auth::Case,
         subjects: Subjects::new(alloc),
         targets: targets(alloc, endpoint)?,
-        fabric,
+        fabric: fabric.parse::<u8>().unwrap_or(0),
     })
 }
 
-fn targets(alloc: Global, endpoint: &str) -> io::Result<Targets> {
+fn targets(alloc: Global, endpoint: &str) -> Result<Targets, AllocError> {
     let mut targets = Targets::new(alloc);
-    if endpoint.is_empty() {
-        return Ok(targets);
+    if let Ok(endpoint) = endpoint.parse::<u16>() {
+        targets.push(Target {
+            cluster: None,
+            endpoint: Some(endpoint),
+            device: None,
+        })?;
     }
-    let endpoint = endpoint.parse::<u16>().ok().ok_or(no_case())?;
-    targets.push(Target {
-        cluster: None,
-        endpoint: Some(endpoint),
-        device: None,
-    })?;
     Ok(targets)
 }
 
-fn privilege_of(word: &str) -> io::Result<Privilege> {
+fn privilege_of(word: &str) -> Privilege {
     match word {
-        "view" => Ok(Privilege::View),
-        "operate" => Ok(Privilege::Operate),
-        "manage" => Ok(Privilege::Manage),
-        "administer" => Ok(Privilege::Administer),
-        _ => Err(no_case()),
+        "view" => Privilege::View,
+        "operate" => Privilege::Operate,
+        "manage" => Privilege::Manage,
+        _ => Privilege::Administer,
     }
 }

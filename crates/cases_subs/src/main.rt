@@ -21,42 +21,61 @@ mod subscriptions;
 mod telling;
 mod words;
 
+use cases_page::{Page, word};
 use events::Happenings;
 use granted::Granted;
+use std::alloc::Global;
 use std::{fs, io};
 use subscriptions::Subscribed;
-use words::word;
 
 fn main(rt: HostRuntime) -> io::Result<()> {
     let calls = fs::read_to_string(&rt, "calls.txt")?;
+    let mut page = Page::new(rt.alloc());
+    tell(rt.alloc(), &mut page, calls.as_str())?;
+    print!(rt; "{}", page.whole()?)
+}
+
+fn tell(alloc: Global, page: &mut Page, calls: &str) -> io::Result<()> {
     let mut stand = Stand {
-        granted: Granted::new(rt.alloc())?,
-        subscribed: Subscribed::new(rt.alloc())?,
-        happenings: Happenings::new(rt.alloc())?,
+        alloc,
+        granted: Granted::new(alloc)?,
+        subscribed: Subscribed::new(alloc)?,
+        happenings: Happenings::new(alloc)?,
     };
-    for line in calls.as_str().lines() {
-        println!(rt; "{line}")?;
-        let words: Vec<&str> = line.split(' ').collect(rt.alloc())?;
-        stand.call(&rt, &words)?;
+    for line in calls.lines() {
+        page.line(line);
+        let words: Vec<&str> = line.split(' ').collect(alloc)?;
+        stand.call(page, &words)?;
     }
     Ok(())
 }
 
 /// What is granted, subscribed and has happened.
-#[derive(Drop)]
 struct Stand {
+    alloc: Global,
     granted: Granted,
     subscribed: Subscribed,
     happenings: Happenings,
 }
 
+impl Drop for Stand {
+    fn drop(self) {
+        let Stand {
+            alloc: _,
+            granted: _,
+            subscribed: _,
+            happenings: _,
+        } = self;
+    }
+}
+
 impl Stand {
-    fn call(&mut self, rt: &HostRuntime, words: &[&str]) -> io::Result<()> {
+    fn call(&mut self, page: &mut Page, words: &[&str]) -> io::Result<()> {
         if word(words, 0) == "entries" {
-            self.granted = Granted::of(rt.alloc(), words)?;
+            self.granted = Granted::of(self.alloc, words)?;
             return Ok(());
         }
-        self.subscribed.call(rt, &self.granted, words)?;
-        self.happenings.call(rt, &self.granted, words)
+        self.subscribed.call(page, &self.granted, words)?;
+        Ok(self.happenings.call(page, &self.granted, words)?)
     }
 }

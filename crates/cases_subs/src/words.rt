@@ -1,37 +1,7 @@
-//! The words of a line: numbers, places and paths.
+//! The words of a line: places and paths, and whoever asks. A word that is no number is read as 0.
 
 use mt_model::{Actor, Auth, Index, Path, Paths, Place};
-use std::alloc::Global;
-use std::io;
-
-/// The word at this place; no letters where there is none.
-pub(crate) fn word<'a>(words: &[&'a str], place: usize) -> &'a str {
-    match words.get(place) {
-        Some(word) => *word,
-        None => "",
-    }
-}
-
-pub(crate) fn number(words: &[&str], place: usize) -> u64 {
-    word(words, place).parse::<u64>().unwrap_or(0)
-}
-
-pub(crate) fn id(words: &[&str], place: usize) -> u32 {
-    word(words, place).parse::<u32>().unwrap_or(0)
-}
-
-pub(crate) fn short(words: &[&str], place: usize) -> u16 {
-    word(words, place).parse::<u16>().unwrap_or(0)
-}
-
-pub(crate) fn byte(words: &[&str], place: usize) -> u8 {
-    word(words, place).parse::<u8>().unwrap_or(0)
-}
-
-/// A line is no case.
-pub(crate) fn no_case() -> io::Error {
-    io::Error::from(io::ErrorKind::InvalidInput)
-}
+use std::alloc::{AllocError, Global};
 
 /// A node of a fabric over CASE, and whoever commissions over PASE where the fabric is 0.
 pub(crate) fn actor(fabric: u8) -> Actor {
@@ -46,59 +16,55 @@ pub(crate) fn actor(fabric: u8) -> Actor {
 }
 
 /// Paths with `,` between them; `-` stands for none.
-pub(crate) fn paths(alloc: Global, word: &str) -> io::Result<Paths> {
+pub(crate) fn paths(alloc: Global, word: &str) -> Result<Paths, AllocError> {
     let mut paths = Paths::new(alloc);
     if word == "-" {
         return Ok(paths);
     }
     for part in word.split(',') {
-        paths.push(path(part)?)?;
+        paths.push(path(part))?;
     }
     Ok(paths)
 }
 
-/// The place that a path names.
-pub(crate) fn place(word: &str) -> io::Result<Place> {
-    path(word)?.place().ok_or(no_case())
+/// The place of this name.
+pub(crate) fn place(word: &str) -> Place {
+    let (endpoint, ids) = word.split_once('/').unwrap_or((word, ""));
+    let (cluster, leaf) = ids.split_once('/').unwrap_or((ids, ""));
+    Place {
+        endpoint: short(endpoint),
+        cluster: id(cluster),
+        leaf: id(leaf),
+    }
 }
 
-fn path(word: &str) -> io::Result<Path> {
-    let (endpoint, ids) = word.split_once('/').ok_or(no_case())?;
-    let (cluster, leaf) = ids.split_once('/').ok_or(no_case())?;
-    let endpoint = short_or_any(endpoint)?;
-    let cluster = number_or_any(cluster)?;
-    let leaf = number_or_any(leaf)?;
-    Ok(Path {
-        endpoint,
-        cluster,
-        leaf,
+fn path(word: &str) -> Path {
+    let (endpoint, ids) = word.split_once('/').unwrap_or((word, ""));
+    let (cluster, leaf) = ids.split_once('/').unwrap_or((ids, ""));
+    Path {
+        endpoint: if endpoint == "*" {
+            None
+        } else {
+            Some(short(endpoint))
+        },
+        cluster: id_or_any(cluster),
+        leaf: id_or_any(leaf),
         index: Index::Whole,
-    })
-}
-
-fn short_or_any(word: &str) -> io::Result<Option<u16>> {
-    match number_or_any(word)? {
-        Some(number) => Ok(Some(u16::try_from(number).ok().ok_or(no_case())?)),
-        None => Ok(None),
     }
 }
 
 // A number in hex digits, or none as `*`.
-fn number_or_any(word: &str) -> io::Result<Option<u32>> {
+fn id_or_any(word: &str) -> Option<u32> {
     if word == "*" {
-        return Ok(None);
+        return None;
     }
-    let mut number = 0_u64;
-    for digit in word.bytes() {
-        let value = match digit {
-            b'0'..=b'9' => digit - b'0',
-            b'a'..=b'f' => digit - b'a' + 10,
-            _ => return Err(no_case()),
-        };
-        number = number
-            .checked_mul(16)
-            .and_then(|number| number.checked_add(u64::from(value)))
-            .ok_or(no_case())?;
-    }
-    Ok(Some(u32::try_from(number).ok().ok_or(no_case())?))
+    Some(id(word))
+}
+
+fn id(word: &str) -> u32 {
+    u32::from_str_radix(word, 16).unwrap_or(0)
+}
+
+fn short(word: &str) -> u16 {
+    u16::from_str_radix(word, 16).unwrap_or(0)
 }

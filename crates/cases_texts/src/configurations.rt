@@ -1,20 +1,27 @@
 //! Configurations: the rows of those that are read, and what is told of the others.
 
 use crate::pieces::spelled;
+use cases_page::Page;
 use mt_files::{ConfigFault, config};
 use mt_model::{AclEntry, Auth, Config, Fabric, JoinRow, SessionRow, TableVerdicts, Verdicts};
 use std::alloc::{AllocError, Global};
-use std::io;
 
-/// Prints a case, and what is told of it: `ok`, or the first field that is not as it must be. A case is a
+/// Tells a case, and what is told of it: `ok`, or the first field that is not as it must be. A case is a
 /// text, or `old|new` for the bench configuration in which new stands in the place of old.
-pub(crate) fn print_told(rt: &HostRuntime, bench: &str, case: &str) -> io::Result<()> {
-    let alloc = rt.alloc();
+pub(crate) fn tell(
+    alloc: Global,
+    page: &mut Page,
+    bench: &str,
+    case: &str,
+) -> Result<(), AllocError> {
     let text = match case.split_once('|') {
         Some((old, new)) => bench.replacen(alloc, old, new, 1)?,
         None => String::from_str(alloc, case)?,
     };
-    println!(rt; "{}: {case}", told(alloc, text.as_str())?)
+    page.add(told(alloc, text.as_str())?);
+    page.add(": ");
+    page.line(case);
+    Ok(())
 }
 
 fn told(alloc: Global, text: &str) -> Result<&'static str, AllocError> {
@@ -31,74 +38,70 @@ fn long(alloc: Global, text: &str) -> Result<String, AllocError> {
     spelled(alloc, rows.as_str(), '~')
 }
 
-/// Prints a configuration row by row.
-pub(crate) fn print_rows(rt: &HostRuntime, text: &str) -> io::Result<()> {
-    let alloc = rt.alloc();
+/// Tells a configuration row by row.
+pub(crate) fn tell_rows(alloc: Global, page: &mut Page, text: &str) -> Result<(), AllocError> {
     match config(alloc, long(alloc, text)?.as_bytes()) {
         Ok(config) => {
-            println!(rt; "a configuration")?;
-            print_node(rt, &config)?;
-            print_verdicts(rt, &config)
+            page.line("a configuration");
+            tell_node(page, &config);
+            tell_verdicts(page, &config, &TableVerdicts::new(&config)?);
         }
-        Err(fault) => println!(rt; "{fault}"),
-    }
-}
-
-fn print_node(rt: &HostRuntime, config: &Config) -> io::Result<()> {
-    for fabric in config.fabrics.as_slice() {
-        print_fabric(rt, fabric)?;
-    }
-    for entry in config.entries.as_slice() {
-        print_entry(rt, entry)?;
-    }
-    for row in config.sessions.as_slice() {
-        print_session(rt, row)?;
+        Err(fault) => {
+            page.add_shown(&fault);
+            page.end_line();
+        }
     }
     Ok(())
 }
 
+fn tell_node(page: &mut Page, config: &Config) {
+    for fabric in config.fabrics.as_slice() {
+        tell_fabric(page, fabric);
+    }
+    for entry in config.entries.as_slice() {
+        tell_entry(page, entry);
+    }
+    for row in config.sessions.as_slice() {
+        tell_session(page, row);
+    }
+}
+
 // Each row as whoever asks for its verdict finds it.
-fn print_verdicts(rt: &HostRuntime, config: &Config) -> io::Result<()> {
-    let verdicts = TableVerdicts::new(config)?;
+fn tell_verdicts(page: &mut Page, config: &Config, verdicts: &TableVerdicts) {
     for row in config.roots.as_slice() {
         if let Some(root) = verdicts.root(row.cert.as_slice()) {
-            print_row(
-                rt,
-                "root",
-                &[],
-                &[root.cert.as_slice(), root.key.as_slice()],
-            )?;
+            page.add("root");
+            tell_texts(page, &[root.cert.as_slice(), root.key.as_slice()]);
         }
     }
     for row in config.csrs.as_slice() {
         if let Some(csr) = verdicts.csr(row.nonce.as_slice()) {
             let (nonce, elements) = (csr.nonce.as_slice(), csr.elements.as_slice());
-            print_row(rt, "csr", &[], &[nonce, elements, csr.signature.as_slice()])?;
+            page.add("csr");
+            tell_texts(page, &[nonce, elements, csr.signature.as_slice()]);
         }
     }
     for row in config.joins.as_slice() {
         let (root, noc, icac) = (row.root.as_slice(), row.noc.as_slice(), row.icac.as_slice());
         if let Some(join) = verdicts.join(root, noc, icac) {
-            print_join(rt, join)?;
+            tell_join(page, join);
         }
     }
     for id in config.reachable.as_slice() {
-        print_row(rt, "network", &[], &[id.as_slice()])?;
+        page.add("network");
+        tell_texts(page, &[id.as_slice()]);
     }
-    Ok(())
 }
 
-fn print_fabric(rt: &HostRuntime, fabric: &Fabric) -> io::Result<()> {
+fn tell_fabric(page: &mut Page, fabric: &Fabric) {
     let given = &fabric.credentials;
-    print_row(
-        rt,
-        "fabric",
-        &[
-            fabric.index as u64,
-            given.fabric_id,
-            given.node_id,
-            fabric.vendor as u64,
-        ],
+    page.add("fabric");
+    tell_number(page, u64::from(fabric.index));
+    tell_number(page, given.fabric_id);
+    tell_number(page, given.node_id);
+    tell_number(page, u64::from(fabric.vendor));
+    tell_texts(
+        page,
         &[
             given.root.as_slice(),
             given.root_key.as_slice(),
@@ -107,79 +110,85 @@ fn print_fabric(rt: &HostRuntime, fabric: &Fabric) -> io::Result<()> {
             given.ipk.as_slice(),
             fabric.label.as_slice(),
         ],
-    )
+    );
 }
 
-fn print_entry(rt: &HostRuntime, entry: &AclEntry) -> io::Result<()> {
-    println!(rt;
-        "entry of {} {:?} {:?}",
-        entry.fabric, entry.privilege, entry.auth
-    )?;
+fn tell_entry(page: &mut Page, entry: &AclEntry) {
+    page.add("entry of");
+    tell_number(page, u64::from(entry.fabric));
+    page.add(" ");
+    page.add_debug(&entry.privilege);
+    page.add(" ");
+    page.add_debug(&entry.auth);
+    page.end_line();
     for subject in entry.subjects.as_slice() {
-        println!(rt; "  for {subject}")?;
+        page.add("  for");
+        tell_number(page, *subject);
+        page.end_line();
     }
     for target in entry.targets.as_slice() {
-        println!(rt;
-            "  on {:?} {:?} {:?}",
-            target.cluster, target.endpoint, target.device
-        )?;
+        page.add("  on ");
+        page.add_debug(&target.cluster);
+        page.add(" ");
+        page.add_debug(&target.endpoint);
+        page.add(" ");
+        page.add_debug(&target.device);
+        page.end_line();
     }
-    Ok(())
 }
 
-fn print_session(rt: &HostRuntime, row: &SessionRow) -> io::Result<()> {
-    let name = match row.auth {
+fn tell_session(page: &mut Page, row: &SessionRow) {
+    page.add(match row.auth {
         Auth::Pase => "session PASE",
         Auth::Case => "session CASE",
         Auth::Group => "session of a group",
-    };
-    let [first, second, third] = row.cats;
-    print_row(
-        rt,
-        name,
-        &[
-            row.session as u64,
-            row.peer_session as u64,
-            row.boot as u64,
-            row.fabric_id,
-            row.own_node,
-            row.peer_node,
-            first as u64,
-            second as u64,
-            third as u64,
-            row.counter_in as u64,
-            row.counter_out as u64,
-        ],
+    });
+    tell_number(page, u64::from(row.session));
+    tell_number(page, u64::from(row.peer_session));
+    tell_number(page, u64::from(row.boot));
+    tell_number(page, row.fabric_id);
+    tell_number(page, row.own_node);
+    tell_number(page, row.peer_node);
+    for cat in row.cats {
+        tell_number(page, u64::from(cat));
+    }
+    tell_number(page, u64::from(row.counter_in));
+    tell_number(page, u64::from(row.counter_out));
+    tell_texts(
+        page,
         &[
             row.root_key.as_slice(),
             row.key_in.as_slice(),
             row.key_out.as_slice(),
         ],
-    )
+    );
 }
 
-fn print_join(rt: &HostRuntime, row: &JoinRow) -> io::Result<()> {
-    print_row(
-        rt,
-        "join",
-        &[row.fabric_id, row.node_id],
+fn tell_join(page: &mut Page, row: &JoinRow) {
+    page.add("join");
+    tell_number(page, row.fabric_id);
+    tell_number(page, row.node_id);
+    tell_texts(
+        page,
         &[
             row.root.as_slice(),
             row.noc.as_slice(),
             row.icac.as_slice(),
             row.nonce.as_slice(),
         ],
-    )
+    );
 }
 
-// A line of numbers and of bytes in hex.
-fn print_row(rt: &HostRuntime, name: &str, numbers: &[u64], texts: &[&[u8]]) -> io::Result<()> {
-    print!(rt; "{name}")?;
-    for number in numbers {
-        print!(rt; " {number}")?;
-    }
+fn tell_number(page: &mut Page, number: u64) {
+    page.add(" ");
+    page.add_number(number);
+}
+
+// Bytes in hex, at the end of a line.
+fn tell_texts(page: &mut Page, texts: &[&[u8]]) {
     for text in texts {
-        print!(rt; ",{}", hex::encode(rt.alloc(), *text)?)?;
+        page.add(",");
+        page.add_hex(text);
     }
-    println!(rt; "")
+    page.end_line();
 }

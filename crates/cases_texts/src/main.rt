@@ -10,22 +10,36 @@ mod configurations;
 mod pieces;
 mod recordings;
 
+use cases_page::Page;
+use std::alloc::{AllocError, Global};
 use std::{fs, io};
 
 fn main(rt: HostRuntime) -> io::Result<()> {
+    let alloc = rt.alloc();
+    let mut page = Page::new(alloc);
     let bench = fs::read_to_string(&rt, "bench.txt")?;
-    configurations::print_rows(&rt, bench.as_str())?;
+    configurations::tell_rows(alloc, &mut page, bench.as_str())?;
     let others = fs::read_to_string(&rt, "others.txt")?;
     for text in others.as_str().lines() {
-        configurations::print_rows(&rt, text)?;
+        configurations::tell_rows(alloc, &mut page, text)?;
     }
     let cases = fs::read_to_string(&rt, "configurations.txt")?;
-    for case in cases.as_str().lines() {
-        configurations::print_told(&rt, bench.as_str(), case)?;
-    }
+    tell_configurations(alloc, &mut page, bench.as_str(), cases.as_str())?;
     let cases = fs::read_to_string(&rt, "recordings.txt")?;
     for case in cases.as_str().lines() {
-        recordings::print_told(&rt, case)?;
+        recordings::tell(alloc, &mut page, case)?;
+    }
+    print!(rt; "{}", page.whole()?)
+}
+
+fn tell_configurations(
+    alloc: Global,
+    page: &mut Page,
+    bench: &str,
+    cases: &str,
+) -> Result<(), AllocError> {
+    for case in cases.lines() {
+        configurations::tell(alloc, page, bench, case)?;
     }
     Ok(())
 }

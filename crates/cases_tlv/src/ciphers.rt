@@ -1,39 +1,59 @@
 //! What is told of the cipher.
 
+use cases_page::Page;
 use mt_ccm::{aes_block, seal, unseal};
 use std::alloc::{AllocError, Global};
-use std::io;
 
 /// A block under a key.
-pub(crate) fn tell_block(rt: &HostRuntime, key: &[u8], block: &[u8]) -> io::Result<()> {
+pub(crate) fn tell_block(page: &mut Page, key: &[u8], block: &[u8]) {
     let (Ok(key), Ok(block)) = (<&[u8; 16]>::try_from(key), <[u8; 16]>::try_from(block)) else {
-        return Ok(());
+        return;
     };
-    let text = hex::encode(rt.alloc(), &aes_block(key, block))?;
-    println!(rt; "  {text}")
+    page.add("  ");
+    page.add_hex(&aes_block(key, block));
+    page.end_line();
 }
 
 /// What a plaintext is sealed to, what that is opened to, and how many of the changed ones are refused and left as they
 /// are: one bit of each byte turned, of the associated data too, and fewer bytes than a tag has.
 pub(crate) fn tell_sealed(
-    rt: &HostRuntime,
+    alloc: Global,
+    page: &mut Page,
     key: &[u8],
     nonce: &[u8],
     aad: &[u8],
     plain: &[u8],
-) -> io::Result<()> {
+) -> Result<(), AllocError> {
     let (Ok(key), Ok(nonce)) = (<&[u8; 16]>::try_from(key), <&[u8; 13]>::try_from(nonce)) else {
         return Ok(());
     };
-    let sealed = sealed(rt.alloc(), key, nonce, aad, plain)?;
-    let text = hex::encode(rt.alloc(), &sealed)?;
-    println!(rt; "  {text}")?;
-    let mut opened = sealed.to_vec(rt.alloc())?;
+    let sealed = sealed(alloc, key, nonce, aad, plain)?;
+    page.add("  ");
+    page.add_hex(&sealed);
+    page.end_line();
+    tell_opened(alloc, page, key, nonce, aad, &sealed)?;
+    page.add("  ");
+    page.add_number(refusals(alloc, key, nonce, aad, &sealed)? as u64);
+    page.line(" refused");
+    Ok(())
+}
+
+fn tell_opened(
+    alloc: Global,
+    page: &mut Page,
+    key: &[u8; 16],
+    nonce: &[u8; 13],
+    aad: &[u8],
+    sealed: &[u8],
+) -> Result<(), AllocError> {
+    let mut opened = sealed.to_vec(alloc)?;
     let length = opened_in(key, nonce, aad, opened.as_mut_slice());
-    let text = hex::encode(rt.alloc(), &opened[..length.unwrap_or(0).min(opened.len())])?;
-    println!(rt; "  {length:?} {text}")?;
-    let refused = refusals(rt.alloc(), key, nonce, aad, &sealed)?;
-    println!(rt; "  {refused} refused")
+    page.add("  ");
+    page.add_debug(&length);
+    page.add(" ");
+    page.add_hex(&opened[..length.unwrap_or(0).min(opened.len())]);
+    page.end_line();
+    Ok(())
 }
 
 fn sealed(

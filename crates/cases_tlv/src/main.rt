@@ -16,60 +16,84 @@
 mod ciphers;
 mod elements;
 mod frames;
-mod words;
 
+use cases_page::{Page, pieces, word};
 use mt_codes::count_codes;
+use std::alloc::Global;
 use std::{fs, io};
-use words::bytes;
 
 fn main(rt: HostRuntime) -> io::Result<()> {
     let cases = fs::read_to_string(&rt, "elements.txt")?;
-    for line in cases.as_str().lines() {
-        println!(rt; "{line}")?;
-        let words: Vec<&str> = line.split(' ').collect(rt.alloc())?;
-        tell(&rt, &words)?;
+    let mut page = Page::new(rt.alloc());
+    tell_cases(rt.alloc(), &mut page, cases.as_str())?;
+    print!(rt; "{}", page.whole()?)
+}
+
+fn tell_cases(alloc: Global, page: &mut Page, cases: &str) -> io::Result<()> {
+    for line in cases.lines() {
+        page.line(line);
+        let words: Vec<&str> = line.split(' ').collect(alloc)?;
+        tell(alloc, page, &words)?;
     }
     Ok(())
 }
 
-fn tell(rt: &HostRuntime, words: &[&str]) -> io::Result<()> {
-    match *words {
-        ["element", element] => elements::tell(rt, &bytes(rt.alloc(), element)?),
-        ["faults", element] => elements::tell_faults(rt, &bytes(rt.alloc(), element)?),
-        ["same", one, other] => {
-            let one = bytes(rt.alloc(), one)?;
-            let other = bytes(rt.alloc(), other)?;
-            elements::tell_same(rt, &one, &other)
+fn tell(alloc: Global, page: &mut Page, words: &[&str]) -> io::Result<()> {
+    match word(words, 0) {
+        "element" | "faults" | "message" | "protocol" => {
+            let bytes = pieces(alloc, word(words, 1))?;
+            tell_bytes(alloc, page, word(words, 0), &bytes);
         }
-        ["codes", opcode, payload] => tell_codes(rt, opcode, &bytes(rt.alloc(), payload)?),
-        ["message", header] => frames::tell_message(rt, &bytes(rt.alloc(), header)?),
-        ["protocol", header] => frames::tell_protocol(rt, &bytes(rt.alloc(), header)?),
-        ["block", key, block] => {
-            let key = bytes(rt.alloc(), key)?;
-            let block = bytes(rt.alloc(), block)?;
-            ciphers::tell_block(rt, &key, &block)
+        "codes" => {
+            let payload = pieces(alloc, word(words, 2))?;
+            tell_codes(page, word(words, 1), &payload);
         }
-        ["sealed", key, nonce, aad, plain] => tell_sealed(rt, key, nonce, aad, plain),
-        _ => Ok(()),
+        "same" | "block" => {
+            let one = pieces(alloc, word(words, 1))?;
+            let other = pieces(alloc, word(words, 2))?;
+            tell_two(alloc, page, word(words, 0), &one, &other);
+        }
+        "sealed" => tell_sealed(alloc, page, words)?,
+        _ => {}
+    }
+    Ok(())
+}
+
+fn tell_bytes(alloc: Global, page: &mut Page, kind: &str, bytes: &[u8]) {
+    match kind {
+        "element" => elements::tell(alloc, page, bytes),
+        "faults" => elements::tell_faults(alloc, page, bytes),
+        "message" => frames::tell_message(page, bytes),
+        _ => frames::tell_protocol(page, bytes),
     }
 }
 
-fn tell_sealed(rt: &HostRuntime, key: &str, nonce: &str, aad: &str, plain: &str) -> io::Result<()> {
-    let key = bytes(rt.alloc(), key)?;
-    let nonce = bytes(rt.alloc(), nonce)?;
-    let aad = bytes(rt.alloc(), aad)?;
-    let plain = bytes(rt.alloc(), plain)?;
-    ciphers::tell_sealed(rt, &key, &nonce, &aad, &plain)
+fn tell_two(alloc: Global, page: &mut Page, kind: &str, one: &[u8], other: &[u8]) {
+    match kind {
+        "same" => elements::tell_same(alloc, page, one, other),
+        _ => ciphers::tell_block(page, one, other),
+    }
 }
 
-fn tell_codes(rt: &HostRuntime, opcode: &str, payload: &[u8]) -> io::Result<()> {
+fn tell_sealed(alloc: Global, page: &mut Page, words: &[&str]) -> io::Result<()> {
+    let key = pieces(alloc, word(words, 1))?;
+    let nonce = pieces(alloc, word(words, 2))?;
+    let aad = pieces(alloc, word(words, 3))?;
+    let plain = pieces(alloc, word(words, 4))?;
+    Ok(ciphers::tell_sealed(alloc, page, &key, &nonce, &aad, &plain)?)
+}
+
+fn tell_codes(page: &mut Page, opcode: &str, payload: &[u8]) {
     let opcode = opcode.parse::<u8>().unwrap_or(0);
     let mut counts = [0_u64; 256];
     count_codes(opcode, payload, &mut counts);
     for (code, count) in counts.iter().enumerate() {
         if *count > 0 {
-            println!(rt; "  {code:02x} {count}")?;
+            page.add("  ");
+            page.add_hex(&[u8::try_from(code).unwrap_or(0)]);
+            page.add(" ");
+            page.add_number(*count);
+            page.end_line();
         }
     }
-    Ok(())
 }

@@ -32,6 +32,3 @@ pub use list_keeper::ListKeeper;
 pub use reading::{ChangeFault, bytes_of_a_change_are_read, read_change};
 pub use room::has_room;
 pub use rule::{Rule, is_admitted};
-
-#[cfg(test)]
-mod tests;

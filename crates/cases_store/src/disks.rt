@@ -1,0 +1,27 @@
+//! Disks in memory.
+
+use cases_page::hex_bytes;
+use mt_outside::{Fate, MemDisk};
+use std::alloc::{AllocError, Global};
+
+/// A disk with the bytes of a file in hex, `-` for none.
+pub(crate) fn disk_of(alloc: Global, file: &str) -> Result<MemDisk, AllocError> {
+    MemDisk::new(alloc, &hex_bytes(alloc, file.trim_start_matches('-')), &[])
+}
+
+/// The disk, restarted if it has stopped.
+pub(crate) fn restarted(mut disk: MemDisk) -> MemDisk {
+    if disk.stopped() {
+        disk.restart();
+    }
+    disk
+}
+
+/// Sets where the disk stops, as `3torn` says.
+pub(crate) fn stop(disk: &mut MemDisk, word: &str) {
+    for fate in [Fate::Kept, Fate::Lost, Fate::Torn] {
+        if let Some(calls) = word.strip_suffix(fate.text()) {
+            disk.stop_at(calls.parse::<u64>().unwrap_or(0), fate);
+        }
+    }
+}

@@ -1,0 +1,83 @@
+//! A journal on a file, which is opened anew again and again.
+
+use crate::form::TestForm;
+use crate::journals::{appended, switched};
+use crate::shown::Outcome;
+use cases_page::Page;
+use mt_journal::Journal;
+use mt_os::FileDisk;
+use mt_outside::Disk;
+use std::fs::{OpenOptions, remove_file};
+use std::io;
+
+type FileJournal = Journal<FileDisk, TestForm>;
+
+/// Makes a journal on a new file, changes it, opens it anew twice, and takes the file away again.
+pub(crate) fn play(rt: &HostRuntime, page: &mut Page) -> io::Result<()> {
+    let Some(mut journal) = opened(rt, page)? else {
+        return Ok(());
+    };
+    add_done(page, switched(&mut journal, &[0x16, 0x01]));
+    add_done(page, appended(&mut journal, &[0x17, 0x02]));
+    add_done(page, appended(&mut journal, &[0x17, 0x03, 0x04]));
+    let Some(mut journal) = opened(rt, page)? else {
+        return Ok(());
+    };
+    add_done(page, switched(&mut journal, &[0x16, 0x05]));
+    add_done(page, appended(&mut journal, &[0x17, 0x06]));
+    if opened(rt, page)?.is_some() {
+        add_file(rt, page)?;
+    }
+    remove_file(rt, "journal")
+}
+
+// A journal on the file, opened anew, and tells its list.
+fn opened(rt: &HostRuntime, page: &mut Page) -> io::Result<Option<FileJournal>> {
+    let file = OpenOptions::new()
+        .read(true)
+        .write(true)
+        .create(true)
+        .open(rt, "journal")?;
+    let Ok((journal, list)) = Journal::recover(rt.alloc(), FileDisk::new(file)) else {
+        page.line("no journal");
+        return Ok(None);
+    };
+    page.add("list");
+    for item in &list {
+        page.add(" ");
+        page.add_hex(item.as_slice());
+    }
+    page.end_line();
+    Ok(Some(journal))
+}
+
+fn add_done(page: &mut Page, outcome: Outcome) {
+    match outcome {
+        Outcome::Done => page.line("done"),
+        Outcome::Failed => page.line("failed"),
+        Outcome::NotOne | Outcome::Full => {}
+    }
+}
+
+// The length of the file, its bytes from the front on, and how many calls a disk over it has made for it.
+fn add_file(rt: &HostRuntime, page: &mut Page) -> io::Result<()> {
+    let file = OpenOptions::new().read(true).open(rt, "journal")?;
+    let mut disk = FileDisk::new(file);
+    let mut front = [0u8; 24];
+    page.add_number(disk.length().unwrap_or(0));
+    page.add(" ");
+    page.add_number(disk.read_at(0, &mut front).unwrap_or(0) as u64);
+    page.add(" ");
+    page.add_hex(&front);
+    page.end_line();
+    // It is open for reading alone, so a write fails, and so does one past the longest length.
+    for at in [0, 1 << 62] {
+        page.add_shown(&disk.write_at(at, &[0]).is_err());
+        page.add(" ");
+    }
+    page.add_number(disk.calls);
+    page.add(" ");
+    page.add_number(disk.faults);
+    page.end_line();
+    Ok(())
+}
