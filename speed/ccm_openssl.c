@@ -1,5 +1,5 @@
 /* How many datagrams of 1,200 bytes OpenSSL seals and opens in a second with AES-128-CCM, to set beside
-   crates/speed_ccm. Build: cc -O2 speed/ccm_openssl.c -lcrypto -o /tmp/ccm_openssl
+   crates/speed. Build: cc -O2 speed/ccm_openssl.c -lcrypto -o /tmp/ccm_openssl
    Without the processor's own AES and vector instructions: OPENSSL_ia32cap=0:0 /tmp/ccm_openssl 100000 */
 #include <openssl/evp.h>
 #include <stdio.h>

@@ -1,5 +1,5 @@
 /* How long a plain scalar C form of AES-128-CCM takes to seal and open messages, to set beside
-   crates/speed_ccm: four tables of 256 words, one pass over the text for the tag and one for the mask,
+   crates/speed: four tables of 256 words, one pass over the text for the tag and one for the mask,
    no vector or AES instruction written. Nonce of 13 bytes, tag of 16.
    Build: gcc -O2 speed/ccm_scalar.c -o /tmp/ccm_scalar
    Both, side by side: speed/compare.sh */

@@ -18,9 +18,9 @@ openssl_line() {
         END { printf "%s 1200 bytes: %.0f ns\n", name, ns }'
 }
 
-(cd crates/speed_ccm && rt run >/dev/null 2>&1)
+(cd crates/speed && rt run -- ccm 1 >/dev/null 2>&1)
 for _ in $(seq "$rounds"); do
-    crates/speed_ccm/out/speed_ccm "$turns" 2>&1 | sed -n 's/^1200 bytes/proved &/p'
+    crates/speed/out/speed ccm "$turns" 2>&1 | sed -n 's/^1200 bytes/proved &/p'
     "$scalar" "$turns" | sed 's/^/scalar /'
     if [ -x "$openssl" ]; then
         openssl_line instructions

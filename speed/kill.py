@@ -2,7 +2,7 @@
 """Kills a program in the middle of commits to a file, again and again, and sees each time that the count which
 it then finds there is the last that it had acknowledged, or one more.
 
-    (cd crates/speed_store && rt run) && speed/kill.py [TIMES [FOLDER]]
+    (cd crates/speed && rt run -- store 20) && speed/kill.py [TIMES [FOLDER]]
 """
 import os
 import random
@@ -12,7 +12,7 @@ import sys
 import tempfile
 import time
 
-PROGRAM = os.path.join(os.path.dirname(os.path.abspath(__file__)), "..", "crates", "speed_store", "out", "speed_store")
+PROGRAM = os.path.join(os.path.dirname(os.path.abspath(__file__)), "..", "crates", "speed", "out", "speed")
 
 
 def counts_after_kill(name, wait):
