@@ -66,10 +66,15 @@ impl MapForm for Maps {
 }
 
 /// Images and changes of maps that a rule admits. It keeps the map to which what it was told leads.
-#[derive(Drop)]
 pub struct MapsOf<R: Rule> {
     map: Durable,
     rule: PhantomData<R>,
+}
+
+impl<R: Rule> Drop for MapsOf<R> {
+    fn drop(self) {
+        let MapsOf { map: _, rule: _ } = self;
+    }
 }
 
 impl<R: Rule> Rule for MapsOf<R> {

@@ -29,11 +29,20 @@ use std::alloc::Global;
 use std::mem;
 
 /// Durable state on a disk. Contracts see the journal, and the image of the map.
-#[derive(Drop)]
 pub struct Store<D: Disk, F: MapForm> {
     pub journal: Journal<D, F>,
     pub image: Image,
     next: Image,
+}
+
+impl<D: Disk + Drop, F: MapForm> Drop for Store<D, F> {
+    fn drop(self) {
+        let Store {
+            journal: _,
+            image: _,
+            next: _,
+        } = self;
+    }
 }
 
 impl<D: Disk, F: MapForm> Store<D, F> {
@@ -80,7 +89,12 @@ impl<D: Disk, F: MapForm> Store<D, F> {
     pub fn into_disk(self) -> D
         ensures { result ≡ self.journal.disk }
     {
-        self.journal.into_disk()
+        let Store {
+            journal,
+            image: _,
+            next: _,
+        } = self;
+        journal.into_disk()
     }
 }
 
