@@ -33,10 +33,10 @@ const FEW: u32 = 20;
 
 fn main(rt: HostRuntime) -> io::Result<()> {
     let words: Vec<String> = env::args(&rt)?.skip(1).collect(rt.alloc())?;
-    let word = word(&words, 1);
+    let word = word_at(&words, 1);
     let timed = !word.is_empty();
     let turns = word.parse::<u32>().unwrap_or(FEW);
-    match self::word(&words, 0) {
+    match word_at(&words, 0) {
         "" => short(&rt),
         "ccm" => ccm::measure(&rt, turns),
         "files" => files::measure(&rt, timed),
@@ -47,13 +47,13 @@ fn main(rt: HostRuntime) -> io::Result<()> {
         "store" => store::measure(&rt, turns),
         "tlv" => tlv::measure(&rt, timed),
         "configuration" => replay::print(&rt, word, None),
-        "recording" => replay::print(&rt, word, Some(self::word(&words, 2))),
+        "recording" => replay::print(&rt, word, Some(word_at(&words, 2))),
         _ => eprintln!(rt; "there is no such matter"),
     }
 }
 
 // The word at this place, which is empty where there is none.
-fn word(words: &[String], place: usize) -> &str {
+fn word_at(words: &[String], place: usize) -> &str {
     match words.get(place) {
         Some(word) => word.as_str(),
         None => "",

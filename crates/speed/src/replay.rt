@@ -13,13 +13,15 @@ use std::alloc::{AllocError, Global};
 use std::io::{self, Write};
 use std::time::Instant;
 
-/// How many requests a recording has where speeds are printed, and how many where none are.
+/// How many requests a recording has where speeds are printed, and how many where it is compared with itself.
 const SIZES: [u64; 3] = [2_000, 20_000, 200_000];
 
-const FEW: [u64; 1] = [100];
-
-/// How many one has that is compared with itself.
 const COMPARED: [u64; 3] = [1_000, 10_000, 100_000];
+
+/// How many it has where none are.
+const FEW: u64 = 100;
+
+const SHORT: [u64; 1] = [FEW];
 
 /// A recording, and the text of its configuration.
 #[derive(Drop)]
@@ -55,14 +57,14 @@ pub(crate) fn measure(rt: &HostRuntime, timed: bool) -> io::Result<()> {
     let (sizes, compared) = if timed {
         (SIZES.as_slice(), COMPARED.as_slice())
     } else {
-        (FEW.as_slice(), FEW.as_slice())
+        (SHORT.as_slice(), SHORT.as_slice())
     };
     for row in table.as_str().lines() {
         for requests in sizes {
             play(rt, row, *requests, timed)?;
         }
     }
-    for row in table.as_str().lines().take(1) {
+    if let Some(row) = table.as_str().lines().next() {
         for requests in compared {
             compare(rt, row, *requests, timed)?;
         }
@@ -75,7 +77,7 @@ pub(crate) fn print(rt: &HostRuntime, name: &str, lines: Option<&str>) -> io::Re
     for row in text_of(rt, "recordings.txt")?.as_str().lines() {
         if row.split(' ').next() == Some(name) {
             let count = lines.and_then(|lines| lines.parse::<u64>().ok());
-            let made = made(rt, row, count.unwrap_or(100))?;
+            let made = made(rt, row, count.unwrap_or(FEW))?;
             return match lines {
                 Some(_) => io::writer(rt).write_all(&made.text),
                 None => print!(rt; "{}", made.configuration),

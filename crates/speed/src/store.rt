@@ -57,7 +57,7 @@ fn octets(alloc: Global, byte: u8, count: usize) -> Result<Value, AllocError> {
 
 // The bytes of a change that puts values under keys of one byte, which ascend.
 fn change_of<const N: usize>(alloc: Global, puts: [(u8, Value); N]) -> Result<Vec<u8>, AllocError> {
-    let mut entries = Vec::new(alloc);
+    let mut entries = Vec::with_capacity(alloc, N)?;
     for (key, value) in puts {
         entries.push(Entry {
             key: Bytes::from_slice(alloc, &[key])?,
