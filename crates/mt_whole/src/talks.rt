@@ -19,10 +19,7 @@ pub struct SessionTalk {
 
 impl Drop for SessionTalk {
     fn drop(self) {
-        let SessionTalk {
-            id: _,
-            talk: _,
-        } = self;
+        let SessionTalk { id: _, talk: _ } = self;
     }
 }
 
