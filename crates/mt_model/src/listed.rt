@@ -42,9 +42,14 @@ pub(crate) fn copy_of<T: ExactCopy>(value: &Option<T>) -> Result<Option<T>, Allo
 }
 
 /// A list of values. Contracts see the list alone, not how it lies in memory.
-#[derive(Drop)]
 pub struct Listed<T> {
     items: Vec<T>,
+}
+
+impl<T: Drop> Drop for Listed<T> {
+    fn drop(self) {
+        let Listed { items: _ } = self;
+    }
 }
 
 impl<T> Model for Listed<T> {
@@ -76,7 +81,8 @@ impl<T> Listed<T> {
     pub fn into_vec(self) -> Vec<T>
         ensures { result.items ≡ self }
     {
-        self.items
+        let Listed { items } = self;
+        items
     }
 
     /// The items, lent.

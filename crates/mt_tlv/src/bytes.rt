@@ -6,9 +6,14 @@ use std::alloc::{AllocError, Global};
 use std::marker::Model;
 
 /// A string of bytes. A contract sees the list of the bytes, each 0 to 255.
-#[derive(Drop)]
 pub struct Bytes {
     items: Vec<u8>,
+}
+
+impl Drop for Bytes {
+    fn drop(self) {
+        let Bytes { items: _ } = self;
+    }
 }
 
 impl Model for Bytes {
@@ -49,7 +54,8 @@ impl Bytes {
     pub fn into_vec(self) -> Vec<u8>
         ensures { result.items ≡ self }
     {
-        self.items
+        let Bytes { items } = self;
+        items
     }
 
     /// The bytes in their order.

@@ -48,10 +48,16 @@ pub enum Value {
 
 /// The members of a container, in their order. A contract sees their tags and the trees of their
 /// values, and nothing of where they lie in memory.
-#[derive(Drop)]
 #[cycle(value)]
 pub struct Members {
     pub(crate) items: Vec<(Tag, Value)>,
+}
+
+impl Drop for Members {
+    #[cycle(value)]
+    fn drop(self) {
+        let Members { items: _ } = self;
+    }
 }
 
 impl Model for Members {
@@ -84,7 +90,8 @@ impl Members {
     pub fn into_vec(self) -> Vec<(Tag, Value)>
         ensures { elements result.items ≡ self }
     {
-        self.items
+        let Members { items } = self;
+        items
     }
 
     /// The members in their order.

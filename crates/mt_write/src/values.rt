@@ -122,7 +122,7 @@ fn values_of(alloc: Global, rows: Vec<Row>) -> Result<Values, AllocError>
 {
     let mut values = Values::new(alloc);
     for row in rows {
-        values.push(row.value)?;
+        values.push(row.into_value())?;
     }
     Ok(values)
 }

@@ -57,7 +57,6 @@ pub enum Standing {
 }
 
 /// A session of the present boot, as far as the node's answers depend on it.
-#[derive(Drop)]
 pub struct NodeSession {
     /// The node's id of the session.
     pub session: u16,
@@ -69,6 +68,20 @@ pub struct NodeSession {
     /// The peer's CATs; 0 stands for none.
     pub cats: [u32; 3],
     pub standing: Standing,
+}
+
+impl Drop for NodeSession {
+    fn drop(self) {
+        let NodeSession {
+            session: _,
+            auth: _,
+            root_key: _,
+            fabric_id: _,
+            peer_node: _,
+            cats: _,
+            standing: _,
+        } = self;
+    }
 }
 
 impl ExactCopy for NodeSession {

@@ -54,12 +54,35 @@ impl ExactCopy for Place {
 }
 
 /// An attribute's value. A fabric-scoped list has one row for each item.
-#[derive(Drop)]
 pub struct Row {
     pub place: Place,
     /// Whose item it is; 0 where the attribute is not fabric-scoped.
     pub fabric: u8,
     pub value: Value,
+}
+
+impl Drop for Row {
+    fn drop(self) {
+        let Row {
+            place: _,
+            fabric: _,
+            value: _,
+        } = self;
+    }
+}
+
+impl Row {
+    /// The value, in the same memory.
+    pub fn into_value(self) -> Value
+        ensures { result ≡ self.value }
+    {
+        let Row {
+            place: _,
+            fabric: _,
+            value,
+        } = self;
+        value
+    }
 }
 
 impl ExactCopy for Row {
@@ -73,9 +96,14 @@ impl ExactCopy for Row {
 }
 
 /// Rows, ascending by place, by fabric and by the order of the list, in one vector.
-#[derive(Drop)]
 pub struct Rows {
     rows: Vec<Row>,
+}
+
+impl Drop for Rows {
+    fn drop(self) {
+        let Rows { rows: _ } = self;
+    }
 }
 
 impl Model for Rows {
@@ -128,7 +156,8 @@ impl Rows {
         ensures value { result.items ≡ self }
         ensures ascending { IsTrue (are_ascending self) }
     {
-        self.rows
+        let Rows { rows } = self;
+        rows
     }
 
     /// The rows, lent.

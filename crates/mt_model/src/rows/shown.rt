@@ -38,7 +38,7 @@ fn push_shown(
         return Ok(());
     }
     let seen = sees(alloc, fabric, row)?;
-    items.push((Tag::Anonymous, seen.value))?;
+    items.push((Tag::Anonymous, seen.into_value()))?;
     Ok(())
 }
 
@@ -49,7 +49,7 @@ pub fn shown_value(alloc: Global, fabric: u8, rows: &[Row]) -> Result<Value, All
     match rows {
         [row, ..] => {
             let seen = sees(alloc, fabric, row)?;
-            Ok(seen.value)
+            Ok(seen.into_value())
         }
         [] => Ok(Value::Null),
     }

@@ -61,10 +61,18 @@ pub fn stored_places() -> &'static [Place]
 
 /// The stored rows. They are kept by place, so that a place's rows are found and set without going over
 /// the others. Contracts see all of them as one list, ascending by place, by fabric and by the order of the list.
-#[derive(Drop)]
 pub struct StoredRows {
     alloc: Global,
     places: BTreeMap<Place, Vec<Row>>,
+}
+
+impl Drop for StoredRows {
+    fn drop(self) {
+        let StoredRows {
+            alloc: _,
+            places: _,
+        } = self;
+    }
 }
 
 impl Model for StoredRows {

@@ -109,7 +109,6 @@ pub type Targets = Listed<Target>;
 
 /// An entry of the access control list (Matter Core Specification, section 9.10,
 /// Access Control Cluster).
-#[derive(Drop)]
 pub struct AclEntry {
     pub privilege: Privilege,
     pub auth: Auth,
@@ -118,6 +117,18 @@ pub struct AclEntry {
     /// What it grants; none stands for all.
     pub targets: Targets,
     pub fabric: u8,
+}
+
+impl Drop for AclEntry {
+    fn drop(self) {
+        let AclEntry {
+            privilege: _,
+            auth: _,
+            subjects: _,
+            targets: _,
+            fabric: _,
+        } = self;
+    }
 }
 
 impl AclEntry {

@@ -10,7 +10,6 @@ use mt_tlv::Bytes;
 use std::alloc::AllocError;
 
 /// What a fabric's administrator has given the node, so that it is one of the fabric's nodes.
-#[derive(Drop)]
 pub struct Credentials {
     /// The root certificate.
     pub root: Bytes,
@@ -25,6 +24,20 @@ pub struct Credentials {
     pub icac: Bytes,
     /// The identity protection key.
     pub ipk: Bytes,
+}
+
+impl Drop for Credentials {
+    fn drop(self) {
+        let Credentials {
+            root: _,
+            root_key: _,
+            fabric_id: _,
+            node_id: _,
+            noc: _,
+            icac: _,
+            ipk: _,
+        } = self;
+    }
 }
 
 impl ExactCopy for Credentials {
@@ -42,7 +55,6 @@ impl ExactCopy for Credentials {
 }
 
 /// A fabric of the node's table.
-#[derive(Drop)]
 pub struct Fabric {
     /// Its place in the table, from 1.
     pub index: u8,
@@ -51,6 +63,17 @@ pub struct Fabric {
     pub vendor: u16,
     /// What the administrator calls it, in UTF-8.
     pub label: Bytes,
+}
+
+impl Drop for Fabric {
+    fn drop(self) {
+        let Fabric {
+            index: _,
+            credentials: _,
+            vendor: _,
+            label: _,
+        } = self;
+    }
 }
 
 impl Fabric {

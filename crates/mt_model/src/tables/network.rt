@@ -8,12 +8,21 @@ use mt_tlv::Bytes;
 use std::alloc::AllocError;
 
 /// A Wi-Fi network that the node was told of.
-#[derive(Drop)]
 pub struct Network {
     /// Its SSID.
     pub id: Bytes,
     pub secret: Bytes,
     pub connected: bool,
+}
+
+impl Drop for Network {
+    fn drop(self) {
+        let Network {
+            id: _,
+            secret: _,
+            connected: _,
+        } = self;
+    }
 }
 
 impl ExactCopy for Network {

@@ -53,10 +53,15 @@ impl ExactCopy for SessionRow {
 }
 
 /// The verdict on a root certificate that is good: its public key.
-#[derive(Drop)]
 pub struct RootRow {
     pub cert: Bytes,
     pub key: Bytes,
+}
+
+impl Drop for RootRow {
+    fn drop(self) {
+        let RootRow { cert: _, key: _ } = self;
+    }
 }
 
 impl ExactCopy for RootRow {
@@ -69,11 +74,20 @@ impl ExactCopy for RootRow {
 }
 
 /// The answer to a request for a certificate signing request with this nonce.
-#[derive(Drop)]
 pub struct CsrRow {
     pub nonce: Bytes,
     pub elements: Bytes,
     pub signature: Bytes,
+}
+
+impl Drop for CsrRow {
+    fn drop(self) {
+        let CsrRow {
+            nonce: _,
+            elements: _,
+            signature: _,
+        } = self;
+    }
 }
 
 impl ExactCopy for CsrRow {
@@ -88,7 +102,6 @@ impl ExactCopy for CsrRow {
 
 /// The verdict on a chain of certificates that is good: to which signing request it belongs, and
 /// whom it makes the node.
-#[derive(Drop)]
 pub struct JoinRow {
     pub root: Bytes,
     pub noc: Bytes,
@@ -97,6 +110,19 @@ pub struct JoinRow {
     pub nonce: Bytes,
     pub fabric_id: u64,
     pub node_id: u64,
+}
+
+impl Drop for JoinRow {
+    fn drop(self) {
+        let JoinRow {
+            root: _,
+            noc: _,
+            icac: _,
+            nonce: _,
+            fabric_id: _,
+            node_id: _,
+        } = self;
+    }
 }
 
 impl ExactCopy for JoinRow {
