@@ -18,7 +18,7 @@ mod elements;
 mod frames;
 
 use cases_page::{Page, pieces, word};
-use mt_codes::count_codes;
+use mt_soak::count_codes;
 use std::alloc::Global;
 use std::{fs, io};
 

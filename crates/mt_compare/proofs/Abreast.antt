@@ -2,26 +2,26 @@
 use Rattle.std.proofs.Common.{◌≡◌, ℕ, ◌+◌, [], Option, Some, None, sym, ap, ap₂, ◌∙◌}
 use Rattle.std.specs.Option.{option_copied}
 use Rattle.mt_model.specs.declared.texts.recording.Event.{Event}
-use Rattle.mt_machine.specs.Given.{Given}
-use Rattle.mt_lines.specs.Whole.{Whole}
+use Rattle.mt_machine.specs.Environment.{Environment}
+use Rattle.mt_runs.specs.Whole.{Whole}
 use Rattle.mt_runs.specs.Marks.{Mark}
 use Rattle.mt_marks.specs.declared.difference.Part.{Part}
 use Rattle.mt_marks.specs.declared.difference.Part.TheVariants as parts
-use Rattle.mt_differences.specs.Difference.{Difference, difference_from, differs, or_further, part_between}
-use Rattle.mt_differences.specs.Marked.{marked_at}
+use Rattle.mt_marks.specs.differences.Difference.{Difference, difference_from, differs, or_further, part_between}
+use Rattle.mt_marks.specs.differences.Marked.{marked_at}
 use Rattle.mt_compare.specs.Runs.{IsRunning}
 use Rattle.mt_compare.specs.Sides.{GoesTo, left_of, mark_in}
 use Rattle.mt_compare.specs.declared.side.Side.{Side}
 
 -- They stand for two wholes, and what is found of all their marks is what is found of those that are left, of which the first have this number.
-pub record Abreast (given : Given) (fabric : ℕ) (w v : Whole) (mine theirs : Side) (one other : Side) (number : ℕ) : Type 0 where
+pub record Abreast (given : Environment) (fabric : ℕ) (w v : Whole) (mine theirs : Side) (one other : Side) (number : ℕ) : Type 0 where
   pub mine_now : Whole
   pub theirs_now : Whole
   pub mine_stands : IsRunning one.running given mine_now
   pub theirs_stands : IsRunning other.running given theirs_now
   pub same : difference_from 1 (left_of given fabric w mine) (left_of given fabric v theirs) ≡ difference_from number (left_of given fabric mine_now one) (left_of given fabric theirs_now other)
 
-module _ (given : Given) (fabric : ℕ) (w v : Whole) (mine theirs one other : Side) (number : ℕ) (a : Abreast given fabric w v mine theirs one other number) where
+module _ (given : Environment) (fabric : ℕ) (w v : Whole) (mine theirs one other : Side) (number : ℕ) (a : Abreast given fabric w v mine theirs one other number) where
   abbrev all : Option Difference
   all = difference_from 1 (left_of given fabric w mine) (left_of given fabric v theirs)
 

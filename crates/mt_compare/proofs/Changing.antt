@@ -1,14 +1,14 @@
 -- What an event makes of a fabric's place in the table, by whether it was and is there.
 use Rattle.std.proofs.Common.{◌≡◌, ℕ, ◌==◌, ◌&&◌, not, Bool, true, false, List, [], ◌∷◌, ◌++◌, refl, sym, ap, subst, ◌∙◌, if◌then◌else◌}
 use Rattle.mt_model.specs.declared.texts.recording.Event.{Event}
-use Rattle.mt_machine.specs.Given.{Given}
+use Rattle.mt_machine.specs.Environment.{Environment}
 use Rattle.mt_machine.specs.State.{is_member}
 use Rattle.mt_machine.specs.State as machine
-use Rattle.mt_lines.specs.Isolation.{own_part}
-use Rattle.mt_lines.specs.Lines.{fabric_of, is_built, next}
-use Rattle.mt_lines.specs.Whole.{Whole}
+use Rattle.mt_runs.specs.Isolation.{own_part}
+use Rattle.mt_runs.specs.Lines.{fabric_of, is_built, next}
+use Rattle.mt_runs.specs.Whole.{Whole}
 use Rattle.mt_runs.specs.Marks.{Mark, born, gone, is_in, is_of}
-use Rattle.mt_differences.specs.Marked.{if_changed}
+use Rattle.mt_marks.specs.differences.Marked.{if_changed}
 use Rattle.mt_compare.specs.Runs.{IsRunning, PassesBuilt, PassesTo, marks_of_change, passed_by}
 use Rattle.mt_compare.specs.declared.running.Passed.{Passed}
 use Rattle.mt_compare.specs.declared.running.Running.{Running}
@@ -31,7 +31,7 @@ module _ (fabric : ℕ) (behind : Whole) where
       → if_changed fabric w event behind ≡ marks_of_change fabric behind (passed_by was own is)
   changed_by w event was own is before of after = (λ i. change (before i) (of i) (after i)) ∙ by_place was own is
 
-module _ (given : Given) (fabric : ℕ) (w : Whole) (event : Event) (new : Running) where
+module _ (given : Environment) (fabric : ℕ) (w : Whole) (event : Event) (new : Running) where
   passes : (was own is : Bool) → PassesBuilt given fabric w event new (passed_by was own is) → PassesTo given fabric w event new (passed_by was own is)
   passes true true true p = p
   passes true true false p = p

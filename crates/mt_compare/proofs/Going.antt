@@ -2,12 +2,12 @@
 use Rattle.std.proofs.Common.{◌≡◌, ℕ, inl, inr, Bool, true, false, List, [], ◌∷◌, ◌++◌, length, arith, refl, sym, ap, ap₂, subst, ◌∙◌, if◌then◌else◌}
 use Rattle.std.specs.Borrow.{Bor}
 use Rattle.mt_model.specs.declared.texts.recording.Event.{Event}
-use Rattle.mt_machine.specs.Given.{Given}
-use Rattle.mt_lines.specs.Isolation.{public_part}
-use Rattle.mt_lines.specs.Lines.{is_built, next}
-use Rattle.mt_lines.specs.Whole.{Whole}
+use Rattle.mt_machine.specs.Environment.{Environment}
+use Rattle.mt_runs.specs.Isolation.{public_part}
+use Rattle.mt_runs.specs.Lines.{is_built, next}
+use Rattle.mt_runs.specs.Whole.{Whole}
 use Rattle.mt_runs.specs.Marks.{Mark, if_seen, is_seen, seen}
-use Rattle.mt_differences.specs.Marked.{Marked, all_at, if_changed, marked, marked_at}
+use Rattle.mt_marks.specs.differences.Marked.{Marked, all_at, if_changed, marked, marked_at}
 use Rattle.mt_compare.specs.Runs.{IsRunning}
 use Rattle.mt_compare.specs.Sides.{GoesTo, HasLooked, HasPassed, Looks, left, left_of, mark_in, unseen}
 use Rattle.mt_compare.specs.declared.running.Running.{Running}
@@ -15,7 +15,7 @@ use Rattle.mt_compare.specs.declared.side.Side.{Side}
 
 -- Of an event at the head.
 
-module _ (given : Given) (fabric : ℕ) (w : Whole) (event : Event) (behind : List Event) where
+module _ (given : Environment) (fabric : ℕ) (w : Whole) (event : Event) (behind : List Event) where
   abbrev further : List Marked
   further = all_at event (if_changed fabric w event (next given w event)) ++ marked given fabric (next given w event) behind
 
@@ -52,12 +52,12 @@ module _ (given : Given) (fabric : ℕ) (w : Whole) (event : Event) (behind : Li
   stopped_head not = ap (λ (b : Bool). if b then further else []) not
 
 -- A side has gone so far: its node stands for a whole, of which the same marks are left.
-pub record Going (given : Given) (fabric : ℕ) (w : Whole) (old new : Side) : Type 0 where
+pub record Going (given : Environment) (fabric : ℕ) (w : Whole) (old new : Side) : Type 0 where
   pub now : Whole
   pub stands : IsRunning new.running given now
   pub left : left_of given fabric w old ≡ left_of given fabric now new
 
-nothing_left : (given : Given) (fabric : ℕ) (w : Whole) (told : Bool) → left given fabric w told [] ≡ []
+nothing_left : (given : Environment) (fabric : ℕ) (w : Whole) (told : Bool) → left given fabric w told [] ≡ []
 nothing_left given fabric w true = refl
 nothing_left given fabric w false = refl
 
@@ -65,7 +65,7 @@ no_events : (events : List Event) → length events ≡ 0 → events ≡ []
 no_events [] none = refl
 no_events (event ∷ events) none = absurd (omega (arith, none))
 
-module _ (given : Given) (fabric : ℕ) (w : Whole) (old here : Side) (go : Going given fabric w old here) where
+module _ (given : Environment) (fabric : ℕ) (w : Whole) (old here : Side) (go : Going given fabric w old here) where
   -- no event is left
   pub ends : length here.rest.now ≡ 0 → left_of given fabric w old ≡ []
   ends none = go.left ∙ ap (left given fabric go.now here.is_seen) (no_events here.rest.now none) ∙ nothing_left given fabric go.now here.is_seen

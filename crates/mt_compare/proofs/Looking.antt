@@ -3,8 +3,8 @@ use Rattle.std.proofs.Common.{◌≡◌, ℕ, inl, inr, Bool, true, false, Optio
 use Rattle.std.proofs.lemmas.Bool.{cases_Bool}
 use Rattle.std.specs.Option.{option_map}
 use Rattle.mt_model.specs.declared.texts.recording.Event.{Event}
-use Rattle.mt_lines.specs.Isolation.{public_part}
-use Rattle.mt_lines.specs.Whole.{Whole}
+use Rattle.mt_runs.specs.Isolation.{public_part}
+use Rattle.mt_runs.specs.Whole.{Whole}
 use Rattle.mt_runs.specs.Marks.{Mark, is_seen, seen}
 use Rattle.mt_marks.specs.Seen.{seen_in}
 use Rattle.mt_marks.specs.declared.mark.Mark as code

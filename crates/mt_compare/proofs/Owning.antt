@@ -2,12 +2,12 @@
 use Rattle.std.proofs.Common.{◌≡◌, ℕ, List, sym, ◌∙◌, filter}
 use Rattle.mt_model.specs.declared.node.state.NodeSession.{NodeSession}
 use Rattle.mt_subs.specs.Leaving.{is_live_as}
-use Rattle.mt_machine.specs.Given.{Given}
+use Rattle.mt_machine.specs.Environment.{Environment}
 use Rattle.mt_machine.specs.Isolation.{own_of_whole}
 use Rattle.mt_machine.specs.State.{State}
 use Rattle.mt_ledger.specs.Isolation.{own_ledger}
-use Rattle.mt_lines.specs.Isolation.{OwnPart, own_part, talks_among}
-use Rattle.mt_lines.specs.Whole.{Whole}
+use Rattle.mt_runs.specs.Isolation.{OwnPart, own_part, talks_among}
+use Rattle.mt_runs.specs.Whole.{Whole}
 use Rattle.mt_compare.specs.Runs.{IsRunning}
 use Rattle.mt_compare.specs.declared.running.Running.{Running}
 
@@ -19,14 +19,14 @@ live fabric s = filter (λ (session : NodeSession). is_live_as fabric session.st
 abbrev pub own_in : ℕ → Running → OwnPart
 own_in fabric one = record { whole = own_of_whole fabric one.whole.plain.state; ledger = own_ledger fabric one.whole.plain.ledger; talks = talks_among (live fabric one.whole.plain.state) one.told }
 
-own_stands : (fabric : ℕ) (one : Running) (given : Given) (w : Whole) → IsRunning one given w → own_in fabric one ≡ own_part fabric w
+own_stands : (fabric : ℕ) (one : Running) (given : Environment) (w : Whole) → IsRunning one given w → own_in fabric one ≡ own_part fabric w
 own_stands fabric one given w is = λ i. record {
   whole = own_of_whole fabric (is.whole.state i);
   ledger = own_ledger fabric (is.whole.ledger i);
   talks = talks_among (live fabric (is.whole.state i)) (is.told i);
 }
 
-module _ (fabric : ℕ) (one other : Running) (given : Given) (w v : Whole) (is : IsRunning one given w) (its : IsRunning other given v) where
+module _ (fabric : ℕ) (one other : Running) (given : Environment) (w v : Whole) (is : IsRunning one given w) (its : IsRunning other given v) where
   pub stands_same : own_in fabric one ≡ own_in fabric other → own_part fabric w ≡ own_part fabric v
   stands_same same = sym (own_stands fabric one given w is) ∙ same ∙ own_stands fabric other given v its
 

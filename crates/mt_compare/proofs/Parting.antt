@@ -9,11 +9,11 @@ use Rattle.mt_marks.specs.declared.difference.Part.{Part}
 use Rattle.mt_marks.specs.declared.difference.Part.TheVariants as parts
 use Rattle.mt_marks.specs.declared.mark.Descriptor.{Descriptor}
 use Rattle.mt_marks.specs.declared.mark.Mark.{Mark}
-use Rattle.mt_lines.specs.Isolation.{OwnPart}
-use Rattle.mt_differences.specs.Codes.{are_same, of_own}
-use Rattle.mt_differences.specs.Difference.{born_part}
-use Rattle.mt_differences.specs.Laws.{OwnPartsDiffer, PartsComeInOrder, SameMarksHaveNoPart}
-use Rattle.mt_differences.specs.Parts.{IsSameSeen, seen_part}
+use Rattle.mt_runs.specs.Isolation.{OwnPart}
+use Rattle.mt_marks.specs.differences.Codes.{are_same, of_own}
+use Rattle.mt_marks.specs.differences.Difference.{born_part}
+use Rattle.mt_marks.specs.differences.Laws.{OwnPartsDiffer, PartsComeInOrder, SameMarksHaveNoPart}
+use Rattle.mt_marks.specs.differences.Parts.{IsSameSeen, seen_part}
 use Rattle.mt_compare.specs.Seen.{public_in}
 
 -- A descriptor says all that one as data does.

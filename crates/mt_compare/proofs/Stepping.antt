@@ -1,17 +1,17 @@
 -- What is said behind an event, kept beside the node.
 use Rattle.std.proofs.Common.{◌≡◌, ℕ, List, Option, sym, ap, ap₂, ◌∙◌, map}
 use Rattle.mt_model.specs.declared.texts.recording.Event.{Event}
-use Rattle.mt_machine.specs.Given.{Given}
-use Rattle.mt_lines.specs.Lines.{next, talks_behind}
-use Rattle.mt_lines.specs.Whole.{SessionTalk, Whole, without_ended}
+use Rattle.mt_machine.specs.Environment.{Environment}
+use Rattle.mt_runs.specs.Lines.{next, talks_behind}
+use Rattle.mt_runs.specs.Whole.{SessionTalk, Whole, without_ended}
 use Rattle.mt_plain.specs.Plan.{IsPlainPlanned}
-use Rattle.mt_told.specs.Noted.{noted_if}
-use Rattle.mt_told.specs.declared.happening.Note.{Note}
+use Rattle.mt_marks.specs.Noted.{noted_if}
+use Rattle.mt_marks.specs.declared.happening.Note.{Note}
 use Rattle.mt_whole.specs.Laws.{TalksLetGoWhatCloses}
 use Rattle.mt_whole.specs.Plan.{IsWholePlan}
 use Rattle.mt_whole.specs.declared.outcome.WholeOutcome.{WholeOutcome}
 
-module _ (law : TalksLetGoWhatCloses) (given : Given) (w : Whole) (event : Event) (outcome : WholeOutcome) (planned : IsPlainPlanned w.state w.ledger outcome.plain) (plan : IsWholePlan given w event outcome) where
+module _ (law : TalksLetGoWhatCloses) (given : Environment) (w : Whole) (event : Event) (outcome : WholeOutcome) (planned : IsPlainPlanned w.state w.ledger outcome.plain) (plan : IsWholePlan given w event outcome) where
   pub told_behind : (note : Option Note) (told said kept : List SessionTalk) (closed : List ℕ) → told ≡ w.talks → noted_if note w.talks ≡ talks_behind given w event
       → said ≡ noted_if note told → closed ≡ outcome.plain.node.closed → kept ≡ map (without_ended closed) said → kept ≡ (next given w event).talks
   told_behind note told said kept closed is adds noted ends lets =

@@ -1,6 +1,6 @@
 -- For which difference one that the code has stands.
 use Rattle.std.specs.Option.{option_copied}
-use Rattle.mt_differences.specs.Difference.{Difference}
+use Rattle.mt_marks.specs.differences.Difference.{Difference}
 use Rattle.mt_compare.specs.declared.comparing.Difference as code
 
 abbrev pub difference_in : code.Difference → Difference

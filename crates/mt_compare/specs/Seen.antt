@@ -1,5 +1,5 @@
 -- What is public in a mark that the code has.
-use Rattle.mt_lines.specs.Isolation.{PublicPart}
+use Rattle.mt_runs.specs.Isolation.{PublicPart}
 use Rattle.mt_marks.specs.Seen.{recent_in, view_in}
 use Rattle.mt_marks.specs.declared.mark.Mark.{Mark}
 

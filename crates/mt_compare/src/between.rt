@@ -3,18 +3,18 @@
 ghost use Rattle.std.specs.Prelude.{◌≡◌, ◌↔◌, IfOk, IsTrue, filter};
 ghost use Rattle.mt_model.specs.declared.node.state.NodeSession.{NodeSession as Row};
 ghost use Rattle.mt_subs.specs.Leaving.{is_live_as as stands_for};
-ghost use Rattle.mt_machine.specs.Given.{Given};
-ghost use Rattle.mt_lines.specs.Isolation.{own_part};
-ghost use Rattle.mt_lines.specs.Whole.{Whole as Told};
-ghost use Rattle.mt_differences.specs.Difference.{born_part, part_between as part_of_marks};
-ghost use Rattle.mt_differences.specs.Parts.{seen_part};
+ghost use Rattle.mt_machine.specs.Environment.{Environment};
+ghost use Rattle.mt_runs.specs.Isolation.{own_part};
+ghost use Rattle.mt_runs.specs.Whole.{Whole as Told};
+ghost use Rattle.mt_marks.specs.differences.Difference.{born_part, part_between as part_of_marks};
+ghost use Rattle.mt_marks.specs.differences.Parts.{seen_part};
 ghost use Rattle.mt_compare.specs.Runs.{IsRunning};
 ghost use Rattle.mt_compare.specs.Sides.{mark_in};
 ghost use Rattle.mt_compare.specs.Seen.{public_in};
 
 use crate::running::Running;
 use crate::side::{Here, Side};
-use mt_differences::parts_come_in_order;
+use mt_marks::parts_come_in_order;
 use mt_marks::{Mark, Part, first_difference};
 use mt_model::{ExactCopy, NodeSession};
 use mt_subs::is_live_as;
@@ -27,7 +27,7 @@ pub(crate) fn part_between(
     mine: &Side,
     theirs: &Side,
 ) -> Result<Option<Part>, AllocError>
-    ensures { (given : Given) (w v : Told) → IsRunning mine.now.running given w → IsRunning theirs.now.running given v
+    ensures { (given : Environment) (w v : Told) → IsRunning mine.now.running given w → IsRunning theirs.now.running given v
         → IfOk result (λ part. part ≡ part_of_marks (mark_in fabric w mine.now.here) (mark_in fabric v theirs.now.here)) }
 {
     match (&mine.here, &theirs.here) {
@@ -53,7 +53,7 @@ fn born_between(
     mine: &Running,
     theirs: &Running,
 ) -> Result<Option<Part>, AllocError>
-    ensures { (given : Given) (w v : Told) → IsRunning mine.now given w → IsRunning theirs.now given v
+    ensures { (given : Environment) (w v : Told) → IsRunning mine.now given w → IsRunning theirs.now given v
         → IfOk result (λ part. part ≡ born_part (own_part fabric w) (own_part fabric v)) }
 {
     parts_come_in_order();
@@ -70,7 +70,7 @@ fn are_own_same(
     mine: &Running,
     theirs: &Running,
 ) -> Result<bool, AllocError>
-    ensures { (given : Given) (w v : Told) → IsRunning mine.now given w → IsRunning theirs.now given v
+    ensures { (given : Environment) (w v : Told) → IsRunning mine.now given w → IsRunning theirs.now given v
         → IfOk result (λ same. IsTrue same ↔ (own_part fabric w ≡ own_part fabric v)) }
 {
     if !mine.whole.has_same_own(&theirs.whole, fabric) {

@@ -3,10 +3,10 @@
 ghost use Rattle.std.specs.Prelude.{◌≡◌, IfOk, None, Some};
 ghost use Rattle.std.specs.Option.{option_map};
 ghost use Rattle.mt_model.specs.texts.Contents.{contents_of};
-ghost use Rattle.mt_machine.specs.Given.{Given, given_by};
-ghost use Rattle.mt_lines.specs.Whole.{Whole as Told, opened};
-ghost use Rattle.mt_differences.specs.Difference.{difference, difference_from};
-ghost use Rattle.mt_differences.specs.Marked.{marked};
+ghost use Rattle.mt_machine.specs.Environment.{Environment, given_by};
+ghost use Rattle.mt_runs.specs.Whole.{Whole as Told, opened};
+ghost use Rattle.mt_marks.specs.differences.Difference.{difference, difference_from};
+ghost use Rattle.mt_marks.specs.differences.Marked.{marked};
 ghost use Rattle.mt_compare.specs.Found.{difference_in};
 ghost use Rattle.mt_compare.specs.Runs.{IsRunning};
 ghost use Rattle.mt_compare.specs.Sides.{left_of};
@@ -69,7 +69,7 @@ fn first_between<'a>(
     mine: &mut Side<'a>,
     theirs: &mut Side<'a>,
 ) -> Result<Option<Difference<'a>>, AllocError>
-    ensures { (given : Given) (w v : Told) → IsRunning mine.old.running given w → IsRunning theirs.old.running given v
+    ensures { (given : Environment) (w v : Told) → IsRunning mine.old.running given w → IsRunning theirs.old.running given v
         → IfOk result (λ found. option_map difference_in found ≡ difference_from 1 (left_of given fabric w mine.old) (left_of given fabric v theirs.old)) }
 {
     for number in 1..u64::MAX {

@@ -2,12 +2,12 @@
 
 ghost use Rattle.std.specs.Prelude.{◌≡◌, IfOk};
 ghost use Rattle.mt_model.specs.texts.Contents.{contents_of};
-ghost use Rattle.mt_machine.specs.Given.{Given, given_by};
-ghost use Rattle.mt_lines.specs.Whole.{Whole as Told, opened};
+ghost use Rattle.mt_machine.specs.Environment.{Environment, given_by};
+ghost use Rattle.mt_runs.specs.Whole.{Whole as Told, opened};
 ghost use Rattle.mt_compare.specs.Runs.{IsRunning, PassesTo, StepsTo, passed_by};
 
 use mt_model::{Config, Event, TableVerdicts};
-use mt_told::ToldTalks;
+use mt_marks::ToldTalks;
 use mt_whole::{Whole, closed_sessions_are_those_that_end};
 use std::alloc::{AllocError, Global};
 
@@ -55,7 +55,7 @@ impl Running {
 
     /// Makes of the node what an event makes of it, and tells what that is for a fabric.
     pub(crate) fn pass(&mut self, fabric: u8, event: &Event) -> Result<Passed, AllocError>
-        ensures { (given : Given) (w : Told) → IsRunning self.old given w → IfOk result (PassesTo given fabric w event.now self.new) }
+        ensures { (given : Environment) (w : Told) → IsRunning self.old given w → IfOk result (PassesTo given fabric w event.now self.new) }
     {
         let was = self.whole.has(fabric);
         let is_own = self.whole.acts_for(event) == fabric;
@@ -67,7 +67,7 @@ impl Running {
 
     // Makes of the node what an event makes of it; false where the event is not built.
     fn step(&mut self, event: &Event) -> Result<bool, AllocError>
-        ensures { (given : Given) (w : Told) → IsRunning self.old given w → IfOk result (StepsTo given w event.now self.new) }
+        ensures { (given : Environment) (w : Told) → IsRunning self.old given w → IfOk result (StepsTo given w event.now self.new) }
     {
         closed_sessions_are_those_that_end();
         let note = self.whole.note(event, &self.verdicts)?;

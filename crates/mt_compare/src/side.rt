@@ -2,8 +2,8 @@
 
 ghost use Rattle.std.specs.Prelude.{◌≡◌, ◌≤◌, IfOk, OnOk, false, length};
 ghost use Rattle.mt_model.specs.texts.Contents.{contents_of};
-ghost use Rattle.mt_machine.specs.Given.{Given, given_by};
-ghost use Rattle.mt_lines.specs.Whole.{Whole as Told, opened};
+ghost use Rattle.mt_machine.specs.Environment.{Environment, given_by};
+ghost use Rattle.mt_runs.specs.Whole.{Whole as Told, opened};
 ghost use Rattle.mt_compare.specs.Runs.{IsRunning};
 ghost use Rattle.mt_compare.specs.Sides.{GoesOn, HasLooked, HasPassed, HasSeen};
 
@@ -58,7 +58,7 @@ impl<'a> Side<'a> {
 
     /// Goes on to the fabric's next mark; false where there is none.
     pub(crate) fn next(&mut self, fabric: u8) -> Result<bool, AllocError>
-        ensures { (given : Given) (w : Told) → IsRunning self.old.running given w → IfOk result (GoesOn given fabric w self.old self.new) }
+        ensures { (given : Environment) (w : Told) → IsRunning self.old.running given w → IfOk result (GoesOn given fabric w self.old self.new) }
     {
         'events: while let Some((event, behind)) = self.rest.split_first() {
             if self.look(fabric, event)? {
@@ -74,7 +74,7 @@ impl<'a> Side<'a> {
     // Tells what the fabric sees of an event, where that was not told yet; false where nothing is told.
     fn look(&mut self, fabric: u8, event: &'a Event) -> Result<bool, AllocError>
         ensures rest { OnOk result (self.new.rest ≡ self.old.rest) }
-        ensures looked { (given : Given) (w : Told) → IsRunning self.old.running given w → IfOk result (HasLooked fabric w event.entry self.old self.new) }
+        ensures looked { (given : Environment) (w : Told) → IsRunning self.old.running given w → IfOk result (HasLooked fabric w event.entry self.old self.new) }
     {
         if self.is_seen {
             return Ok(false);
@@ -85,7 +85,7 @@ impl<'a> Side<'a> {
     // Tells what the fabric sees of an event; false where it does not see it.
     fn see(&mut self, fabric: u8, event: &'a Event) -> Result<bool, AllocError>
         ensures rest { OnOk result (self.new.rest ≡ self.old.rest) }
-        ensures seen { (given : Given) (w : Told) → IsRunning self.old.running given w → IfOk result (HasSeen fabric w event.entry self.old self.new) }
+        ensures seen { (given : Environment) (w : Told) → IsRunning self.old.running given w → IfOk result (HasSeen fabric w event.entry self.old self.new) }
     {
         let mark = self.running.whole.mark(fabric, event)?;
         self.is_seen = true;
@@ -106,7 +106,7 @@ impl<'a> Side<'a> {
         behind: &'a [Event],
     ) -> Result<bool, AllocError>
         ensures shorter { OnOk result (length self.new.rest.now ≤ length behind.entry.now) }
-        ensures passed { (given : Given) (w : Told) → IsRunning self.old.running given w → IfOk result (HasPassed given fabric w event.entry behind.entry self.new) }
+        ensures passed { (given : Environment) (w : Told) → IsRunning self.old.running given w → IfOk result (HasPassed given fabric w event.entry behind.entry self.new) }
     {
         let passed = self.running.pass(fabric, event)?;
         self.is_seen = false;

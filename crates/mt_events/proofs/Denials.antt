@@ -14,7 +14,7 @@ use Rattle.mt_model.specs.declared.messages.status.Status.TheVariants.{Unsupport
 use Rattle.mt_model.specs.declared.rows.place.Place.{Place}
 use Rattle.mt_model.specs.declared.tables.access.Privilege.{Privilege}
 use Rattle.mt_model.specs.declared.tables.access.Privilege.TheVariants.{View}
-use Rattle.mt_events.specs.Denials.{DeniesExactly, IsDenied, LeavesOutExactly}
+use Rattle.mt_events.specs.Denials.{DeniesEventsExactly, IsDenied, LeavesOutEventsExactly}
 use Rattle.mt_events.specs.Reading.{Asking, is_told, may_see, missing_items, refusal_at}
 
 -- Some privilege is asked everywhere.
@@ -62,10 +62,10 @@ module _ (asking : Asking) (place : Place) where
   is_refused : IsDenied asking place → refusal_at asking place ≡ EventRefused (path_of place) 0x7e ∷ []
   is_refused d = ap (λ (may : Bool). if may then missing_items place (find_event_of place) else EventRefused (path_of place) (code_of UnsupportedAccess) ∷ []) (from_denied d)
 
-pub denies_exactly : DeniesExactly
+pub denies_exactly : DeniesEventsExactly
 denies_exactly asking place = (denied_by asking place (may_see asking place) refl, is_refused asking place)
 
-pub leaves_out_exactly : LeavesOutExactly
+pub leaves_out_exactly : LeavesOutEventsExactly
 leaves_out_exactly asking e number named =
     let is : is_told asking e ≡ may_see asking e.place = rw (number, named) refl in
     (λ h. to_denied asking e.place (sym is ∙ h), λ d. is ∙ from_denied asking e.place d)

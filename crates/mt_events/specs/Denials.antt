@@ -20,10 +20,10 @@ pub record IsDenied (asking : Asking) (place : Place) : Type 0 where
   pub entries : list_any (own_entry_grants asking.actor place asked) asking.entries ≡ false
 
 -- A path that names one place is answered with the status 7E exactly where that is denied.
-abbrev pub DeniesExactly : Type 0
-DeniesExactly = (asking : Asking) (place : Place) → (refusal_at asking place ≡ EventRefused (path_of place) 0x7e ∷ []) ↔ IsDenied asking place
+abbrev pub DeniesEventsExactly : Type 0
+DeniesEventsExactly = (asking : Asking) (place : Place) → (refusal_at asking place ≡ EventRefused (path_of place) 0x7e ∷ []) ↔ IsDenied asking place
 
 -- An event that is asked for, by a path and by its number, is not told exactly where that is denied.
-abbrev pub LeavesOutExactly : Type 0
-LeavesOutExactly = (asking : Asking) (e : Happened) → nat_le asking.minimum e.number ≡ true → is_named_by asking.paths e.place ≡ true
+abbrev pub LeavesOutEventsExactly : Type 0
+LeavesOutEventsExactly = (asking : Asking) (e : Happened) → nat_le asking.minimum e.number ≡ true → is_named_by asking.paths e.place ≡ true
     → (is_told asking e ≡ false) ↔ IsDenied asking e.place

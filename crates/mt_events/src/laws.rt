@@ -1,7 +1,7 @@
 //! What holds of the rings and of the order of events, over the definitions alone. Each is the contract of a function
 //! that does nothing.
 
-ghost use Rattle.mt_events.specs.Denials.{DeniesExactly, LeavesOutExactly};
+ghost use Rattle.mt_events.specs.Denials.{DeniesEventsExactly, LeavesOutEventsExactly};
 ghost use Rattle.std.specs.Prelude.{◌≡◌, ◌≤◌, ◌||◌, ℕ, Bool, IsTrue, List, true};
 ghost use Rattle.std.specs.List.{list_any};
 ghost use Rattle.mt_events.specs.Rings.{AreRings, empty, forgotten, is_new, pushed, rise};
@@ -25,7 +25,7 @@ pub fn events_are_told_in_order()
 /// A read of events is denied exactly where neither the implicit entry nor an entry of the reader's own fabric grants what is
 /// asked there. A path that names one place is then answered with UNSUPPORTED_ACCESS, and of the events that are asked for
 /// those are left out.
-pub fn denials_are_exact()
-    ensures concrete { DeniesExactly }
-    ensures told { LeavesOutExactly }
+pub fn event_denials_are_exact()
+    ensures concrete { DeniesEventsExactly }
+    ensures told { LeavesOutEventsExactly }
 {}

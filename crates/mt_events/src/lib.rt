@@ -14,6 +14,6 @@ mod reading;
 mod rings;
 mod telling;
 
-pub use laws::{denials_are_exact, events_are_told_in_order, rings_stay_rings};
+pub use laws::{event_denials_are_exact, events_are_told_in_order, rings_stay_rings};
 pub use numbers::Numbers;
 pub use rings::Rings;

@@ -29,7 +29,7 @@ pub fn events_have_a_form()
 
 /// Events within the ranges of the format, whose times do not fall, are read again as they were
 /// written, where their lines and bytes are few enough.
-pub fn written_is_read()
+pub fn written_recordings_are_read()
     ensures { (events : List Event) → All IsEvent events → All HasForm events → IsNonDecreasing (filter_map event_time events)
         → length events ≤ RECORDING_LINES → length (recording_text events) ≤ RECORDING_BYTES
         → recording_of (recording_text events) ≡ Ok events }

@@ -26,7 +26,7 @@ mod writing;
 
 pub use laws::{
     events_have_a_form, lines_are_single, numbers_have_one_spelling, recordings_are_read,
-    written_is_read,
+    written_recordings_are_read,
 };
 pub use line_fault::{LineFault, LineKind};
 pub use mt_config::{ConfigFault, ConfigField, config};

@@ -39,7 +39,7 @@ pub fn one_spelling()
 {}
 
 /// What is written is read again, whatever follows it.
-pub fn written_is_read()
+pub fn written_headers_are_read()
     ensures message { (header : MessageHeader) (rest : List ℕ) → IsMessage header
         → message_at (message_bytes header ++ rest) ≡ Ok (header, length (message_bytes header)) }
     ensures protocol { (header : ProtocolHeader) (rest : List ℕ) → IsProtocol header

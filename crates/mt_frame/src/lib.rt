@@ -22,7 +22,7 @@ pub use fault::FrameFault;
 pub use header::{MessageHeader, ProtocolHeader};
 pub use laws::{
     first_fault_is_answered, header_is_read, header_is_spelled, no_header_begins_another,
-    one_spelling, written_is_read,
+    one_spelling, written_headers_are_read,
 };
 pub use message::{read_message, write_message};
 pub use protocol::{read_protocol, write_protocol};

@@ -12,7 +12,7 @@ use Rattle.mt_model.specs.declared.tables.access.Privilege.{Privilege}
 use Rattle.mt_model.specs.declared.messages.status.Status.{Status}
 use Rattle.mt_model.specs.declared.messages.status.Status.TheVariants.{NeedsTimedInteraction, UnsupportedAccess, UnsupportedCluster, UnsupportedCommand, UnsupportedEndpoint}
 use Rattle.mt_invoke.specs.Checking.{if_found, is_scoped, may_invoke}
-use Rattle.mt_invoke.specs.Laws.{DeniesExactly, IsDenied}
+use Rattle.mt_invoke.specs.Laws.{DeniesCommandsExactly, IsDenied}
 
 -- What is no denial.
 
@@ -61,7 +61,7 @@ module _ (seen : Seen) (actor : Actor) (command : Place) where
         absurd cc
     to_denied false is h = denied_by (privilege_of command Command) refl is
 
-pub denies_exactly : DeniesExactly
+pub denies_exactly : DeniesCommandsExactly
 denies_exactly seen actor command timed = (
   to_denied seen actor command timed (may_invoke seen actor command) refl,
   λ d. ap (outcome seen actor command timed) (not_granted seen actor command d),

@@ -19,5 +19,5 @@ pub record IsDenied (seen : Seen) (actor : Actor) (command : Place) : Type 0 whe
   pub implicit : implicit_grants actor (is_scoped (find_command_of command)) ≡ false
   pub entries : list_any (own_entry_grants actor command asked) seen.entries ≡ false
 
-abbrev pub DeniesExactly : Type 0
-DeniesExactly = (seen : Seen) (actor : Actor) (command : Place) (timed : Bool) → (checked seen actor command timed ≡ Err UnsupportedAccess) ↔ IsDenied seen actor command
+abbrev pub DeniesCommandsExactly : Type 0
+DeniesCommandsExactly = (seen : Seen) (actor : Actor) (command : Place) (timed : Bool) → (checked seen actor command timed ≡ Err UnsupportedAccess) ↔ IsDenied seen actor command

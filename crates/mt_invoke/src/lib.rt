@@ -11,4 +11,4 @@ mod checking;
 mod laws;
 
 pub use checking::{check, has_form};
-pub use laws::denials_are_exact;
+pub use laws::command_denials_are_exact;

@@ -9,18 +9,18 @@ use Rattle.mt_model.specs.declared.tables.access.Actor.{Actor}
 use Rattle.mt_opcreds.specs.Laws.{KeepsRules}
 use Rattle.mt_subs.specs.Leaving.{is_none_of}
 use Rattle.mt_subs.specs.Subscriptions.{confirmed, first_ids, reported}
-use Rattle.mt_machine.specs.Given.{Given}
+use Rattle.mt_machine.specs.Environment.{Environment}
 use Rattle.mt_machine.specs.Isolation.{OwnOfWhole, own, veil}
 use Rattle.mt_machine.specs.Laws as laws
 use Rattle.mt_machine.specs.Lines.{action_of}
 use Rattle.mt_machine.specs.State.{IsValid}
 use Rattle.mt_machine.specs.Step.{after_action, asker}
 use Rattle.mt_machine.specs.Touching.{StaysThere}
-use Rattle.mt_history.specs.Behind.{history_behind}
-use Rattle.mt_history.specs.History.{History}
-use Rattle.mt_history.specs.Isolation.{own_events, veiled_history}
-use Rattle.mt_history.specs.Laws as histories
-use Rattle.mt_ledger.specs.Behind.{Doing, acts, action_in, confirms, ends, ledger_behind, reports, state_done, subs_done}
+use Rattle.mt_ledger.specs.history.Behind.{history_behind}
+use Rattle.mt_ledger.specs.history.History.{History}
+use Rattle.mt_ledger.specs.history.Isolation.{own_events, veiled_history}
+use Rattle.mt_ledger.specs.history.Laws as histories
+use Rattle.mt_ledger.specs.Behind.{Activity, acts, action_in, confirms, ends, ledger_behind, reports, state_done, subs_done}
 use Rattle.mt_ledger.specs.Isolation.{own_ledger, veiled_ledger}
 use Rattle.mt_ledger.specs.Ledger.{IsLedger, Ledger}
 use Rattle.mt_ledger.specs.Reporting.{Due, behind_report, due_now, told_now}
@@ -41,27 +41,27 @@ pub keeps_own_ledger : histories.KeepsItsEvents → length first_ids ≡ 256 →
 keeps_own_ledger keeps_events first fabric s l is = own_from fabric (veiled_ledger fabric l) l (keeps_events fabric l.history is.history) (veiled_subs first s l is fabric)
 
 -- Behind what is done on the veil and on the state.
-module _ (given : Given) (fabric : ℕ) (s t : NodeState) (k l : Ledger) (doing : Doing) (now : ℕ) (again : own fabric (state_done given t doing now) ≡ own fabric (state_done given s doing now))
-    (events : own_events fabric (history_behind given t (action_in doing) now k.history) ≡ own_events fabric (history_behind given s (action_in doing) now l.history))
-    (alike : Alike fabric (subs_done t k now doing) (subs_done s l now doing)) where
-  pub left_on_both : own_ledger fabric (ledger_behind given t doing now k) ≡ own_ledger fabric (ledger_behind given s doing now l)
+module _ (given : Environment) (fabric : ℕ) (s t : NodeState) (k l : Ledger) (activity : Activity) (now : ℕ) (again : own fabric (state_done given t activity now) ≡ own fabric (state_done given s activity now))
+    (events : own_events fabric (history_behind given t (action_in activity) now k.history) ≡ own_events fabric (history_behind given s (action_in activity) now l.history))
+    (alike : Alike fabric (subs_done t k now activity) (subs_done s l now activity)) where
+  pub left_on_both : own_ledger fabric (ledger_behind given t activity now k) ≡ own_ledger fabric (ledger_behind given s activity now l)
   left_on_both =
-      own_from fabric (ledger_behind given t doing now k) (ledger_behind given s doing now l) events
-      (left_alike fabric (state_done given t doing now) (state_done given s doing now) again (subs_done t k now doing) (subs_done s l now doing) alike)
+      own_from fabric (ledger_behind given t activity now k) (ledger_behind given s activity now l) events
+      (left_alike fabric (state_done given t activity now) (state_done given s activity now) again (subs_done t k now activity) (subs_done s l now activity) alike)
 
 -- Behind what others do.
-module _ (given : Given) (fabric : ℕ) (s : NodeState) (l : Ledger) (doing : Doing) (now : ℕ) (is : IsLedger s l) (stays : own fabric (state_done given s doing now) ≡ own fabric s)
-    (events : own_events fabric (history_behind given s (action_in doing) now l.history) ≡ own_events fabric l.history)
-    (alike : Alike fabric (subs_done s l now doing) l.subs) where
-  pub kept_aside : own_ledger fabric (ledger_behind given s doing now l) ≡ own_ledger fabric l
+module _ (given : Environment) (fabric : ℕ) (s : NodeState) (l : Ledger) (activity : Activity) (now : ℕ) (is : IsLedger s l) (stays : own fabric (state_done given s activity now) ≡ own fabric s)
+    (events : own_events fabric (history_behind given s (action_in activity) now l.history) ≡ own_events fabric l.history)
+    (alike : Alike fabric (subs_done s l now activity) l.subs) where
+  pub kept_aside : own_ledger fabric (ledger_behind given s activity now l) ≡ own_ledger fabric l
   kept_aside =
-      own_from fabric (ledger_behind given s doing now l) l events
-      (left_apart fabric (state_done given s doing now) s stays (subs_done s l now doing) l.subs is.there alike)
+      own_from fabric (ledger_behind given s activity now l) l events
+      (left_apart fabric (state_done given s activity now) s stays (subs_done s l now activity) l.subs is.there alike)
 
 -- What an actor asks.
 
-pub asked_on_veil : laws.SeesTheVeil → laws.KeepsItsOwnPart → laws.ActionsLeaveTheOwnOnTheVeil → histories.KeepsItsEvents → histories.KeepsTheRecent → histories.LeavesItsEventsOnTheVeil → length first_ids ≡ 256
-    → (given : Given) (s : NodeState) (l : Ledger) (actor asking : Actor) (asked : Result Request ImFault) (deadline : Option ℕ) (now : ℕ) → KeepsRules given.judged → IsValid s → IsLedger s l
+pub asked_on_veil : laws.SeesTheVeil → laws.KeepsItsOwnPart → laws.ActionsLeaveTheOwnOnTheVeil → histories.KeepsItsEvents → histories.KeepsRecentEvents → histories.LeavesItsEventsOnTheVeil → length first_ids ≡ 256
+    → (given : Environment) (s : NodeState) (l : Ledger) (actor asking : Actor) (asked : Result Request ImFault) (deadline : Option ℕ) (now : ℕ) → KeepsRules given.judged → IsValid s → IsLedger s l
     → asker s actor ≡ Some asking → asker (veil asking.fabric s) actor ≡ Some asking
     → own_ledger asking.fabric (ledger_behind given (veil asking.fabric s) (acts (action_of actor deadline asked)) now (veiled_ledger asking.fabric l))
     ≡ own_ledger asking.fabric (ledger_behind given s (acts (action_of actor deadline asked)) now l)
@@ -72,7 +72,7 @@ asked_on_veil sees keeps_own leaves_own keeps_events keeps_recent leaves_events 
     (leaves_events given s l.history actor asking asked deadline now rules valid is.history on_state on_veil)
     (asked_alike sees keeps_own keeps_events keeps_recent s l valid is (veiled_subs first s l is) actor asking deadline now asked on_state on_veil)
 
-pub asked_aside : laws.ActionsKeepTheOwn → histories.KeepsOthersEvents → (given : Given) (fabric : ℕ) (s : NodeState) (l : Ledger) (actor asking : Actor) (asked : Result Request ImFault) (deadline : Option ℕ) (now : ℕ)
+pub asked_aside : laws.ActionsKeepTheOwn → histories.KeepsOthersEvents → (given : Environment) (fabric : ℕ) (s : NodeState) (l : Ledger) (actor asking : Actor) (asked : Result Request ImFault) (deadline : Option ℕ) (now : ℕ)
     → KeepsRules given.judged → IsValid s → IsLedger s l → asker s actor ≡ Some asking → (fabric ≡ asking.fabric → ⊥) → StaysThere fabric s (after_action given s (action_of actor deadline asked) now)
     → own_ledger fabric (ledger_behind given s (acts (action_of actor deadline asked)) now l) ≡ own_ledger fabric l
 asked_aside keeps keeps_events given fabric s l actor asking asked deadline now rules valid is on_state apart there =
@@ -83,7 +83,7 @@ asked_aside keeps keeps_events given fabric s l actor asking asked deadline now 
 
 -- A time step.
 
-pub ticks_on_veil : laws.TicksOnTheVeil → histories.TicksLeaveEventsOnTheVeil → length first_ids ≡ 256 → (given : Given) (fabric : ℕ) (s : NodeState) (l : Ledger) (now : ℕ) → KeepsRules given.judged → IsValid s → IsLedger s l
+pub ticks_on_veil : laws.TicksOnTheVeil → histories.TicksLeaveEventsOnTheVeil → length first_ids ≡ 256 → (given : Environment) (fabric : ℕ) (s : NodeState) (l : Ledger) (now : ℕ) → KeepsRules given.judged → IsValid s → IsLedger s l
     → own_ledger fabric (ledger_behind given (veil fabric s) (acts Expire) now (veiled_ledger fabric l)) ≡ own_ledger fabric (ledger_behind given s (acts Expire) now l)
 ticks_on_veil ticks tick_events first given fabric s l now rules valid is =
     left_on_both given fabric s (veil fabric s) (veiled_ledger fabric l) l (acts Expire) now
@@ -91,7 +91,7 @@ ticks_on_veil ticks tick_events first given fabric s l now rules valid is =
     (tick_events given fabric s l.history now rules valid is.history)
     (veiled_subs first s l is fabric)
 
-pub ticks_aside : laws.TicksSpareOthers → histories.TicksSpareEvents → (given : Given) (fabric : ℕ) (s : NodeState) (l : Ledger) (now : ℕ) → KeepsRules given.judged → IsValid s → IsLedger s l → (fabric ≡ 0 → ⊥) → was_added fabric s.armed ≡ false → was_updated fabric s.armed ≡ false
+pub ticks_aside : laws.TicksSpareOthers → histories.TicksSpareEvents → (given : Environment) (fabric : ℕ) (s : NodeState) (l : Ledger) (now : ℕ) → KeepsRules given.judged → IsValid s → IsLedger s l → (fabric ≡ 0 → ⊥) → was_added fabric s.armed ≡ false → was_updated fabric s.armed ≡ false
     → own_ledger fabric (ledger_behind given s (acts Expire) now l) ≡ own_ledger fabric l
 ticks_aside spares spare_events given fabric s l now rules valid is somebody added updated =
     kept_aside given fabric s l (acts Expire) now is
@@ -101,7 +101,7 @@ ticks_aside spares spare_events given fabric s l now rules valid is somebody add
 
 -- What is done with subscriptions while time passes.
 
-module _ (time : laws.TimeKeepsTheOwn) (no_events : histories.TimeTellsNothing) (given : Given) (fabric : ℕ) (s : NodeState) (l : Ledger) (now : ℕ) (is : IsLedger s l) where
+module _ (time : laws.TimeKeepsTheOwn) (no_events : histories.TimeTellsNothing) (given : Environment) (fabric : ℕ) (s : NodeState) (l : Ledger) (now : ℕ) (is : IsLedger s l) where
   time_own : (t : NodeState) → own fabric (after_action given t Nothing now) ≡ own fabric t
   time_own t = ap (λ (o : OwnOfWhole). o.node) (time given fabric (record { node = t; deadlines = [] }) now)
 
@@ -122,7 +122,7 @@ module _ (time : laws.TimeKeepsTheOwn) (no_events : histories.TimeTellsNothing) 
   reports_aside other id apart = kept_aside given fabric s l (reports other id) now is (time_own s) (time_events s l.history) (report_apart other id (due_now s l now other id) apart)
 
   -- on the veil
-  module _ (sees : laws.SeesTheVeil) (keeps_own : laws.KeepsItsOwnPart) (keeps_events : histories.KeepsItsEvents) (keeps_recent : histories.KeepsTheRecent) (first : length first_ids ≡ 256) (valid : IsValid s) where
+  module _ (sees : laws.SeesTheVeil) (keeps_own : laws.KeepsItsOwnPart) (keeps_events : histories.KeepsItsEvents) (keeps_recent : histories.KeepsRecentEvents) (first : length first_ids ≡ 256) (valid : IsValid s) where
     time_own_same : own fabric (after_action given (veil fabric s) Nothing now) ≡ own fabric (after_action given s Nothing now)
     time_own_same = time_own (veil fabric s) ∙ keeps_own fabric s valid ∙ sym (time_own s)
 

@@ -15,12 +15,12 @@ use Rattle.mt_subs.specs.declared.subscription.Kept.{Kept}
 use Rattle.mt_subs.specs.declared.subscription.Sub.{Sub}
 use Rattle.mt_subs.specs.declared.subscription.SubState.{SubState}
 use Rattle.mt_subs.specs.declared.subscription.Subscription.{Subscription}
-use Rattle.mt_machine.specs.Given.{Given}
+use Rattle.mt_machine.specs.Environment.{Environment}
 use Rattle.mt_machine.specs.Laws as laws
 use Rattle.mt_machine.specs.State.{IsValid, is_among, is_member}
 use Rattle.mt_machine.specs.Step.{asker}
-use Rattle.mt_history.specs.Laws as histories
-use Rattle.mt_ledger.specs.Behind.{Doing, acts, action_in, confirms, ends, ledger_behind, reports, state_done, subs_done}
+use Rattle.mt_ledger.specs.history.Laws as histories
+use Rattle.mt_ledger.specs.Behind.{Activity, acts, action_in, confirms, ends, ledger_behind, reports, state_done, subs_done}
 use Rattle.mt_ledger.specs.Ledger.{IsLedger, Ledger}
 use Rattle.mt_ledger.specs.Reporting.{Due, behind_report, due_now, told_now}
 use Rattle.mt_ledger.specs.Subscribing.{Wish, behind_wish, behind_wish_if_any, first_told, has_no_room, is_malformed, left_by, subscribed, wish_asked}
@@ -84,7 +84,7 @@ module _ (added_are : AddedAre) (changed_are : ChangedAre) (staying_are : Stayin
       (λ wish its. behind_is wish (subst (λ (a : Actor). a.fabric < 256) (sym its) (asker_low known s actor asking valid on_state)))
       deadline now request
 
-  done_is : laws.AskersAreKnown → IsValid s → (doing : Doing) → IsSubs (subs_done s l now doing)
+  done_is : laws.AskersAreKnown → IsValid s → (activity : Activity) → IsSubs (subs_done s l now activity)
   done_is known valid (acts (Ask actor request deadline)) = asked_is known valid actor request deadline (asker s actor) refl
   done_is known valid (acts Expire) = is
   done_is known valid (acts Nothing) = is
@@ -92,13 +92,13 @@ module _ (added_are : AddedAre) (changed_are : ChangedAre) (staying_are : Stayin
   done_is known valid (ends fabric ids) = staying_are (is_none_of fabric ids) l.subs is
   done_is known valid (reports fabric id) = report_is fabric id (due_now s l now fabric id)
 
-pub stays : histories.StaysHistory → laws.AskersAreKnown → AddedAre → ChangedAre → StayingAre → (given : Given) (s : NodeState) (doing : Doing) (now : ℕ) (l : Ledger) → KeepsRules given.judged → IsValid s → IsLedger s l
-    → IsLedger (state_done given s doing now) (ledger_behind given s doing now l)
-stays stays_history known added_are changed_are staying_are given s doing now l rules valid is =
-    let behind = state_done given s doing now in
-    let done = subs_done s l now doing in
+pub stays : histories.StaysHistory → laws.AskersAreKnown → AddedAre → ChangedAre → StayingAre → (given : Environment) (s : NodeState) (activity : Activity) (now : ℕ) (l : Ledger) → KeepsRules given.judged → IsValid s → IsLedger s l
+    → IsLedger (state_done given s activity now) (ledger_behind given s activity now l)
+stays stays_history known added_are changed_are staying_are given s activity now l rules valid is =
+    let behind = state_done given s activity now in
+    let done = subs_done s l now activity in
     record {
-      history = stays_history given s (action_in doing) now l.history rules valid is.history;
-      subs = staying_are (stands_in behind) done (done_is added_are changed_are staying_are s l now is.subs known valid doing);
+      history = stays_history given s (action_in activity) now l.history rules valid is.history;
+      subs = staying_are (stands_in behind) done (done_is added_are changed_are staying_are s l now is.subs known valid activity);
       there = all_left (stands_in behind) done.subscriptions;
     }

@@ -8,15 +8,15 @@ use Rattle.mt_model.specs.declared.node.action.Action.TheVariants.{Ask}
 use Rattle.mt_model.specs.declared.node.state.NodeState.{NodeState}
 use Rattle.mt_model.specs.declared.tables.access.Actor.{Actor}
 use Rattle.mt_subs.specs.Subscriptions.{first_ids}
-use Rattle.mt_machine.specs.Given.{Given}
+use Rattle.mt_machine.specs.Environment.{Environment}
 use Rattle.mt_machine.specs.Isolation.{veil, veil_of_whole}
 use Rattle.mt_machine.specs.Laws as laws
 use Rattle.mt_machine.specs.Lines.{deadline_of}
 use Rattle.mt_machine.specs.State.{IsValid, State}
 use Rattle.mt_machine.specs.Step.{asker}
-use Rattle.mt_history.specs.Asking as asked_of
-use Rattle.mt_history.specs.Isolation.{veiled_history}
-use Rattle.mt_history.specs.Laws as histories
+use Rattle.mt_ledger.specs.history.Asking as asked_of
+use Rattle.mt_ledger.specs.history.Isolation.{veiled_history}
+use Rattle.mt_ledger.specs.history.Laws as histories
 use Rattle.mt_ledger.specs.Asking.{full_line_reply, full_reply, line_response, line_wish, with_wish}
 use Rattle.mt_ledger.specs.Isolation.{veiled_ledger}
 use Rattle.mt_ledger.specs.Ledger.{IsLedger, Ledger}
@@ -24,13 +24,13 @@ use Rattle.mt_ledger.specs.Subscribing.{response_to, wish_asked, wish_in_time}
 use Rattle.mt_ledger.proofs.Behind.{veiled_subs}
 use Rattle.mt_ledger.proofs.Wishes.{reply_same}
 
-module _ (sees : laws.SeesTheVeil) (keeps_own : laws.KeepsItsOwnPart) (keeps_events : histories.KeepsItsEvents) (keeps_recent : histories.KeepsTheRecent) (first : length first_ids ≡ 256) where
+module _ (sees : laws.SeesTheVeil) (keeps_own : laws.KeepsItsOwnPart) (keeps_events : histories.KeepsItsEvents) (keeps_recent : histories.KeepsRecentEvents) (first : length first_ids ≡ 256) where
   -- a wish in time is answered the same, and all else is as it was
   in_time_same : (s : NodeState) (l : Ledger) → IsValid s → IsLedger s l → (asking : Actor) (deadline : Option ℕ) (now : ℕ) (request : Request) (reply other : Reply) → other ≡ reply
       → with_wish (veil asking.fabric s) (veiled_ledger asking.fabric l) (wish_in_time asking deadline now request) other ≡ with_wish s l (wish_in_time asking deadline now request) reply
   in_time_same s l valid is = reply_same sees keeps_own keeps_events keeps_recent s l valid is (veiled_subs first s l is)
 
-  pub action_replied : histories.RepliesOnTheVeil → (given : Given) (s : NodeState) (l : Ledger) (actor asking : Actor) (request : Request) (deadline : Option ℕ) (now : ℕ) → IsValid s → IsLedger s l
+  pub action_replied : histories.RepliesWithEventsOnTheVeil → (given : Environment) (s : NodeState) (l : Ledger) (actor asking : Actor) (request : Request) (deadline : Option ℕ) (now : ℕ) → IsValid s → IsLedger s l
       → asker s actor ≡ Some asking → asker (veil asking.fabric s) actor ≡ Some asking
       → full_reply given (veil asking.fabric s) (veiled_ledger asking.fabric l) (Ask actor request deadline) now ≡ full_reply given s l (Ask actor request deadline) now
   action_replied replied given s l actor asking request deadline now valid is on_state on_veil =
@@ -51,7 +51,7 @@ module _ (sees : laws.SeesTheVeil) (keeps_own : laws.KeepsItsOwnPart) (keeps_eve
       ∙ in_time_same s.node l valid is asking (deadline_of asking s.deadlines) now request reply other same
   line_wish_same deadlines s l valid is asking now (Err fault) reply other same = same
 
-  pub line_replied : laws.DeadlinesOnTheVeil → histories.LineRepliesOnTheVeil → (given : Given) (s : State) (l : Ledger) (actor asking : Actor) (now : ℕ) (asked : Result Request ImFault) → IsValid s.node → IsLedger s.node l
+  pub line_replied : laws.DeadlinesOnTheVeil → histories.LineRepliesWithEventsOnTheVeil → (given : Environment) (s : State) (l : Ledger) (actor asking : Actor) (now : ℕ) (asked : Result Request ImFault) → IsValid s.node → IsLedger s.node l
       → asker s.node actor ≡ Some asking → asker (veil asking.fabric s.node) actor ≡ Some asking
       → full_line_reply given (veil_of_whole asking.fabric s) (veiled_ledger asking.fabric l) actor asking now asked ≡ full_line_reply given s l actor asking now asked
   line_replied deadlines replied given s l actor asking now asked valid is on_state on_veil =

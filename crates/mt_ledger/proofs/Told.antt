@@ -23,9 +23,9 @@ use Rattle.mt_subs.specs.declared.subscription.Subscription.{Subscription}
 use Rattle.mt_machine.specs.Isolation.{Own, veil}
 use Rattle.mt_machine.specs.Laws as laws
 use Rattle.mt_machine.specs.State.{IsValid}
-use Rattle.mt_history.specs.History.{History, IsHistory}
-use Rattle.mt_history.specs.Isolation.{Recent, veiled_history}
-use Rattle.mt_history.specs.Laws as histories
+use Rattle.mt_ledger.specs.history.History.{History, IsHistory}
+use Rattle.mt_ledger.specs.history.Isolation.{Recent, veiled_history}
+use Rattle.mt_ledger.specs.history.Laws as histories
 use Rattle.mt_ledger.specs.Isolation.{veiled_ledger}
 use Rattle.mt_ledger.specs.Ledger.{Ledger}
 use Rattle.mt_ledger.specs.Reporting.{Due, due_events, due_kept, due_now, due_report, has_unreported, subscriber, with_places}
@@ -49,7 +49,7 @@ with_entries entries actor minimum paths = record { entries = entries; actor = a
 pub found_same : (fabric id : ℕ) (l : Ledger) → kept_at fabric id (veiled_ledger fabric l).subs ≡ kept_at fabric id l.subs
 found_same fabric id l = ap (λ (found : Option Subscription). option_map (λ (x : Subscription). x.kept) found) (kept_of_own fabric id l.subs.subscriptions)
 
-module _ (sees : laws.SeesTheVeil) (keeps_own : laws.KeepsItsOwnPart) (keeps_events : histories.KeepsItsEvents) (keeps_recent : histories.KeepsTheRecent) (s : NodeState) (h : History) (valid : IsValid s) (is : IsHistory h) where
+module _ (sees : laws.SeesTheVeil) (keeps_own : laws.KeepsItsOwnPart) (keeps_events : histories.KeepsItsEvents) (keeps_recent : histories.KeepsRecentEvents) (s : NodeState) (h : History) (valid : IsValid s) (is : IsHistory h) where
   entries_same : (fabric : ℕ) → own_entries fabric (veil fabric s).entries ≡ own_entries fabric s.entries
   entries_same fabric = ap (λ (o : Own). o.entries) (keeps_own fabric s valid)
 
@@ -84,7 +84,7 @@ module _ (sees : laws.SeesTheVeil) (keeps_own : laws.KeepsItsOwnPart) (keeps_eve
       λ i. replies.Report (Some id) (attributes_same (subscriber fabric due.kept) (map path_of due.places) due.kept.sub.filtered [] i ++ due_events_same fabric due.kept i) false
 
 -- a subscription is due on the veil where it is
-pub due_same : laws.SeesTheVeil → laws.KeepsItsOwnPart → histories.KeepsItsEvents → histories.KeepsTheRecent → (fabric id now : ℕ) (s : NodeState) (l : Ledger) → IsValid s → IsHistory l.history
+pub due_same : laws.SeesTheVeil → laws.KeepsItsOwnPart → histories.KeepsItsEvents → histories.KeepsRecentEvents → (fabric id now : ℕ) (s : NodeState) (l : Ledger) → IsValid s → IsHistory l.history
     → due_now (veil fabric s) (veiled_ledger fabric l) now fabric id ≡ due_now s l now fabric id
 due_same sees keeps_own keeps_events keeps_recent fabric id now s l valid is =
     ap (λ (kept : Option Kept). due_kept (veil fabric s) (veiled_history fabric l.history) now fabric kept) (found_same fabric id l)

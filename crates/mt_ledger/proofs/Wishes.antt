@@ -18,7 +18,7 @@ use Rattle.mt_machine.specs.Laws as laws
 use Rattle.mt_machine.specs.Lines.{action_of}
 use Rattle.mt_machine.specs.State.{IsValid}
 use Rattle.mt_machine.specs.Step.{asker, is_late, refusal}
-use Rattle.mt_history.specs.Laws as histories
+use Rattle.mt_ledger.specs.history.Laws as histories
 use Rattle.mt_ledger.specs.Asking.{with_wish}
 use Rattle.mt_ledger.specs.Isolation.{veiled_ledger}
 use Rattle.mt_ledger.specs.Ledger.{IsLedger, Ledger}
@@ -68,7 +68,7 @@ reply_with wish full id items =
     else if full then refusal (code_of ResourceExhausted)
     else replies.Report (Some id) items false
 
-module _ (sees : laws.SeesTheVeil) (keeps_own : laws.KeepsItsOwnPart) (keeps_events : histories.KeepsItsEvents) (keeps_recent : histories.KeepsTheRecent) (s : NodeState) (l : Ledger) (valid : IsValid s) (is : IsLedger s l)
+module _ (sees : laws.SeesTheVeil) (keeps_own : laws.KeepsItsOwnPart) (keeps_events : histories.KeepsItsEvents) (keeps_recent : histories.KeepsRecentEvents) (s : NodeState) (l : Ledger) (valid : IsValid s) (is : IsLedger s l)
     (alike : (fabric : ℕ) → Alike fabric (veiled_ledger fabric l).subs l.subs) where
   wish_same : (wish : Wish) → wish_reply (veil wish.sub.actor.fabric s) (veiled_ledger wish.sub.actor.fabric l) wish ≡ wish_reply s l wish
   wish_same wish =

@@ -4,7 +4,7 @@ use Rattle.mt_model.specs.declared.messages.message.Happened.{Happened}
 use Rattle.mt_subs.specs.Subscriptions.{first_ids, is_of, next_id}
 use Rattle.mt_subs.specs.declared.subscription.SubState.{SubState}
 use Rattle.mt_subs.specs.declared.subscription.Subscription.{Subscription}
-use Rattle.mt_history.specs.Isolation.{Recent, own_events, recent, seen_history}
+use Rattle.mt_ledger.specs.history.Isolation.{Recent, own_events, recent, seen_history}
 use Rattle.mt_ledger.specs.Ledger.{Ledger}
 
 -- the events that are private to it, its subscriptions, and the id of its next one

@@ -5,8 +5,8 @@ use Rattle.mt_model.specs.declared.node.state.NodeState.{NodeState}
 use Rattle.mt_subs.specs.Leaving.{stands_in}
 use Rattle.mt_subs.specs.Subscriptions.{IsSubs, none}
 use Rattle.mt_subs.specs.declared.subscription.SubState.{SubState}
-use Rattle.mt_history.specs.History as histories
-use Rattle.mt_history.specs.History.{History, IsHistory}
+use Rattle.mt_ledger.specs.history.History as histories
+use Rattle.mt_ledger.specs.history.History.{History, IsHistory}
 
 pub record Ledger : Type 0 where
   pub history : History

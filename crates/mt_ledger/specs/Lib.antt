@@ -5,3 +5,4 @@ pub mod Laws
 pub mod Ledger
 pub mod Reporting
 pub mod Subscribing
+pub mod history

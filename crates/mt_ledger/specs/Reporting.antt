@@ -15,7 +15,7 @@ use Rattle.mt_subs.specs.Owed.{due_of}
 use Rattle.mt_subs.specs.Subscriptions.{changed, kept_at, reported}
 use Rattle.mt_subs.specs.declared.subscription.Kept.{Kept}
 use Rattle.mt_subs.specs.declared.subscription.SubState.{SubState}
-use Rattle.mt_history.specs.History.{History}
+use Rattle.mt_ledger.specs.history.History.{History}
 use Rattle.mt_ledger.specs.Ledger.{Ledger}
 use Rattle.mt_ledger.specs.Subscribing.{at_once, attributes_for, last_told}
 

@@ -27,7 +27,7 @@ use Rattle.mt_subs.specs.declared.subscription.Sub.{Sub}
 use Rattle.mt_subs.specs.declared.subscription.SubState.{SubState}
 use Rattle.mt_machine.specs.Observation.{observation}
 use Rattle.mt_machine.specs.Step.{asker, is_late, refusal}
-use Rattle.mt_history.specs.History.{History}
+use Rattle.mt_ledger.specs.history.History.{History}
 use Rattle.mt_ledger.specs.Ledger.{Ledger}
 
 -- What is wished for, by whoever is taken as asking.

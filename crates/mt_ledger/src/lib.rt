@@ -1,7 +1,9 @@
 //! What the node remembers beside its state, over the written machine: the events that happened, and who has subscribed to
 //! what. Here stands what a subscription is answered, what a report step tells, what confirms and ends a subscription, and
-//! whose all of it is. The events by themselves are those of mt_history, the subscriptions those of mt_subs. The definitions
+//! whose all of it is. The rings of events are those of mt_events, the subscriptions those of mt_subs. The definitions
 //! stand in `specs/`, a chapter a file; the functions here do nothing, and their contracts are the laws.
+//!
+//! - `history`: the events by themselves: which there are behind an action, what is answered of them, whose they are;
 //!
 //! - `Ledger`: the events and the subscriptions;
 //! - `Subscribing`: what a SubscribeRequest is answered, and the subscriptions behind it;
@@ -12,9 +14,11 @@
 //! - `Laws`: the laws.
 #![tactic(auto)]
 
+mod history;
+
 ghost use Rattle.mt_ledger.specs.Laws.{ConfirmsAside, ConfirmsOnTheVeil, DueOnTheVeil, EndsAside, EndsOnTheVeil, FindsItsOwn, KeepsItsLedger, KeepsOthersLedgers, KeepsTheRecent, LeavesItsLedgerOnTheVeil, LineRepliesOnTheVeil, NobodyChangesIt, OpensLedger, RepliesOnTheVeil, ReportedOnTheVeil, ReportsAside, ReportsOnTheVeil, RespondsOnTheVeil, StaysLedger, TicksLeaveLedgersOnTheVeil, TicksSpareLedgers, TimeChangesNothing};
 
-use mt_history::{
+use crate::history::{
     events_are_left_on_the_veil, histories_stay_histories, others_events_are_kept,
     replies_are_the_same_on_the_veil, veils_keep_events,
 };
@@ -23,6 +27,10 @@ use mt_machine::{
     ticks_let_the_failsafe_expire, veil_keeps_both_parts, what_is_asked_is_the_same_on_the_veil,
 };
 use mt_subs::valid_subscriptions_stay_valid;
+
+pub use history::{
+    events_are_left_on_the_veil, histories_grow_by_events, histories_stay_histories, others_events_are_kept, replies_are_the_same_on_the_veil, veils_keep_events,
+};
 
 /// The ledger of a new node is one, and whatever is done leaves it so: subscriptions keep their rules, and whoever has
 /// subscribed is there.

@@ -46,7 +46,7 @@ use Rattle.mt_opcreds.specs.Moves.{IsMove, StepsAreMoves}
 use Rattle.mt_subs.specs.Changes.{IsChanges, newest_of, noted}
 use Rattle.mt_machine.specs.Changes.{differing}
 use Rattle.mt_machine.specs.Commands.{command_effect, nobodys_rows}
-use Rattle.mt_machine.specs.Given.{Given}
+use Rattle.mt_machine.specs.Environment.{Environment}
 use Rattle.mt_machine.specs.Effects.{after, after_all}
 use Rattle.mt_machine.specs.Observation.{observation}
 use Rattle.mt_machine.specs.Rollback.{is_due}
@@ -325,7 +325,7 @@ fitting_taken asker (step ∷ steps) s fit =
 -- What holds of the steps of each request in a valid state: they set values, the asker's own or nobody's, and fit; or they are those of a
 -- command of commissioning.
 module _ (own : TouchesItsOwn) (sound : LeavesSound) (nobody : NobodySetsScoped) (sound_steps : StepsAreSound) (first_steps : StepsStandFirst) (well : StepsAreWellFormed) (fit : StepsFit) (moves : StepsAreMoves)
-    (given : Given) (keeps : KeepsRules given.judged) where
+    (given : Environment) (keeps : KeepsRules given.judged) where
   module _ (s : NodeState) (valid : IsValid s) (actor : Actor) (P : List NodeStep → Type 0) (none : P [])
       (setting : (steps : List NodeStep) → list_all (is_own_step actor) steps ≡ true → list_all (fits s.fabrics) steps ≡ true → P steps)
       (commissioning : (steps : List NodeStep) → list_all (commission_laws.is_sound_step (map bare_network s.networks) (option_map bare_armed s.armed) actor.fabric) steps ≡ true → commission_laws.sets_values_behind steps ≡ true → P steps)

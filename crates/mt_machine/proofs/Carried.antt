@@ -21,7 +21,7 @@ use Rattle.mt_commission.specs.Commands as commission
 use Rattle.mt_invoke.specs.Checking.{checked, has_form, if_found, may_invoke}
 use Rattle.mt_opcreds.specs.Commands as credentials
 use Rattle.mt_machine.specs.Commands.{carried_out, command_effect, is_commissioning, nobodys_rows, unless_refused}
-use Rattle.mt_machine.specs.Given.{Given}
+use Rattle.mt_machine.specs.Environment.{Environment}
 
 -- A command that may be carried out is there.
 
@@ -39,7 +39,7 @@ form_at : (fields : Value) (leaf cluster : ℕ) → 0x3e ≡ cluster → has_fie
 unfolding command_fields
 form_at fields leaf cluster is form = subst (λ n. has_fields (command_fields n leaf) (tree fields) ≡ true) (sym is) form
 
-module _ (given : Given) (o : Observation) (actor : Actor) (command : Place) (fields : Value) (P : List NodeStep → Type 0) (none : P [])
+module _ (given : Environment) (o : Observation) (actor : Actor) (command : Place) (fields : Value) (P : List NodeStep → Type 0) (none : P [])
     (of_credentials : has_fields (operational_credentials.command_fields command.leaf) (tree fields) ≡ true → P (credentials.invoked given.judged o.known actor command fields).steps)
     (of_commission : has_fields (command_fields command.cluster command.leaf) (tree fields) ≡ true → P (commission.invoked o.known given.reachable actor command fields).steps)
     (of_others : (meta : CommandMeta) → find_command_of command ≡ Ok meta → P (invoked (nobodys_rows o) actor command).steps)

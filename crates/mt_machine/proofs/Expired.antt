@@ -15,7 +15,7 @@ use Rattle.mt_model.specs.declared.rows.place.Place.{Place}
 use Rattle.mt_model.specs.declared.rows.place.Row.{Row}
 use Rattle.mt_model.specs.declared.tables.access.AclEntry.{AclEntry}
 use Rattle.mt_model.specs.declared.tables.network.Armed.{Armed}
-use Rattle.mt_machine.specs.Given.{Given}
+use Rattle.mt_machine.specs.Environment.{Environment}
 use Rattle.mt_machine.specs.Changes.{settled}
 use Rattle.mt_machine.specs.Isolation.{is_deadline_in, own_of_whole}
 use Rattle.mt_machine.specs.Lines.{next_tick}
@@ -79,10 +79,10 @@ ticked s ms due = record {
   deadlines = if due then deadlines_left s.node.armed s.deadlines else s.deadlines;
 }
 
-pub rolls : (given : Given) (s : State) (ms : ℕ) → is_due s.node.armed ms ≡ true → next_tick given s ms ≡ record { node = settled (at_time ms s.node) (rollback (at_time ms s.node)); deadlines = deadlines_left s.node.armed s.deadlines }
+pub rolls : (given : Environment) (s : State) (ms : ℕ) → is_due s.node.armed ms ≡ true → next_tick given s ms ≡ record { node = settled (at_time ms s.node) (rollback (at_time ms s.node)); deadlines = deadlines_left s.node.armed s.deadlines }
 rolls given s ms due = ap (ticked s ms) due
 
-pub passes : ((t : NodeState) → settled t t ≡ t) → (given : Given) (s : State) (ms : ℕ) → is_due s.node.armed ms ≡ false → next_tick given s ms ≡ record s { node = at_time ms s.node }
+pub passes : ((t : NodeState) → settled t t ≡ t) → (given : Environment) (s : State) (ms : ℕ) → is_due s.node.armed ms ≡ false → next_tick given s ms ≡ record s { node = at_time ms s.node }
 passes same given s ms due = ap (ticked s ms) due ∙ ap (λ (t : NodeState). record s { node = t }) (same (at_time ms s.node))
 
 -- What leaves the table is the fabric that was added.
@@ -151,7 +151,7 @@ gone_where : (s : NodeState) (now : ℕ) (due : Bool) → keeps_facts s.fabrics 
 gone_where s now true facts = gone_rolled s.armed (at_time now s) facts
 gone_where s now false facts = gone_none s.fabrics
 
-pub gone_by_expiry : (given : Given) (s : NodeState) (now : ℕ) → IsValid s → (aside_of given s Expire now).gone ≡ (if is_due s.armed now then added_in s.armed else None)
+pub gone_by_expiry : (given : Environment) (s : NodeState) (now : ℕ) → IsValid s → (aside_of given s Expire now).gone ≡ (if is_due s.armed now then added_in s.armed else None)
 gone_by_expiry given s now valid = gone_where s now (is_due s.armed now) valid.failsafe_facts
 
 module _
@@ -169,5 +169,5 @@ module _
   }
   ticked_own s ms false valid some not_added not_updated = refl
 
-  pub ticks_spare : (given : Given) (s : State) (ms : ℕ) → IsValid s.node → fabric ≢ 0 → was_added fabric s.node.armed ≡ false → was_updated fabric s.node.armed ≡ false → own_of_whole fabric (next_tick given s ms) ≡ own_of_whole fabric s
+  pub ticks_spare : (given : Environment) (s : State) (ms : ℕ) → IsValid s.node → fabric ≢ 0 → was_added fabric s.node.armed ≡ false → was_updated fabric s.node.armed ≡ false → own_of_whole fabric (next_tick given s ms) ≡ own_of_whole fabric s
   ticks_spare given s ms = ticked_own s ms (is_due s.node.armed ms)

@@ -28,7 +28,7 @@ use Rattle.mt_machine.specs.Commands.{command_effect}
 use Rattle.mt_machine.specs.Effects.{after, is_setting_step, sets_values}
 use Rattle.mt_machine.specs.State.{is_among}
 use Rattle.mt_machine.specs.Step.{is_untimely, steps_to, with_events}
-use Rattle.mt_machine.specs.Given.{Given}
+use Rattle.mt_machine.specs.Environment.{Environment}
 use Rattle.mt_machine.proofs.Commands.{own_events}
 use Rattle.mt_machine.proofs.Steps.{is_step_of}
 use Rattle.mt_machine.proofs.Writes.{all-weaker}
@@ -42,7 +42,7 @@ in_time P false steps none all = all
 
 -- what holds of the steps of writes, with their events, and of those of commands holds of those of each request: of those that are
 -- built these alone make any
-pub requested : (given : Given) (P : List NodeStep → Type 0) (o : Observation) (asking : Actor) (stood : Bool) (request : Request) → P []
+pub requested : (given : Environment) (P : List NodeStep → Type 0) (o : Observation) (asking : Actor) (stood : Bool) (request : Request) → P []
     → ((items : List WriteItem) (timed : Bool) → P (with_events o asking (write_answer o.seen asking items timed).rows))
     → ((timed : Bool) (command : Place) (fields : Value) → P (command_effect given o asking timed command fields).steps)
     → P (steps_to given o asking stood request)

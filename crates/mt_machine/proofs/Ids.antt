@@ -13,7 +13,7 @@ use Rattle.mt_model.specs.declared.tables.network.Armed.{Armed}
 use Rattle.mt_fabrics.specs.Table.{label_refusal, least_unused}
 use Rattle.std.specs.Prelude.{is_none}
 use Rattle.mt_machine.specs.Effects.{after, after_all, completed, joined_as, may_join, may_leave, may_update, session_completed, session_joined, session_without}
-use Rattle.mt_machine.specs.Given.{Given}
+use Rattle.mt_machine.specs.Environment.{Environment}
 use Rattle.mt_machine.specs.Rollback.{ends, rolled_back, session_behind}
 use Rattle.mt_subs.specs.Leaving.{is_live_as}
 use Rattle.mt_machine.specs.Step.{after_action, asker_of, at_time, steps_of}
@@ -68,5 +68,5 @@ by_steps : (asker : Option Actor) (steps : List NodeStep) (s : NodeState) → id
 by_steps asker [] s = refl
 by_steps asker (step ∷ steps) s = by_steps asker steps (after asker step s) ∙ by_step asker step s
 
-pub ids_kept : (given : Given) (s : NodeState) (action : Action) (now : ℕ) → ids_of (after_action given s action now).sessions ≡ ids_of s.sessions
+pub ids_kept : (given : Environment) (s : NodeState) (action : Action) (now : ℕ) → ids_of (after_action given s action now).sessions ≡ ids_of s.sessions
 ids_kept given s action now = by_steps (asker_of s action) (steps_of given s action now) (at_time now s)

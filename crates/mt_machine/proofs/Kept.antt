@@ -27,7 +27,7 @@ use Rattle.mt_opcreds.specs.Laws.{KeepsRules, StepsAreWellFormed, StepsFit}
 use Rattle.mt_opcreds.specs.Moves.{StepsAreMoves}
 use Rattle.mt_write.specs.Laws.{LeavesSound, NobodySetsScoped, TouchesItsOwn}
 use Rattle.mt_machine.specs.Effects.{after, after_all}
-use Rattle.mt_machine.specs.Given.{Given}
+use Rattle.mt_machine.specs.Environment.{Environment}
 use Rattle.mt_machine.specs.Isolation as isolation
 use Rattle.mt_machine.specs.Isolation.{own_of_whole}
 use Rattle.mt_machine.specs.Laws.{RemovalsSeeTheVeil, StepsSeeTheVeil}
@@ -68,7 +68,7 @@ module _ (touches : TouchesItsOwn) (sound : LeavesSound) (nobody : NobodySetsSco
       (least : (fabrics : List Fabric) → IsTable fabrics → IsLeastUnused (least_unused fabrics) fabrics)
       (still : (asker : Option Actor) (step : NodeStep) (s : NodeState) → IsValid s → may_take s step ≡ true → IsValid (after asker step s))
     where
-      steps_kept : (given : Given) → KeepsRules given.judged → (s : NodeState) → IsValid s → (asking : Actor) (fabric : ℕ) → (asking.fabric == fabric) ≡ false → is_known s.fabrics (Some asking) ≡ true → is_asker (Some asking) ≡ true
+      steps_kept : (given : Environment) → KeepsRules given.judged → (s : NodeState) → IsValid s → (asking : Actor) (fabric : ℕ) → (asking.fabric == fabric) ≡ false → is_known s.fabrics (Some asking) ≡ true → is_asker (Some asking) ≡ true
           → (request : Request) (deadline : Option ℕ) (ms : ℕ)
           → StaysThere fabric (at_time ms s) (after_all (Some asking) (asked_steps given s request deadline ms (Some asking)) (at_time ms s))
           → isolation.own fabric (after_all (Some asking) (asked_steps given s request deadline ms (Some asking)) (at_time ms s)) ≡ isolation.own fabric (at_time ms s)
@@ -86,7 +86,7 @@ module _ (touches : TouchesItsOwn) (sound : LeavesSound) (nobody : NobodySetsSco
           moved_kept fabric asking.fabric apart rows_stay entries_stay rows_ascend rows_apart entries_ascend entries_apart least still t its (Some asking) steps good fit_all move)
           known asks request deadline ms
 
-      action_kept : (given : Given) → KeepsRules given.judged → (s : NodeState) → IsValid s → (fabric : ℕ) (actor asking : Actor) (request : Request) (deadline : Option ℕ) (ms : ℕ) → asker s actor ≡ Some asking → (asking.fabric == fabric) ≡ false
+      action_kept : (given : Environment) → KeepsRules given.judged → (s : NodeState) → IsValid s → (fabric : ℕ) (actor asking : Actor) (request : Request) (deadline : Option ℕ) (ms : ℕ) → asker s actor ≡ Some asking → (asking.fabric == fabric) ≡ false
           → StaysThere fabric s (after_action given s (actions.Ask actor request deadline) ms) → isolation.own fabric (after_action given s (actions.Ask actor request deadline) ms) ≡ isolation.own fabric s
       action_kept given keeps s valid fabric actor asking request deadline ms is apart there =
           let behind : Option Actor → NodeState = λ (o : Option Actor). after_all o (asked_steps given s request deadline ms o) (at_time ms s) in
@@ -98,12 +98,12 @@ module _ (touches : TouchesItsOwn) (sound : LeavesSound) (nobody : NobodySetsSco
             nobody = λ zero. ap (λ (o : Option Actor). (behind o).armed) (sym is) ∙ there.nobody zero;
           })
 
-      pub keeps_own : (given : Given) (fabric : ℕ) (s : State) (e : Event) → KeepsRules given.judged → IsValid s.node → is_tick e ≡ false → fabric ≢ fabric_of s.node e → StaysThere fabric s.node (next given s e).node
+      pub keeps_own : (given : Environment) (fabric : ℕ) (s : State) (e : Event) → KeepsRules given.judged → IsValid s.node → is_tick e ≡ false → fabric ≢ fabric_of s.node e → StaysThere fabric s.node (next given s e).node
           → own_of_whole fabric (next given s e) ≡ own_of_whole fabric s
       keeps_own given fabric s e keeps valid no_tick differ there =
           veiled.keeps_own given fabric s valid (λ actor asking request deadline ms is apart. action_kept given keeps s.node valid fabric actor asking request deadline ms is apart) e no_tick differ there
 
-      pub action_keeps_own : (given : Given) (fabric : ℕ) (s : State) (actor asking : Actor) (asked : Result Request ImFault) (deadline : Option ℕ) (ms : ℕ) → KeepsRules given.judged → IsValid s.node → asker s.node actor ≡ Some asking → fabric ≢ asking.fabric
+      pub action_keeps_own : (given : Environment) (fabric : ℕ) (s : State) (actor asking : Actor) (asked : Result Request ImFault) (deadline : Option ℕ) (ms : ℕ) → KeepsRules given.judged → IsValid s.node → asker s.node actor ≡ Some asking → fabric ≢ asking.fabric
           → StaysThere fabric s.node (behind_action given s (action_of actor deadline asked) ms).node → own_of_whole fabric (behind_action given s (action_of actor deadline asked) ms) ≡ own_of_whole fabric s
       action_keeps_own given fabric s actor asking asked deadline ms keeps valid is differ there =
           veiled.kept_behind given fabric s valid (λ actor asking request deadline ms is apart. action_kept given keeps s.node valid fabric actor asking request deadline ms is apart) actor asking asked deadline ms is differ there
@@ -111,7 +111,7 @@ module _ (touches : TouchesItsOwn) (sound : LeavesSound) (nobody : NobodySetsSco
   -- The asker's own part, on its veil.
 
   pub alike_on : ((place : Place) → is_stored_place place ≡ (is_stored place && is_ok (find_of place))) → StepsSeeTheVeil → RemovalsSeeTheVeil → ((fabrics : List Fabric) → IsTable fabrics → IsLeastUnused (least_unused fabrics) fabrics)
-      → (given : Given) → KeepsRules given.judged → (s : NodeState) → IsValid s → veiled.AlikeOn given s
+      → (given : Environment) → KeepsRules given.judged → (s : NodeState) → IsValid s → veiled.AlikeOn given s
   alike_on kept each removal least given keeps s valid actor asking request deadline ms is =
       let t = at_time ms s in
       let its = timed_valid s ms valid in

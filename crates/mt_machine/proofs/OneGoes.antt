@@ -26,7 +26,7 @@ use Rattle.mt_failsafe.specs.Calls.{is_context}
 use Rattle.mt_failsafe.specs.Notes.{was_added}
 use Rattle.mt_write.specs.Laws.{LeavesSound, NobodySetsScoped, TouchesItsOwn}
 use Rattle.mt_machine.specs.Effects.{after, after_all}
-use Rattle.mt_machine.specs.Given.{Given}
+use Rattle.mt_machine.specs.Environment.{Environment}
 use Rattle.mt_machine.specs.Isolation.{saved_for, veil, with_saved}
 use Rattle.mt_machine.specs.Leaving.{has_left}
 use Rattle.mt_machine.specs.Lines.{action_of}
@@ -70,7 +70,7 @@ none_added s valid index (Some armed) is context not_added = by_added armed.adde
         impossible (sym not_it ∙ subst (λ n. (n == index) ≡ true) same context)
 
 module _ (touches : TouchesItsOwn) (sound : LeavesSound) (nobody : NobodySetsScoped) (sound_steps : StepsAreSound) (first_steps : StepsStandFirst) (well : StepsAreWellFormed) (fit : StepsFit) (moves : StepsAreMoves)
-    (kept : (place : Place) → is_stored_place place ≡ (is_stored place && is_ok (find_of place))) (given : Given) (keeps : KeepsRules given.judged) where
+    (kept : (place : Place) → is_stored_place place ≡ (is_stored place && is_ok (find_of place))) (given : Environment) (keeps : KeepsRules given.judged) where
   module _ (t : NodeState) (asking : Actor) where
     abbrev One : List NodeStep → Type 0
     One steps = LeftOne t (after_all (Some asking) steps t)

@@ -22,7 +22,7 @@ use Rattle.mt_opcreds.specs.Laws.{KeepsRules, StepsAreWellFormed, StepsFit}
 use Rattle.mt_opcreds.specs.Moves.{IsMove, StepsAreMoves, expires, expires_and_leaves, joins, leaves, names, nothing, renews, requests, trusts}
 use Rattle.mt_write.specs.Laws.{LeavesSound, NobodySetsScoped, TouchesItsOwn, is_own_step}
 use Rattle.mt_machine.specs.Effects.{events_in, is_setting_step}
-use Rattle.mt_machine.specs.Given.{Given}
+use Rattle.mt_machine.specs.Environment.{Environment}
 use Rattle.mt_machine.specs.Rollback.{is_due}
 use Rattle.mt_machine.specs.State.{IsValid, is_among}
 use Rattle.mt_machine.specs.Step.{after_steps, asked_steps, asker, asker_of, at_time, gone_between, steps_of}
@@ -84,7 +84,7 @@ moved_told known fabric actor steps (expires index context was is) = ap (list_al
 moved_told known fabric actor steps (expires_and_leaves index context was_not is) = ap (list_all (is_told_to actor)) is
 
 module _ (own : TouchesItsOwn) (sound : LeavesSound) (nobody : NobodySetsScoped) (sound_steps : StepsAreSound) (first_steps : StepsStandFirst) (well : StepsAreWellFormed) (fit : StepsFit) (moves : StepsAreMoves)
-    (given : Given) (keeps : KeepsRules given.judged) where
+    (given : Environment) (keeps : KeepsRules given.judged) where
   asked_told : (s : NodeState) (valid : IsValid s) (request : Request) (deadline : Option ℕ) (now : ℕ) (asking : Option Actor) → is_known s.fabrics asking ≡ true → is_asker asking ≡ true
       → list_all (is_told_as asking) (asked_steps given s request deadline now asking) ≡ true
   asked_told s valid request deadline now None known asks = refl

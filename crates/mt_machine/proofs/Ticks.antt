@@ -19,7 +19,7 @@ use Rattle.mt_model.specs.declared.tables.access.AclEntry.{AclEntry}
 use Rattle.mt_model.specs.declared.tables.fabric.Credentials.{Credentials}
 use Rattle.mt_model.specs.declared.tables.fabric.Fabric.{Fabric}
 use Rattle.mt_model.specs.declared.tables.network.Armed.{Armed}
-use Rattle.mt_machine.specs.Given.{Given}
+use Rattle.mt_machine.specs.Environment.{Environment}
 use Rattle.mt_subs.specs.Leaving.{is_live_as}
 use Rattle.mt_machine.specs.Isolation.{Own, is_deadline_in, own, own_of_whole, owns, saved_for, veil, veil_of_whole, with_saved}
 use Rattle.mt_machine.specs.Lines.{next_tick}
@@ -152,7 +152,7 @@ module _ (fabric : ℕ) where
   expired_alike s ms valid true = rolled_alike s.armed (at_time ms s) (at_time ms (veil fabric s)) (own-again fabric s valid.fabrics_rise)
   expired_alike s ms valid false = own-again fabric s valid.fabrics_rise
 
-  node_alike : (given : Given) (s : NodeState) (ms : ℕ) → IsValid s → own fabric (after_action given (veil fabric s) Expire ms) ≡ own fabric (after_action given s Expire ms)
+  node_alike : (given : Environment) (s : NodeState) (ms : ℕ) → IsValid s → own fabric (after_action given (veil fabric s) Expire ms) ≡ own fabric (after_action given s Expire ms)
   node_alike given s ms valid =
       ap (λ (due : Bool). own fabric (after_steps None (if due then steps.Expire ∷ [] else []) (at_time ms (veil fabric s)))) (due_alike s.armed (saved_for fabric s.armed) ms)
       ∙ expired_alike s ms valid (is_due s.armed ms)
@@ -172,7 +172,7 @@ module _ (fabric : ℕ) where
   deadlines_alike true armed saved ds = left_alike armed saved ds
   deadlines_alike false armed saved ds = twice (is_deadline_in fabric) ds
 
-  pub ticks_on_veil : (given : Given) (s : State) (ms : ℕ) → IsValid s.node → own_of_whole fabric (next_tick given (veil_of_whole fabric s) ms) ≡ own_of_whole fabric (next_tick given s ms)
+  pub ticks_on_veil : (given : Environment) (s : State) (ms : ℕ) → IsValid s.node → own_of_whole fabric (next_tick given (veil_of_whole fabric s) ms) ≡ own_of_whole fabric (next_tick given s ms)
   ticks_on_veil given s ms valid = λ i. record {
     node = node_alike given s.node ms valid i;
     deadlines = (ap (λ (due : Bool). mine_of (if due then deadlines_left (veil fabric s.node).armed (mine_of s.deadlines) else mine_of s.deadlines)) (due_alike s.node.armed (saved_for fabric s.node.armed) ms)

@@ -15,14 +15,14 @@ use Rattle.mt_model.specs.declared.node.state.NodeSession.{NodeSession}
 use Rattle.mt_model.specs.declared.node.state.NodeState.{NodeState}
 use Rattle.mt_model.specs.declared.node.state.Standing.{Standing}
 use Rattle.mt_model.specs.declared.node.state.Standing.TheVariants.{Waits, Live, Ended}
-use Rattle.mt_machine.specs.Given.{Given}
+use Rattle.mt_machine.specs.Environment.{Environment}
 use Rattle.mt_machine.specs.Effects.{after, after_all, is_setting_step}
 use Rattle.mt_machine.specs.Settings.{setting_cases}
 use Rattle.mt_machine.specs.State.{is_among}
 use Rattle.mt_machine.specs.Step.{after_action, after_steps, aside_between, asker_of, at_time, closed_between, gone_between, is_live, steps_of}
 use Rattle.mt_machine.proofs.Settled.{settled-same}
 
-pub sets_time : ((rows others : List Row) → (are_same_rows rows others ≡ true) ↔ (rows ≡ others)) → (given : Given) (s : NodeState) (action : Action) (now : ℕ) → steps_of given s action now ≡ [] → after_action given s action now ≡ record s { clock = now }
+pub sets_time : ((rows others : List Row) → (are_same_rows rows others ≡ true) ↔ (rows ≡ others)) → (given : Environment) (s : NodeState) (action : Action) (now : ℕ) → steps_of given s action now ≡ [] → after_action given s action now ≡ record s { clock = now }
 sets_time same given s action now none =
     ap (λ (steps : List NodeStep). after_steps (asker_of s action) steps (at_time now s)) none ∙ settled-same same (at_time now s)
 

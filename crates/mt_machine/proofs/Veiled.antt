@@ -15,7 +15,7 @@ use Rattle.mt_model.specs.declared.texts.recording.Event.TheVariants as events
 use Rattle.mt_model.specs.declared.messages.status.Status.TheVariants.{Busy, Timeout}
 use Rattle.mt_machine.specs.Isolation.{Own, own, own_of_whole, veil, veil_of_whole}
 use Rattle.mt_machine.specs.Lines.{action_of, behind_action, deadline_for, deadline_of, deadlines_after, deadlines_of_those_left, fabric_of, is_refused, is_tick, is_timed, line_reply, next, next_for, sent, sent_as, sent_for, sent_to}
-use Rattle.mt_machine.specs.Given.{Given}
+use Rattle.mt_machine.specs.Environment.{Environment}
 use Rattle.mt_machine.specs.Leaving.{has_left}
 use Rattle.mt_machine.specs.Touching.{StaysThere}
 use Rattle.mt_machine.specs.State.{IsValid, State, is_among, is_member}
@@ -104,7 +104,7 @@ module _ (s : NodeState) (valid : IsValid s) (P : ℕ → Actor → Type 0)
   by_line fabric node cats true = over_pase s.plain refl
   by_line fabric node cats false = over_case fabric node cats (is_member fabric s) refl
 
-module _ (given : Given) where
+module _ (given : Environment) where
   -- The steps of a request leave the same own part on the veil of whoever asks as on the state.
   abbrev pub AlikeOn : NodeState → Type 0
   AlikeOn s = (actor asking : Actor) (request : Request) (deadline : Option ℕ) (ms : ℕ) → asker s actor ≡ Some asking

@@ -13,7 +13,7 @@ use Rattle.mt_model.specs.declared.texts.config.RootRow.{RootRow}
 use Rattle.mt_model.specs.declared.texts.config.SessionRow.{SessionRow}
 use Rattle.mt_model.specs.declared.tables.fabric.Fabric.{Fabric}
 use Rattle.mt_opcreds.specs.Judged.{judged_by}
-use Rattle.mt_machine.specs.Given.{Given}
+use Rattle.mt_machine.specs.Environment.{Environment}
 
 -- a public key that is 4 and then one byte throughout
 abbrev pub public_key : ℕ → List ℕ
@@ -165,5 +165,5 @@ bench_of = record {
 }
 
 -- no certificate was judged, and no network is within reach
-abbrev pub bench_given : Given
+abbrev pub bench_given : Environment
 bench_given = record { judged = judged_by [] [] []; reachable = [] }

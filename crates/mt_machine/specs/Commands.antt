@@ -17,7 +17,7 @@ use Rattle.mt_apps.specs.Commands.{invoked}
 use Rattle.mt_commission.specs.Commands as commission
 use Rattle.mt_invoke.specs.Checking.{checked, has_form}
 use Rattle.mt_opcreds.specs.Commands as credentials
-use Rattle.mt_machine.specs.Given.{Given}
+use Rattle.mt_machine.specs.Environment.{Environment}
 
 -- the clusters by which fabrics join
 abbrev pub is_commissioning : ℕ → Bool
@@ -27,17 +27,17 @@ is_commissioning cluster = cluster == general_commissioning.cluster || (cluster 
 abbrev pub nobodys_rows : Observation → Place → List Row
 nobodys_rows o place = filter (λ (row : Row). row.fabric == 0) (o.seen.rows_at place)
 
-abbrev pub carried_out : Given → Observation → Actor → Place → Value → Effect
+abbrev pub carried_out : Environment → Observation → Actor → Place → Value → Effect
 carried_out given o actor command fields =
     if command.cluster == operational_credentials.cluster then credentials.invoked given.judged o.known actor command fields
     else if is_commissioning command.cluster then commission.invoked o.known given.reachable actor command fields
     else invoked (nobodys_rows o) actor command
 
 -- the form of the fields is asked once nothing else stands in the way
-abbrev pub unless_refused : Given → Observation → Actor → Place → Value → Result CommandMeta Status → Effect
+abbrev pub unless_refused : Environment → Observation → Actor → Place → Value → Result CommandMeta Status → Effect
 unless_refused given o actor command fields (Err status) = refused_at command status
 unless_refused given o actor command fields (Ok meta) = if has_form command fields then carried_out given o actor command fields else refused_at command InvalidCommand
 
 -- the reply to a command, and its steps, where the request was timed or was not
-abbrev pub command_effect : Given → Observation → Actor → Bool → Place → Value → Effect
+abbrev pub command_effect : Environment → Observation → Actor → Bool → Place → Value → Effect
 command_effect given o actor timed command fields = unless_refused given o actor command fields (checked o.seen actor command timed)

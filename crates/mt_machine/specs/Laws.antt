@@ -22,7 +22,7 @@ use Rattle.mt_model.specs.declared.tables.access.Actor.{Actor}
 use Rattle.mt_machine.specs.Effects.{after, after_all, events_in, is_setting_step, is_sound_step, may_update, sets_values}
 use Rattle.mt_machine.specs.Taking.{may_take, may_take_all}
 use Rattle.mt_machine.specs.Touching.{StaysThere, is_its_step, may_touch}
-use Rattle.mt_machine.specs.Given.{Given}
+use Rattle.mt_machine.specs.Environment.{Environment}
 use Rattle.mt_machine.specs.Isolation.{own, own_of_whole, public_view, veil, veil_of_whole}
 use Rattle.mt_model.specs.declared.node.action.NodeStep.TheVariants as steps
 use Rattle.mt_machine.specs.Leaving.{has_left}
@@ -60,11 +60,11 @@ HidesWhatIsSaved = (fabric : ℕ) (s : NodeState) (armed : Armed) (credentials :
 
 -- What an event sends on the veil of its fabric is what it sends on the state.
 abbrev pub SendsOnTheVeil : Type 0
-SendsOnTheVeil = (given : Given) (s : State) (e : Event) → IsValid s.node → sent given (veil_of_whole (fabric_of s.node e) s) e ≡ sent given s e
+SendsOnTheVeil = (given : Environment) (s : State) (e : Event) → IsValid s.node → sent given (veil_of_whole (fabric_of s.node e) s) e ≡ sent given s e
 
 -- What an event sends is determined by the own part of its fabric and by what is public to it.
 abbrev pub SeesItsViewAlone : Type 0
-SeesItsViewAlone = (given : Given) (s t : State) (e : Event) → IsValid s.node → IsValid t.node
+SeesItsViewAlone = (given : Environment) (s t : State) (e : Event) → IsValid s.node → IsValid t.node
     → fabric_of s.node e ≡ fabric_of t.node e
     → own_of_whole (fabric_of s.node e) s ≡ own_of_whole (fabric_of t.node e) t
     → public_view (fabric_of s.node e) s.node ≡ public_view (fabric_of t.node e) t.node
@@ -72,7 +72,7 @@ SeesItsViewAlone = (given : Given) (s t : State) (e : Event) → IsValid s.node 
 
 -- And so is the own part that an event leaves to its fabric.
 abbrev pub LeavesItsOwnByItsView : Type 0
-LeavesItsOwnByItsView = (given : Given) (s t : State) (e : Event) → KeepsRules given.judged → IsValid s.node → IsValid t.node
+LeavesItsOwnByItsView = (given : Environment) (s t : State) (e : Event) → KeepsRules given.judged → IsValid s.node → IsValid t.node
     → fabric_of s.node e ≡ fabric_of t.node e
     → own_of_whole (fabric_of s.node e) s ≡ own_of_whole (fabric_of t.node e) t
     → public_view (fabric_of s.node e) s.node ≡ public_view (fabric_of t.node e) t.node
@@ -80,63 +80,63 @@ LeavesItsOwnByItsView = (given : Given) (s t : State) (e : Event) → KeepsRules
 
 -- On the veil of its fabric an event leaves the same own part as on the state.
 abbrev pub LeavesTheOwnOnTheVeil : Type 0
-LeavesTheOwnOnTheVeil = (given : Given) (s : State) (e : Event) → KeepsRules given.judged → IsValid s.node
+LeavesTheOwnOnTheVeil = (given : Environment) (s : State) (e : Event) → KeepsRules given.judged → IsValid s.node
     → own_of_whole (fabric_of s.node e) (next given (veil_of_whole (fabric_of s.node e) s) e) ≡ own_of_whole (fabric_of s.node e) (next given s e)
 
 -- What an actor asks leaves on the veil of its fabric the same own part as on the state, where it is taken as the same one on both.
 abbrev pub ActionsLeaveTheOwnOnTheVeil : Type 0
-ActionsLeaveTheOwnOnTheVeil = (given : Given) (s : State) (actor asking : Actor) (asked : Result Request ImFault) (deadline : Option ℕ) (ms : ℕ) → KeepsRules given.judged → IsValid s.node
+ActionsLeaveTheOwnOnTheVeil = (given : Environment) (s : State) (actor asking : Actor) (asked : Result Request ImFault) (deadline : Option ℕ) (ms : ℕ) → KeepsRules given.judged → IsValid s.node
     → asker s.node actor ≡ Some asking → asker (veil asking.fabric s.node) actor ≡ Some asking
     → own_of_whole asking.fabric (behind_action given (veil_of_whole asking.fabric s) (action_of actor deadline asked) ms) ≡ own_of_whole asking.fabric (behind_action given s (action_of actor deadline asked) ms)
 
 -- It changes nothing that is the own of another fabric, unless that enters the table or leaves it.
 abbrev pub ActionsKeepTheOwn : Type 0
-ActionsKeepTheOwn = (given : Given) (fabric : ℕ) (s : State) (actor asking : Actor) (asked : Result Request ImFault) (deadline : Option ℕ) (ms : ℕ) → KeepsRules given.judged → IsValid s.node
+ActionsKeepTheOwn = (given : Environment) (fabric : ℕ) (s : State) (actor asking : Actor) (asked : Result Request ImFault) (deadline : Option ℕ) (ms : ℕ) → KeepsRules given.judged → IsValid s.node
     → asker s.node actor ≡ Some asking → fabric ≢ asking.fabric
     → StaysThere fabric s.node (behind_action given s (action_of actor deadline asked) ms).node
     → own_of_whole fabric (behind_action given s (action_of actor deadline asked) ms) ≡ own_of_whole fabric s
 
 -- Where time alone passes every own part stays.
 abbrev pub TimeKeepsTheOwn : Type 0
-TimeKeepsTheOwn = (given : Given) (fabric : ℕ) (s : State) (ms : ℕ) → own_of_whole fabric (behind_action given s Nothing ms) ≡ own_of_whole fabric s
+TimeKeepsTheOwn = (given : Environment) (fabric : ℕ) (s : State) (ms : ℕ) → own_of_whole fabric (behind_action given s Nothing ms) ≡ own_of_whole fabric s
 
 -- No action takes a session from its place or gives it another id.
 abbrev pub SessionsKeepTheirIds : Type 0
-SessionsKeepTheirIds = (given : Given) (s : NodeState) (action : Action) (now : ℕ)
+SessionsKeepTheirIds = (given : Environment) (s : NodeState) (action : Action) (now : ℕ)
     → map (λ (session : NodeSession). session.session) (after_action given s action now).sessions ≡ map (λ (session : NodeSession). session.session) s.sessions
 
 -- An event changes nothing that is the own of another fabric, unless that enters the table or leaves it. (A time step is nobody's event:
 -- the next laws say what it changes.)
 abbrev pub KeepsTheOwn : Type 0
-KeepsTheOwn = (given : Given) (fabric : ℕ) (s : State) (e : Event) → KeepsRules given.judged → IsValid s.node → is_tick e ≡ false → fabric ≢ fabric_of s.node e
+KeepsTheOwn = (given : Environment) (fabric : ℕ) (s : State) (e : Event) → KeepsRules given.judged → IsValid s.node → is_tick e ≡ false → fabric ≢ fabric_of s.node e
     → StaysThere fabric s.node (next given s e).node
     → own_of_whole fabric (next given s e) ≡ own_of_whole fabric s
 
 -- A time step lets the fail-safe expire exactly where it is armed and the time of its end has come. Then the state is the rollback of the
 -- state before, at that time, with the versions and change numbers that follow; otherwise the time alone is new.
 abbrev pub ExpiresWhereDue : Type 0
-ExpiresWhereDue = (given : Given) (s : State) (ms : ℕ) → is_due s.node.armed ms ≡ true
+ExpiresWhereDue = (given : Environment) (s : State) (ms : ℕ) → is_due s.node.armed ms ≡ true
     → next given s (Tick ms) ≡ record { node = settled (at_time ms s.node) (rollback (at_time ms s.node)); deadlines = deadlines_left s.node.armed s.deadlines }
 
 abbrev pub PassesOtherwise : Type 0
-PassesOtherwise = (given : Given) (s : State) (ms : ℕ) → is_due s.node.armed ms ≡ false → next given s (Tick ms) ≡ record s { node = at_time ms s.node }
+PassesOtherwise = (given : Environment) (s : State) (ms : ℕ) → is_due s.node.armed ms ≡ false → next given s (Tick ms) ≡ record s { node = at_time ms s.node }
 
 -- The fabric that it takes out of the table is the one that was added, where one was.
 abbrev pub TakesTheAddedAway : Type 0
-TakesTheAddedAway = (given : Given) (s : NodeState) (now : ℕ) → IsValid s → (aside_of given s Expire now).gone ≡ (if is_due s.armed now then added_in s.armed else None)
+TakesTheAddedAway = (given : Environment) (s : NodeState) (now : ℕ) → IsValid s → (aside_of given s Expire now).gone ≡ (if is_due s.armed now then added_in s.armed else None)
 
 -- A time step leaves a fabric that was neither added nor updated under the fail-safe its own part.
 abbrev pub TicksSpareOthers : Type 0
-TicksSpareOthers = (given : Given) (fabric : ℕ) (s : State) (ms : ℕ) → IsValid s.node → fabric ≢ 0 → was_added fabric s.node.armed ≡ false → was_updated fabric s.node.armed ≡ false
+TicksSpareOthers = (given : Environment) (fabric : ℕ) (s : State) (ms : ℕ) → IsValid s.node → fabric ≢ 0 → was_added fabric s.node.armed ≡ false → was_updated fabric s.node.armed ≡ false
     → own_of_whole fabric (next given s (Tick ms)) ≡ own_of_whole fabric s
 
 -- The own part that a time step leaves to any fabric is what it leaves on the veil of that fabric, and so it is determined by that part and
 -- by what is public to it, as both were before.
 abbrev pub TicksOnTheVeil : Type 0
-TicksOnTheVeil = (given : Given) (fabric : ℕ) (s : State) (ms : ℕ) → IsValid s.node → own_of_whole fabric (next given (veil_of_whole fabric s) (Tick ms)) ≡ own_of_whole fabric (next given s (Tick ms))
+TicksOnTheVeil = (given : Environment) (fabric : ℕ) (s : State) (ms : ℕ) → IsValid s.node → own_of_whole fabric (next given (veil_of_whole fabric s) (Tick ms)) ≡ own_of_whole fabric (next given s (Tick ms))
 
 abbrev pub TicksSeeTheMarkAlone : Type 0
-TicksSeeTheMarkAlone = (given : Given) (fabric : ℕ) (s t : State) (ms : ℕ) → IsValid s.node → IsValid t.node
+TicksSeeTheMarkAlone = (given : Environment) (fabric : ℕ) (s t : State) (ms : ℕ) → IsValid s.node → IsValid t.node
     → own_of_whole fabric s ≡ own_of_whole fabric t → public_view fabric s.node ≡ public_view fabric t.node
     → own_of_whole fabric (next given s (Tick ms)) ≡ own_of_whole fabric (next given t (Tick ms))
 
@@ -147,7 +147,7 @@ OpensValid = (fabrics : List Fabric) (entries : List AclEntry) (sessions : List 
 
 -- It takes the steps of each action, one after the other, where the verdicts keep the rules of their kinds.
 abbrev pub TakesItsSteps : Type 0
-TakesItsSteps = (given : Given) (s : NodeState) (action : Action) (now : ℕ) → KeepsRules given.judged → IsValid s → may_take_all (asker_of s action) (steps_of given s action now) (at_time now s) ≡ true
+TakesItsSteps = (given : Environment) (s : NodeState) (action : Action) (now : ℕ) → KeepsRules given.judged → IsValid s → may_take_all (asker_of s action) (steps_of given s action now) (at_time now s) ≡ true
 
 -- the time of a state may be any
 abbrev pub TimesStayValid : Type 0
@@ -155,7 +155,7 @@ TimesStayValid = (s : NodeState) (now : ℕ) → IsValid s → IsValid (at_time 
 
 -- An action leaves it so.
 abbrev pub StaysValid : Type 0
-StaysValid = (given : Given) (s : NodeState) (action : Action) (now : ℕ) → KeepsRules given.judged → IsValid s → IsValid (after_action given s action now)
+StaysValid = (given : Environment) (s : NodeState) (action : Action) (now : ℕ) → KeepsRules given.judged → IsValid s → IsValid (after_action given s action now)
 
 -- What an expiry of the fail-safe leaves of a valid state is valid.
 abbrev pub RollsBackValid : Type 0
@@ -206,7 +206,7 @@ LeftIsGoneBehindAnExpiry = (fabric : ℕ) (asker : Option Actor) (index : ℕ) (
 
 -- An action that makes no step sets the time, and nothing else: no version moves, and no change is counted.
 abbrev pub SetsTheTime : Type 0
-SetsTheTime = (given : Given) (s : NodeState) (action : Action) (now : ℕ) → steps_of given s action now ≡ [] → after_action given s action now ≡ record s { clock = now }
+SetsTheTime = (given : Environment) (s : NodeState) (action : Action) (now : ℕ) → steps_of given s action now ≡ [] → after_action given s action now ≡ record s { clock = now }
 
 -- Compared with itself, a state stays as it is: where nothing differs no version and no change number moves.
 abbrev pub StaysSettled : Type 0
@@ -227,19 +227,19 @@ EndsNothing = (session : Option ℕ) (asker : Option Actor) (steps : List NodeSt
 
 -- By an action at most one fabric leaves the table, which is the one that is told as gone.
 abbrev pub OneLeaves : Type 0
-OneLeaves = (given : Given) (s : NodeState) (action : Action) (now fabric : ℕ) → KeepsRules given.judged → IsValid s
+OneLeaves = (given : Environment) (s : NodeState) (action : Action) (now fabric : ℕ) → KeepsRules given.judged → IsValid s
     → has_left s (after_action given s action now) fabric ≡ is_that fabric (aside_of given s action now).gone
 
 -- So it is on the veil of whoever asks, whether or not that is valid.
 abbrev pub OneLeavesOnTheVeil : Type 0
-OneLeavesOnTheVeil = (given : Given) (s : NodeState) (actor asking : Actor) (asked : Result Request ImFault) (deadline : Option ℕ) (now fabric : ℕ) → KeepsRules given.judged → IsValid s
+OneLeavesOnTheVeil = (given : Environment) (s : NodeState) (actor asking : Actor) (asked : Result Request ImFault) (deadline : Option ℕ) (now fabric : ℕ) → KeepsRules given.judged → IsValid s
     → asker s actor ≡ Some asking → asker (veil asking.fabric s) actor ≡ Some asking
     → has_left (veil asking.fabric s) (after_action given (veil asking.fabric s) (action_of actor deadline asked) now) fabric
     ≡ is_that fabric (aside_of given (veil asking.fabric s) (action_of actor deadline asked) now).gone
 
 -- Each event among an action's steps is told to the asker's fabric alone, or to all; where nobody asks, to all.
 abbrev pub TellsItsOwn : Type 0
-TellsItsOwn = (given : Given) (s : NodeState) (action : Action) (now : ℕ) → KeepsRules given.judged → IsValid s → list_all (is_told_as (asker_of s action)) (steps_of given s action now) ≡ true
+TellsItsOwn = (given : Environment) (s : NodeState) (action : Action) (now : ℕ) → KeepsRules given.judged → IsValid s → list_all (is_told_as (asker_of s action)) (steps_of given s action now) ≡ true
 
 -- Steps that set values tell the events among them, and nothing besides.
 abbrev pub SettingStepsTell : Type 0
@@ -261,14 +261,14 @@ AskersAreKnown = (s : NodeState) (actor asking : Actor) → IsValid s → asker 
 -- the steps of what it asks are.
 
 abbrev pub LinesReplyOnTheVeil : Type 0
-LinesReplyOnTheVeil = (given : Given) (s : State) (actor asking : Actor) (ms : ℕ) (asked : Result Request ImFault) → IsValid s.node → asker s.node actor ≡ Some asking → asker (veil asking.fabric s.node) actor ≡ Some asking
+LinesReplyOnTheVeil = (given : Environment) (s : State) (actor asking : Actor) (ms : ℕ) (asked : Result Request ImFault) → IsValid s.node → asker s.node actor ≡ Some asking → asker (veil asking.fabric s.node) actor ≡ Some asking
     → line_reply given (veil_of_whole asking.fabric s) actor asking ms asked ≡ line_reply given s actor asking ms asked
 
 abbrev pub DeadlinesOnTheVeil : Type 0
 DeadlinesOnTheVeil = (s : State) (asking : Actor) → deadline_of asking (veil_of_whole asking.fabric s).deadlines ≡ deadline_of asking s.deadlines
 
 abbrev pub StepsOnTheVeil : Type 0
-StepsOnTheVeil = (given : Given) (s : NodeState) (actor asking : Actor) (asked : Result Request ImFault) (deadline : Option ℕ) (ms : ℕ) → IsValid s → asker s actor ≡ Some asking → asker (veil asking.fabric s) actor ≡ Some asking
+StepsOnTheVeil = (given : Environment) (s : NodeState) (actor asking : Actor) (asked : Result Request ImFault) (deadline : Option ℕ) (ms : ℕ) → IsValid s → asker s actor ≡ Some asking → asker (veil asking.fabric s) actor ≡ Some asking
     → steps_of given (veil asking.fabric s) (action_of actor deadline asked) ms ≡ steps_of given s (action_of actor deadline asked) ms
 
 -- The rows of each place stand in the order in which a fabric sees them.

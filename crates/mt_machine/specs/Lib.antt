@@ -2,7 +2,7 @@ pub mod Bench
 pub mod Changes
 pub mod Commands
 pub mod Effects
-pub mod Given
+pub mod Environment
 pub mod Isolation
 pub mod Joins
 pub mod Laws

@@ -21,7 +21,7 @@ use Rattle.mt_model.specs.declared.texts.recording.Sent.{Sent}
 use Rattle.mt_model.specs.declared.texts.recording.To.TheVariants.{Plain}
 use Rattle.mt_model.specs.declared.node.state.NodeState.{NodeState}
 use Rattle.mt_model.specs.declared.messages.status.Status.TheVariants.{Busy, InvalidAction, PathsExhausted}
-use Rattle.mt_machine.specs.Given.{Given}
+use Rattle.mt_machine.specs.Environment.{Environment}
 use Rattle.mt_machine.specs.Isolation.{is_deadline_in}
 use Rattle.mt_machine.specs.Rollback.{deadlines_left, is_due}
 use Rattle.mt_machine.specs.Leaving.{has_left}
@@ -97,7 +97,7 @@ is_refused actor deadlines ms request = is_timed request && (not (has_room actor
 
 -- What a line is replied where this actor is taken as asking. A payload that is no request is refused, whatever
 -- deadline stood.
-abbrev pub line_reply : Given → State → Actor → Actor → ℕ → Result Request ImFault → Reply
+abbrev pub line_reply : Environment → State → Actor → Actor → ℕ → Result Request ImFault → Reply
 line_reply given s actor asker ms (Ok request) =
     if is_refused asker s.deadlines ms request then refusal (code_of Busy)
     else reply_of given s.node (action_of actor (deadline_of asker s.deadlines) (Ok request)) ms
@@ -132,12 +132,12 @@ abbrev pub sent_as : ℕ → ℕ → Reply → List Sent
 sent_as ms fabric reply = map (sent_plain ms fabric) (chunks_of reply)
 
 -- to whoever is taken as asking; nothing where nobody is
-abbrev pub sent_to : Given → State → Actor → ℕ → Result Request ImFault → Option Actor → List Sent
+abbrev pub sent_to : Environment → State → Actor → ℕ → Result Request ImFault → Option Actor → List Sent
 sent_to given s actor ms asked None = []
 sent_to given s actor ms asked (Some asker) = sent_as ms asker.fabric (line_reply given s actor asker ms asked)
 
 -- what a line of a plain actor sends, whose payload comes to this
-abbrev pub sent_for : Given → State → Actor → ℕ → Result Request ImFault → List Sent
+abbrev pub sent_for : Environment → State → Actor → ℕ → Result Request ImFault → List Sent
 sent_for given s actor ms asked = sent_to given s actor ms asked (asker s.node actor)
 
 -- until when the request of an actor must come, where somebody is taken as asking
@@ -145,28 +145,28 @@ abbrev pub deadline_for : State → Option Actor → Option ℕ
 deadline_for s None = None
 deadline_for s (Some asker) = deadline_of asker s.deadlines
 
-abbrev pub next_for : Given → State → Actor → ℕ → Result Request ImFault → State
+abbrev pub next_for : Environment → State → Actor → ℕ → Result Request ImFault → State
 next_for given s actor ms asked = record {
   node = after_action given s.node (action_of actor (deadline_for s (asker s.node actor)) asked) ms;
   deadlines = deadlines_of_those_left s.node (after_action given s.node (action_of actor (deadline_for s (asker s.node actor)) asked) ms) (deadlines_after (asker s.node actor) s.deadlines ms asked);
 }
 
 -- The state behind an action that no line of a plain actor makes. Nobody's deadline goes but those of a fabric that leaves.
-abbrev pub behind_action : Given → State → Action → ℕ → State
+abbrev pub behind_action : Environment → State → Action → ℕ → State
 behind_action given s action ms = record {
   node = after_action given s.node action ms;
   deadlines = deadlines_of_those_left s.node (after_action given s.node action ms) s.deadlines;
 }
 
 -- A time step lets the fail-safe expire where it is time: then the deadlines of the fabric that goes, go with it.
-abbrev pub next_tick : Given → State → ℕ → State
+abbrev pub next_tick : Environment → State → ℕ → State
 next_tick given s ms = record {
   node = after_action given s.node actions.Expire ms;
   deadlines = if is_due s.node.armed ms then deadlines_left s.node.armed s.deadlines else s.deadlines;
 }
 
 -- what an event sends: a plain actor's line is answered, a time step sends nothing; all other events stand above this crate
-abbrev pub sent : Given → State → Event → List Sent
+abbrev pub sent : Environment → State → Event → List Sent
 sent given s (events.Ask ms fabric node cats opcode payload) = sent_for given s (line_actor fabric node cats) ms (request_in opcode payload)
 sent given s (events.Datagram ms peer bytes) = []
 sent given s (events.Tick ms) = []
@@ -175,7 +175,7 @@ sent given s (events.Resend ms session) = []
 sent given s (events.Stop calls fate) = []
 
 -- the state behind an event
-abbrev pub next : Given → State → Event → State
+abbrev pub next : Environment → State → Event → State
 next given s (events.Ask ms fabric node cats opcode payload) = next_for given s (line_actor fabric node cats) ms (request_in opcode payload)
 next given s (events.Datagram ms peer bytes) = s
 next given s (events.Tick ms) = next_tick given s ms

@@ -31,7 +31,7 @@ use Rattle.mt_model.specs.declared.messages.status.Status.TheVariants.{InvalidAc
 use Rattle.mt_read.specs.Reading.{read_answer}
 use Rattle.mt_write.specs.Writing.{write_answer}
 use Rattle.mt_apps.specs.EntryEvents.{entry_events}
-use Rattle.mt_machine.specs.Given.{Given}
+use Rattle.mt_machine.specs.Environment.{Environment}
 use Rattle.mt_machine.specs.Changes.{settled}
 use Rattle.mt_machine.specs.Commands.{command_effect}
 use Rattle.mt_machine.specs.Effects.{after_all}
@@ -111,18 +111,18 @@ abbrev pub write_steps : Observation → Actor → Bool → Bool → List WriteI
 write_steps o actor stood timed items = if is_untimely stood timed then [] else with_events o actor (write_answer o.seen actor items timed).rows
 
 -- A command is answered with its response or its status, unless it asks for no answer. It is carried out all the same.
-abbrev pub invoke_reply : Given → Observation → Actor → Bool → Bool → Bool → Place → Value → Reply
+abbrev pub invoke_reply : Environment → Observation → Actor → Bool → Bool → Bool → Place → Value → Reply
 invoke_reply given o actor stood suppress timed command fields =
     if is_untimely stood timed then refusal (code_of TimedRequestMismatch)
     else unless_suppressed suppress (command_effect given o actor timed command fields).reply
 
-abbrev pub invoke_steps : Given → Observation → Actor → Bool → Bool → Place → Value → List NodeStep
+abbrev pub invoke_steps : Environment → Observation → Actor → Bool → Bool → Place → Value → List NodeStep
 invoke_steps given o actor stood timed command fields = if is_untimely stood timed then [] else (command_effect given o actor timed command fields).steps
 
 -- The reply to a request but for the events that it asks for, made of what the asker's fabric observes and of whether a deadline stood
 -- for the request. A status is no request; what sets a time is answered with success. What opens a
 -- subscription stands with those that are open, above this crate.
-abbrev pub reply_to : Given → Observation → Actor → Bool → Request → Reply
+abbrev pub reply_to : Environment → Observation → Actor → Bool → Request → Reply
 reply_to given o actor stood (requests.Status code) = refusal (code_of InvalidAction)
 reply_to given o actor stood (requests.Read paths wanted minimum filtered versions) = read_reply o actor paths filtered versions
 reply_to given o actor stood (requests.Subscribe keep floor ceiling paths wanted minimum filtered versions) = replies.Nothing
@@ -131,7 +131,7 @@ reply_to given o actor stood (requests.Invoke suppress timed command fields) = i
 reply_to given o actor stood (requests.Timed ms) = refusal (code_of Success)
 
 -- what a request makes of the state: writes and commands alone change anything
-abbrev pub steps_to : Given → Observation → Actor → Bool → Request → List NodeStep
+abbrev pub steps_to : Environment → Observation → Actor → Bool → Request → List NodeStep
 steps_to given o actor stood (requests.Status code) = []
 steps_to given o actor stood (requests.Read paths wanted minimum filtered versions) = []
 steps_to given o actor stood (requests.Subscribe keep floor ceiling paths wanted minimum filtered versions) = []
@@ -146,19 +146,19 @@ is_late (Some deadline) now = nat_lt deadline now
 
 -- A request later than its deadline is refused, whatever it asks, and makes nothing of the state.
 
-abbrev pub reply_in_time : Given → NodeState → Actor → Request → Option ℕ → ℕ → Reply
+abbrev pub reply_in_time : Environment → NodeState → Actor → Request → Option ℕ → ℕ → Reply
 reply_in_time given s asker request deadline now = if is_late deadline now then refusal (code_of Timeout) else reply_to given (observation asker.fabric s) asker (is_some deadline) request
 
-abbrev pub steps_in_time : Given → NodeState → Actor → Request → Option ℕ → ℕ → List NodeStep
+abbrev pub steps_in_time : Environment → NodeState → Actor → Request → Option ℕ → ℕ → List NodeStep
 steps_in_time given s asker request deadline now = if is_late deadline now then [] else steps_to given (observation asker.fabric s) asker (is_some deadline) request
 
 -- Nothing is replied where nobody is taken as asking.
 
-abbrev pub asked_reply : Given → NodeState → Request → Option ℕ → ℕ → Option Actor → Reply
+abbrev pub asked_reply : Environment → NodeState → Request → Option ℕ → ℕ → Option Actor → Reply
 asked_reply given s request deadline now None = replies.Nothing
 asked_reply given s request deadline now (Some asker) = reply_in_time given s asker request deadline now
 
-abbrev pub asked_steps : Given → NodeState → Request → Option ℕ → ℕ → Option Actor → List NodeStep
+abbrev pub asked_steps : Environment → NodeState → Request → Option ℕ → ℕ → Option Actor → List NodeStep
 asked_steps given s request deadline now None = []
 asked_steps given s request deadline now (Some asker) = steps_in_time given s asker request deadline now
 
@@ -176,12 +176,12 @@ asker_of s (Ask actor request deadline) = asker s actor
 asker_of s Expire = None
 asker_of s Nothing = None
 
-abbrev pub reply_of : Given → NodeState → Action → ℕ → Reply
+abbrev pub reply_of : Environment → NodeState → Action → ℕ → Reply
 reply_of given s (Ask actor request deadline) now = asked_reply given s request deadline now (asker s actor)
 reply_of given s Expire now = replies.Nothing
 reply_of given s Nothing now = replies.Nothing
 
-abbrev pub steps_of : Given → NodeState → Action → ℕ → List NodeStep
+abbrev pub steps_of : Environment → NodeState → Action → ℕ → List NodeStep
 steps_of given s (Ask actor request deadline) now = asked_steps given s request deadline now (asker s actor)
 steps_of given s Expire now = if is_due s.armed now then steps.Expire ∷ [] else []
 steps_of given s Nothing now = []
@@ -194,7 +194,7 @@ abbrev pub at_time : ℕ → NodeState → NodeState
 at_time now s = record s { clock = now }
 
 -- the state behind it: it is this time, and its steps are made
-abbrev pub after_action : Given → NodeState → Action → ℕ → NodeState
+abbrev pub after_action : Environment → NodeState → Action → ℕ → NodeState
 after_action given s action now = after_steps (asker_of s action) (steps_of given s action now) (at_time now s)
 
 -- What else an action does: on whose session it was asked, which sessions end, which fabric leaves the table.
@@ -231,5 +231,5 @@ aside_between session before now = record {
   gone = gone_between before.fabrics now.fabrics;
 }
 
-abbrev pub aside_of : Given → NodeState → Action → ℕ → Aside
+abbrev pub aside_of : Environment → NodeState → Action → ℕ → Aside
 aside_of given s action now = aside_between (session_asking s action) s (after_action given s action now)

@@ -13,7 +13,7 @@ use Rattle.mt_model.specs.declared.tables.fabric.Fabric.{Fabric}
 use Rattle.mt_apps.specs.EntryEvents.{events_between}
 use Rattle.mt_opcreds.specs.RemoveFabric.{leave, leave_event}
 use Rattle.mt_machine.specs.Effects.{events_in}
-use Rattle.mt_machine.specs.Given.{Given}
+use Rattle.mt_machine.specs.Environment.{Environment}
 use Rattle.mt_machine.specs.Step.{after_action, asker_of, gone_between, steps_of}
 
 -- A fabric that joins the table is told of its entries, which whoever asks has added.
@@ -45,7 +45,7 @@ told_between asking steps before now =
     ++ leaving_events (events_in steps) (gone_between before.fabrics now.fabrics))
 
 -- WHAT AN ACTION TELLS
-abbrev pub told : Given → NodeState → Action → ℕ → List NodeStep
+abbrev pub told : Environment → NodeState → Action → ℕ → List NodeStep
 told given s action now = told_between (asker_of s action) (steps_of given s action now) s (after_action given s action now)
 
 -- An event is told to the fabric of this actor alone, or to all.

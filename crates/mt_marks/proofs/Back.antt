@@ -2,7 +2,7 @@
 use Rattle.std.proofs.Common.{◌≡◌, List, [], ◌∷◌, refl, sym, ap, ◌∙◌, map}
 use Rattle.mt_model.specs.declared.texts.recording.Event.{Event}
 use Rattle.mt_machine.specs.Isolation as machine
-use Rattle.mt_lines.specs.Isolation.{PublicPart}
+use Rattle.mt_runs.specs.Isolation.{PublicPart}
 use Rattle.mt_runs.specs.Marks.{Mark, seen, born, gone}
 use Rattle.mt_marks.specs.Seen.{descriptor_in, recent_in, seen_in, view_in}
 use Rattle.mt_marks.specs.declared.mark.Descriptor.{Descriptor}

@@ -1,5 +1,16 @@
+mod Among
 mod Back
+mod Beginning
+mod Codes
 mod Differing
+mod Edited
+mod FirstDiffering
+mod Indexed
 mod Kept
+mod Owning
+mod Parted
 mod Placed
+mod Placing
 mod Seeing
+mod Standing
+mod ToldBack

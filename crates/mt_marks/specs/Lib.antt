@@ -1,3 +1,6 @@
+pub mod Noted
 pub mod Parts
 pub mod Placed
 pub mod Seen
+pub mod Told
+pub mod differences

@@ -8,8 +8,8 @@ use Rattle.mt_model.specs.declared.tables.fabric.Fabric.{Fabric}
 use Rattle.mt_model.specs.declared.texts.recording.Event.{Event}
 use Rattle.mt_machine.specs.Isolation.{PublicView, owns, public_view}
 use Rattle.mt_machine.specs.Isolation as machine
-use Rattle.mt_history.specs.History.{History}
-use Rattle.mt_history.specs.Isolation.{Recent, recent}
+use Rattle.mt_ledger.specs.history.History.{History}
+use Rattle.mt_ledger.specs.history.Isolation.{Recent, recent}
 use Rattle.mt_runs.specs.Marks.{Mark, seen}
 use Rattle.mt_marks.specs.declared.mark.Descriptor.{Descriptor}
 use Rattle.mt_marks.specs.declared.mark.Mark as code

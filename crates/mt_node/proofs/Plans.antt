@@ -9,7 +9,7 @@ use Rattle.mt_model.specs.declared.node.action.NodeStep.{NodeStep}
 use Rattle.mt_model.specs.declared.messages.message.Reply.{Reply}
 use Rattle.mt_model.specs.declared.messages.message.Request.{Request}
 use Rattle.mt_model.specs.declared.node.state.NodeState.{NodeState}
-use Rattle.mt_machine.specs.Given.{Given}
+use Rattle.mt_machine.specs.Environment.{Environment}
 use Rattle.mt_machine.specs.Leaving.{has_left}
 use Rattle.mt_machine.specs.State.{IsValid}
 use Rattle.mt_machine.specs.Observation.{observation}
@@ -20,7 +20,7 @@ use Rattle.mt_node.specs.Plan.{IsMade, IsPlan}
 use Rattle.mt_model.specs.declared.node.action.Effect.{Effect}
 use Rattle.mt_node.specs.declared.outcome.Outcome.{Outcome}
 
-pub plan_of : (given : Given) (s : NodeState) (action : Action) (now : ℕ) (asking : Option Actor) (answered : Effect) (outcome : Outcome)
+pub plan_of : (given : Environment) (s : NodeState) (action : Action) (now : ℕ) (asking : Option Actor) (answered : Effect) (outcome : Outcome)
     → asking ≡ asker_of s action → answered.reply ≡ reply_of given s action now → answered.steps ≡ steps_of given s action now → IsValid (after_action given s action now)
     → ((fabric : ℕ) → has_left s (after_action given s action now) fabric ≡ is_that fabric (aside_of given s action now).gone)
     → IsMade s asking answered now outcome → IsPlan given s action now outcome
@@ -39,7 +39,7 @@ plan_of given s action now asking answered outcome asks replies steps valid one 
     }
 
 -- where nobody is taken as asking, nothing is asked
-pub nobody_asks : (given : Given) (s : NodeState) (actor : Actor) (request : Request) (timed : Option ℕ) (now : ℕ) (outcome : Outcome) → asker s actor ≡ None
+pub nobody_asks : (given : Environment) (s : NodeState) (actor : Actor) (request : Request) (timed : Option ℕ) (now : ℕ) (outcome : Outcome) → asker s actor ≡ None
     → IsPlan given s Nothing now outcome → IsPlan given s (Ask actor request timed) now outcome
 nobody_asks given s actor request timed now outcome nobody planned =
     let behind : after_action given s Nothing now ≡ after_action given s (Ask actor request timed) now = λ i. after_steps (sym nobody i) (asked_steps given s request timed now (sym nobody i)) (at_time now s) in
@@ -58,7 +58,7 @@ if_ok P Q (Ok a) f h = f a h
 if_ok P Q (Err e) f h = h
 
 -- what an area answers is the answer to the request
-pub answer_of : {E : Type 0} (result : Result Effect E) (given : Given) (s : NodeState) (asking : Actor) (stood : Bool) (request : Request) (reply : Reply) (steps : List NodeStep)
+pub answer_of : {E : Type 0} (result : Result Effect E) (given : Environment) (s : NodeState) (asking : Actor) (stood : Bool) (request : Request) (reply : Reply) (steps : List NodeStep)
     → reply ≡ reply_to given (observation asking.fabric s) asking stood request → steps ≡ steps_to given (observation asking.fabric s) asking stood request
     → IfOk result (λ answered. answered ≡ record { reply = reply; steps = steps }) → IfOk result (IsAnswer given s asking stood request)
 answer_of (Ok answered) given s asking stood request reply steps replies makes h = record { reply = ap (λ (a : Effect). a.reply) h ∙ replies; steps = ap (λ (a : Effect). a.steps) h ∙ makes }

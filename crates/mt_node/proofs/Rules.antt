@@ -24,7 +24,7 @@ use Rattle.mt_machine.specs.Commands.{carried_out, is_commissioning, nobodys_row
 use Rattle.mt_apps.specs.Commands.{invoked}
 use Rattle.mt_commission.specs.Commands as commission
 use Rattle.mt_opcreds.specs.Commands as credentials
-use Rattle.mt_machine.specs.Given.{Given}
+use Rattle.mt_machine.specs.Environment.{Environment}
 use Rattle.mt_machine.specs.Laws.{OneLeaves, StaysValid, TakesItsSteps}
 use Rattle.mt_machine.specs.Leaving.{has_left}
 use Rattle.mt_machine.specs.Observation.{observation}
@@ -34,34 +34,34 @@ use Rattle.mt_machine.specs.Taking.{may_take_all}
 use Rattle.mt_node.specs.Answered.{is_of_credentials}
 
 -- no verdict at all
-abbrev pub bare : Given → Given
+abbrev pub bare : Environment → Environment
 bare given = record { judged = judged_by [] [] []; reachable = given.reachable }
 
-pub bare_keeps : (given : Given) → KeepsRules (bare given).judged
+pub bare_keeps : (given : Environment) → KeepsRules (bare given).judged
 bare_keeps given = record { roots = refl; csrs = refl; joins = refl }
 
 -- what is given to an action of nobody
-abbrev pub nothing_given : Given
+abbrev pub nothing_given : Environment
 nothing_given = record { judged = judged_by [] [] []; reachable = [] }
 
 pub nothing_keeps : KeepsRules nothing_given.judged
 nothing_keeps = record { roots = refl; csrs = refl; joins = refl }
 
 -- what the other crates carry out
-abbrev others : Given → Observation → Actor → Place → Value → Effect
+abbrev others : Environment → Observation → Actor → Place → Value → Effect
 others given o actor command fields = if is_commissioning command.cluster then commission.invoked o.known given.reachable actor command fields else invoked (nobodys_rows o) actor command
 
-same_carried : (given : Given) (o : Observation) (actor : Actor) (command : Place) (fields : Value) → (command.cluster == operational_credentials.cluster) ≡ false → carried_out given o actor command fields ≡ carried_out (bare given) o actor command fields
+same_carried : (given : Environment) (o : Observation) (actor : Actor) (command : Place) (fields : Value) → (command.cluster == operational_credentials.cluster) ≡ false → carried_out given o actor command fields ≡ carried_out (bare given) o actor command fields
 same_carried given o actor command fields other =
     ap (λ (b : Bool). if b then credentials.invoked given.judged o.known actor command fields else others given o actor command fields) other
     ∙ sym (ap (λ (b : Bool). if b then credentials.invoked (bare given).judged o.known actor command fields else others given o actor command fields) other)
 
-same_checked : (given : Given) (o : Observation) (actor : Actor) (command : Place) (fields : Value) (may : Result CommandMeta Status) → (command.cluster == operational_credentials.cluster) ≡ false
+same_checked : (given : Environment) (o : Observation) (actor : Actor) (command : Place) (fields : Value) (may : Result CommandMeta Status) → (command.cluster == operational_credentials.cluster) ≡ false
     → unless_refused given o actor command fields may ≡ unless_refused (bare given) o actor command fields may
 same_checked given o actor command fields (Err status) other = refl
 same_checked given o actor command fields (Ok meta) other = ap (λ (effect : Effect). if has_form command fields then effect else refused_at command InvalidCommand) (same_carried given o actor command fields other)
 
-same_steps : (given : Given) (o : Observation) (actor : Actor) (stood : Bool) (request : Request) → is_of_credentials request ≡ false → steps_to given o actor stood request ≡ steps_to (bare given) o actor stood request
+same_steps : (given : Environment) (o : Observation) (actor : Actor) (stood : Bool) (request : Request) → is_of_credentials request ≡ false → steps_to given o actor stood request ≡ steps_to (bare given) o actor stood request
 same_steps given o actor stood (requests.Status code) other = refl
 same_steps given o actor stood (requests.Read paths wanted minimum filtered versions) other = refl
 same_steps given o actor stood (requests.Subscribe keep floor ceiling paths wanted minimum filtered versions) other = refl
@@ -70,13 +70,13 @@ same_steps given o actor stood (requests.Invoke suppress timed command fields) o
     ap (λ (effect : Effect). if is_untimely stood timed then [] else effect.steps) (same_checked given o actor command fields (checked o.seen actor command timed) other)
 same_steps given o actor stood (requests.Timed ms) other = refl
 
-same_asked : (given : Given) (s : NodeState) (request : Request) (deadline : Option ℕ) (now : ℕ) (asking : Option Actor) → is_of_credentials request ≡ false
+same_asked : (given : Environment) (s : NodeState) (request : Request) (deadline : Option ℕ) (now : ℕ) (asking : Option Actor) → is_of_credentials request ≡ false
     → asked_steps given s request deadline now asking ≡ asked_steps (bare given) s request deadline now asking
 same_asked given s request deadline now None other = refl
 same_asked given s request deadline now (Some actor) other =
     ap (λ (steps : List NodeStep). if is_late deadline now then [] else steps) (same_steps given (observation actor.fabric s) actor (is_some deadline) request other)
 
-module _ (given : Given) (s : NodeState) (valid : IsValid s) (actor : Actor) (request : Request) (deadline : Option ℕ) (now : ℕ) (rules : is_of_credentials request ≡ true → KeepsRules given.judged) where
+module _ (given : Environment) (s : NodeState) (valid : IsValid s) (actor : Actor) (request : Request) (deadline : Option ℕ) (now : ℕ) (rules : is_of_credentials request ≡ true → KeepsRules given.judged) where
   pub taken : TakesItsSteps → may_take_all (asker s actor) (asked_steps given s request deadline now (asker s actor)) (at_time now s) ≡ true
   taken takes = elim (cases_Bool (is_of_credentials request)) [
     | inl its ↦ takes given s (Ask actor request deadline) now (rules its) valid

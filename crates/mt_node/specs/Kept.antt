@@ -7,7 +7,7 @@ use Rattle.mt_model.specs.declared.texts.config.CsrRow.{CsrRow}
 use Rattle.mt_model.specs.declared.texts.config.JoinRow.{JoinRow}
 use Rattle.mt_model.specs.declared.texts.config.RootRow.{RootRow}
 use Rattle.mt_opcreds.specs.Judged.{judged_by}
-use Rattle.mt_machine.specs.Given.{Given}
+use Rattle.mt_machine.specs.Environment.{Environment}
 use Rattle.mt_machine.specs.Opened.{opened}
 
 -- Its state, and the configuration with which it was started. The configuration has all keys, and so it is no part of
@@ -21,7 +21,7 @@ abbrev pub started : Config → Kept
 started config = record { state = opened config; config = contents_of config }
 
 -- what is given to it, where these are the rows of the verdicts
-abbrev pub given_to : Kept → List RootRow → List CsrRow → List JoinRow → Given
+abbrev pub given_to : Kept → List RootRow → List CsrRow → List JoinRow → Environment
 given_to kept roots csrs joins = record { judged = judged_by roots csrs joins; reachable = kept.config.reachable }
 
 -- the same node in another state

@@ -15,7 +15,7 @@ use Rattle.mt_model.specs.declared.rows.place.Row.{Row}
 use Rattle.mt_model.specs.declared.node.state.NodeState.{NodeState}
 use Rattle.mt_machine.specs.Changes.{changed_at}
 use Rattle.mt_machine.specs.Effects.{after_all, is_setting_step}
-use Rattle.mt_machine.specs.Given.{Given}
+use Rattle.mt_machine.specs.Environment.{Environment}
 use Rattle.mt_machine.specs.Leaving.{has_left}
 use Rattle.mt_machine.specs.State.{IsValid}
 use Rattle.mt_machine.specs.Step.{Aside, after_action, after_steps, aside_between, aside_of, at_time, reply_of}
@@ -105,7 +105,7 @@ pub record IsMade (s : NodeState) (asking : Option Actor) (answered : Effect) (n
 
 -- The outcome is that of this action at this time, where this is given: what is answered, the events that are told, the state. The state
 -- behind it is valid, and the fabric that leaves the table, where one does, is the one that is gone.
-pub record IsPlan (given : Given) (s : NodeState) (action : Action) (now : ℕ) (outcome : Outcome) : Type 0 where
+pub record IsPlan (given : Environment) (s : NodeState) (action : Action) (now : ℕ) (outcome : Outcome) : Type 0 where
   pub reply : outcome.reply ≡ reply_of given s action now
   pub told : outcome.told ≡ told given s action now
   pub aside : aside_in outcome ≡ aside_of given s action now
@@ -116,4 +116,4 @@ pub record IsPlan (given : Given) (s : NodeState) (action : Action) (now : ℕ) 
 
 -- the outcome was made on this state
 abbrev pub IsPlanned : NodeState → Outcome → Type 0
-IsPlanned s outcome = (given : Given) × ((action : Action) × ((now : ℕ) × IsPlan given s action now outcome))
+IsPlanned s outcome = (given : Environment) × ((action : Action) × ((now : ℕ) × IsPlan given s action now outcome))

@@ -2,7 +2,7 @@
 
 ghost use Rattle.std.specs.Prelude.{◌≡◌, ◌↔◌, ◌∷◌, [], None, Some, true, false, IfOk, if◌then◌else◌, option_copied};
 ghost use Rattle.mt_model.specs.declared.node.action.NodeStep.TheVariants.{Expire};
-ghost use Rattle.mt_machine.specs.Given.{Given};
+ghost use Rattle.mt_machine.specs.Environment.{Environment};
 ghost use Rattle.mt_machine.specs.Rollback.{is_due};
 ghost use Rattle.mt_machine.specs.State.{IsValid};
 ghost use Rattle.mt_machine.specs.Step.{asker, is_late, session_actor};
@@ -142,7 +142,7 @@ impl Node {
 
     // Plans an expiry, where it is time for one.
     fn plan_expiry(&self, now: u64) -> Result<Outcome, AllocError>
-        ensures { (given : Given) → IfOk result (IsPlan given self.now.state Action.Expire now) }
+        ensures { (given : Environment) → IfOk result (IsPlan given self.now.state Action.Expire now) }
     {
         states_are_valid();
         one_leaves();
@@ -156,7 +156,7 @@ impl Node {
 
     // The outcome of what nobody asks.
     fn quiet(&self, now: u64) -> Outcome
-        ensures { (given : Given) → IsPlan given self.now.state Action.Nothing now result }
+        ensures { (given : Environment) → IsPlan given self.now.state Action.Nothing now result }
     {
         states_are_valid();
         one_leaves();

@@ -21,7 +21,7 @@ use Rattle.mt_machine.specs.Rollback.{added_in, deadlines_left, is_due}
 use Rattle.mt_machine.specs.Laws.{TakesTheAddedAway}
 use Rattle.mt_model.specs.declared.tables.network.Armed.{Armed}
 use Rattle.mt_machine.specs.State.{IsValid}
-use Rattle.mt_machine.specs.Given.{Given}
+use Rattle.mt_machine.specs.Environment.{Environment}
 use Rattle.mt_machine.specs.Leaving.{has_left}
 use Rattle.mt_node.specs.Plan.{IsPlan, applied}
 use Rattle.mt_model.specs.declared.node.state.NodeState.{NodeState}
@@ -36,14 +36,14 @@ use Rattle.mt_model.specs.declared.texts.recording.Sent.{Sent}
 use Rattle.mt_subs.specs.Leaving.{left_in}
 use Rattle.mt_subs.specs.declared.subscription.SubState.{SubState}
 use Rattle.mt_ledger.specs.Asking.{full_reply, line_response, line_wish, with_wish}
-use Rattle.mt_ledger.specs.Behind.{Doing, acts, action_in, ledger_behind, subs_done}
+use Rattle.mt_ledger.specs.Behind.{Activity, acts, action_in, ledger_behind, subs_done}
 use Rattle.mt_ledger.specs.Ledger.{Ledger}
 use Rattle.mt_ledger.specs.Subscribing.{behind_wish_if_any, wish_asked, wish_in_time}
 use Rattle.mt_plain.specs.Recording.{may_record}
-use Rattle.mt_history.specs.Asking.{events_for, with_events}
-use Rattle.mt_history.specs.Behind.{history_behind}
-use Rattle.mt_history.specs.History.{History, recorded_all, without_left}
-use Rattle.mt_lines.specs.Lines.{sent_line}
+use Rattle.mt_ledger.specs.history.Asking.{events_for, with_events}
+use Rattle.mt_ledger.specs.history.Behind.{history_behind}
+use Rattle.mt_ledger.specs.history.History.{History, recorded_all, without_left}
+use Rattle.mt_runs.specs.Lines.{sent_line}
 use Rattle.mt_machine.specs.Telling.{told_between}
 use Rattle.mt_model.specs.declared.node.action.Action.{Action}
 use Rattle.mt_model.specs.declared.node.action.NodeStep.{NodeStep}
@@ -94,19 +94,19 @@ all_left : (s t : NodeState) → t.fabrics ≡ s.fabrics → (ds : List PlainDea
 all_left s t same ds = left_is_gone s t None (none_left s t same) ds
 
 -- The history behind an outcome is that behind the action.
-tells : (given : Given) (s : State) (h : History) (action : Action) (ms : ℕ) (outcome : PlainOutcome) → outcome.ms ≡ ms → IsPlan given s.node action ms outcome.node → applied_history outcome h ≡ history_behind given s.node action ms h
+tells : (given : Environment) (s : State) (h : History) (action : Action) (ms : ℕ) (outcome : PlainOutcome) → outcome.ms ≡ ms → IsPlan given s.node action ms outcome.node → applied_history outcome h ≡ history_behind given s.node action ms h
 tells given s h action ms outcome time plan = λ i. recorded_all (time i) (plan.told i) (without_left (plan.aside i).gone h)
 
 -- The ledger behind an outcome is that behind what is done, where this is made of the subscriptions.
-ledger_of : (given : Given) (s : State) (l : Ledger) (doing : Doing) (ms : ℕ) (outcome : PlainOutcome) → outcome.ms ≡ ms → IsPlan given s.node (action_in doing) ms outcome.node → applied_subs outcome.subs ms l.subs ≡ subs_done s.node l ms doing
-    → applied_ledger outcome s l ≡ ledger_behind given s.node doing ms l
-ledger_of given s l doing ms outcome time plan made = λ i. record {
-  history = tells given s l.history (action_in doing) ms outcome time plan i;
+ledger_of : (given : Environment) (s : State) (l : Ledger) (activity : Activity) (ms : ℕ) (outcome : PlainOutcome) → outcome.ms ≡ ms → IsPlan given s.node (action_in activity) ms outcome.node → applied_subs outcome.subs ms l.subs ≡ subs_done s.node l ms activity
+    → applied_ledger outcome s l ≡ ledger_behind given s.node activity ms l
+ledger_of given s l activity ms outcome time plan made = λ i. record {
+  history = tells given s l.history (action_in activity) ms outcome time plan i;
   subs = left_in (plan.state i) ((ap (λ n. applied_subs outcome.subs n l.subs) time ∙ made) i);
 }
 
 -- Where nobody is taken as asking, it is that of an action that does nothing.
-nobody_tells : (given : Given) (s : State) (h : History) (actor : Actor) (ms : ℕ) (asked : Result Request ImFault) (deadline : Option ℕ) → asker s.node actor ≡ None
+nobody_tells : (given : Environment) (s : State) (h : History) (actor : Actor) (ms : ℕ) (asked : Result Request ImFault) (deadline : Option ℕ) → asker s.node actor ≡ None
     → history_behind given s.node Nothing ms h ≡ history_behind given s.node (action_of actor deadline asked) ms h
 nobody_tells given s h actor ms (Ok request) deadline none = λ i.
     let a : Option Actor = sym none i in
@@ -115,11 +115,11 @@ nobody_tells given s h actor ms (Ok request) deadline none = λ i.
     recorded_all ms (told_between a steps s.node behind) (without_left (gone_between s.node.fabrics behind.fabrics) h)
 nobody_tells given s h actor ms (Err fault) deadline none = refl
 
-nobody_steps : (given : Given) (s : State) (actor : Actor) (ms : ℕ) (asked : Result Request ImFault) (deadline : Option ℕ) → asker s.node actor ≡ None → after_action given s.node Nothing ms ≡ after_action given s.node (action_of actor deadline asked) ms
+nobody_steps : (given : Environment) (s : State) (actor : Actor) (ms : ℕ) (asked : Result Request ImFault) (deadline : Option ℕ) → asker s.node actor ≡ None → after_action given s.node Nothing ms ≡ after_action given s.node (action_of actor deadline asked) ms
 nobody_steps given s actor ms (Ok request) deadline none = sym (ap (λ (a : Option Actor). after_steps a (asked_steps given s.node request deadline ms a) (at_time ms s.node)) none)
 nobody_steps given s actor ms (Err fault) deadline none = refl
 
-nobody_changes : (given : Given) (s : State) (l : Ledger) (actor : Actor) (ms : ℕ) (asked : Result Request ImFault) (deadline : Option ℕ) → asker s.node actor ≡ None
+nobody_changes : (given : Environment) (s : State) (l : Ledger) (actor : Actor) (ms : ℕ) (asked : Result Request ImFault) (deadline : Option ℕ) → asker s.node actor ≡ None
     → ledger_behind given s.node (acts Nothing) ms l ≡ ledger_behind given s.node (acts (action_of actor deadline asked)) ms l
 nobody_changes given s l actor ms (Ok request) deadline none = λ i. record {
   history = nobody_tells given s l.history actor ms (Ok request) deadline none i;
@@ -128,7 +128,7 @@ nobody_changes given s l actor ms (Ok request) deadline none = λ i. record {
 nobody_changes given s l actor ms (Err fault) deadline none = refl
 
 -- a request of whoever is taken as asking
-pub request_line : (given : Given) (s : State) (l : Ledger) (ms : ℕ) (actor asking : Actor) (request : Request) (outcome : PlainOutcome) → asker s.node actor ≡ Some asking
+pub request_line : (given : Environment) (s : State) (l : Ledger) (ms : ℕ) (actor asking : Actor) (request : Request) (outcome : PlainOutcome) → asker s.node actor ≡ Some asking
     → IsPlan given s.node (Ask actor request (deadline_of asking s.deadlines)) ms outcome.node
     → outcome.ms ≡ ms → may_record outcome.node.told l.history ≡ true
     → outcome.sent ≡ sent_both ms asking.fabric (with_wish s.node l (line_wish s asking ms (Ok request)) (replied_plainly s l asking ms request outcome.node.reply)) (line_response s l asking ms (Ok request))
@@ -154,7 +154,7 @@ request_line given s l ms actor asking request outcome asks p time may sends mad
     }
 
 -- a payload that is no request, of whoever is taken as asking
-pub refused_line : (given : Given) (s : State) (l : Ledger) (ms : ℕ) (actor asking : Actor) (fault : ImFault) (outcome : PlainOutcome) → asker s.node actor ≡ Some asking
+pub refused_line : (given : Environment) (s : State) (l : Ledger) (ms : ℕ) (actor asking : Actor) (fault : ImFault) (outcome : PlainOutcome) → asker s.node actor ≡ Some asking
     → IsPlan given s.node Nothing ms outcome.node
     → outcome.ms ≡ ms → may_record outcome.node.told l.history ≡ true
     → outcome.sent ≡ sent_as ms asking.fabric (fault_reply fault)
@@ -182,7 +182,7 @@ if_both (Ok x) P Q R follows holds also = follows x holds also
 if_both (Err e) P Q R follows holds also = holds
 
 -- nobody is taken as asking
-pub quiet_line : (given : Given) (s : State) (l : Ledger) (ms : ℕ) (actor : Actor) (asked : Result Request ImFault) (outcome : PlainOutcome) → asker s.node actor ≡ None → outcome.sent ≡ [] → IsDone given s l (acts Nothing) ms outcome → IsLine given s l ms actor asked outcome
+pub quiet_line : (given : Environment) (s : State) (l : Ledger) (ms : ℕ) (actor : Actor) (asked : Result Request ImFault) (outcome : PlainOutcome) → asker s.node actor ≡ None → outcome.sent ≡ [] → IsDone given s l (acts Nothing) ms outcome → IsLine given s l ms actor asked outcome
 quiet_line given s l ms actor asked outcome none sends done =
     let same = nobody_steps given s actor ms asked (deadline_for s (asker s.node actor)) none in
     record {
@@ -220,7 +220,7 @@ left_due : (due : Bool) (armed : Option Armed) (ds : List PlainDeadline) → lef
 left_due true armed ds = left_armed armed ds
 left_due false armed ds = refl
 
-pub tick_of : TakesTheAddedAway → (given : Given) (s : State) (l : Ledger) (ms : ℕ) (outcome : PlainOutcome) → IsValid s.node → outcome.sent ≡ [] → outcome.ms ≡ ms → may_record outcome.node.told l.history ≡ true → applied_subs outcome.subs ms l.subs ≡ l.subs → IsPlan given s.node Expire ms outcome.node
+pub tick_of : TakesTheAddedAway → (given : Environment) (s : State) (l : Ledger) (ms : ℕ) (outcome : PlainOutcome) → IsValid s.node → outcome.sent ≡ [] → outcome.ms ≡ ms → may_record outcome.node.told l.history ≡ true → applied_subs outcome.subs ms l.subs ≡ l.subs → IsPlan given s.node Expire ms outcome.node
     → unwrap_or outcome.deadlines s.deadlines ≡ left_without outcome.node.gone s.deadlines → IsTick given s l ms outcome
 tick_of takes given s l ms outcome valid sends time may made plan left =
     let gone : outcome.node.gone ≡ (if is_due s.node.armed ms then added_in s.node.armed else None) = ap (λ (aside : Aside). aside.gone) plan.aside ∙ takes given s.node ms valid in
@@ -236,7 +236,7 @@ tick_of takes given s l ms outcome valid sends time may made plan left =
 -- What no line of a plain actor does.
 
 -- time passes
-pub passes : (given : Given) (s : State) (l : Ledger) (sent : List Sent) (ms : ℕ) (subs : SubsBehind) (outcome : PlainOutcome) → outcome.sent ≡ sent → outcome.deadlines ≡ None → outcome.ms ≡ ms → outcome.subs ≡ subs → may_record outcome.node.told l.history ≡ true → IsPlan given s.node Nothing ms outcome.node
+pub passes : (given : Environment) (s : State) (l : Ledger) (sent : List Sent) (ms : ℕ) (subs : SubsBehind) (outcome : PlainOutcome) → outcome.sent ≡ sent → outcome.deadlines ≡ None → outcome.ms ≡ ms → outcome.subs ≡ subs → may_record outcome.node.told l.history ≡ true → IsPlan given s.node Nothing ms outcome.node
     → IsPassing given s l sent ms subs outcome
 passes given s l sent ms subs outcome sends none time made may plan =
     let deadlines : unwrap_or outcome.deadlines s.deadlines ≡ deadlines_of_those_left s.node (after_action given s.node Nothing ms) s.deadlines =
@@ -249,16 +249,16 @@ passes given s l sent ms subs outcome sends none time made may plan =
     }
 
 -- what is done where time passes, and this is made of the subscriptions
-pub passing_does : (given : Given) (s : State) (l : Ledger) (sent : List Sent) (ms : ℕ) (subs : SubsBehind) (doing : Doing) (outcome : PlainOutcome) → action_in doing ≡ Nothing → applied_subs subs ms l.subs ≡ subs_done s.node l ms doing
-    → IsPassing given s l sent ms subs outcome → IsDone given s l doing ms outcome
-passing_does given s l sent ms subs doing outcome nothing made passing = record {
+pub passing_does : (given : Environment) (s : State) (l : Ledger) (sent : List Sent) (ms : ℕ) (subs : SubsBehind) (activity : Activity) (outcome : PlainOutcome) → action_in activity ≡ Nothing → applied_subs subs ms l.subs ≡ subs_done s.node l ms activity
+    → IsPassing given s l sent ms subs outcome → IsDone given s l activity ms outcome
+passing_does given s l sent ms subs activity outcome nothing made passing = record {
   state = passing.state ∙ ap (λ (a : Action). record { node = after_action given s.node a ms; deadlines = deadlines_of_those_left s.node (after_action given s.node a ms) s.deadlines }) (sym nothing);
   ledger = passing.ledger ∙ (λ i. record { history = history_behind given s.node (sym nothing i) ms l.history; subs = left_in (after_action given s.node (sym nothing i) ms) (made i) });
   planned = passing.planned;
 }
 
 -- what is asked over a session
-pub asked_over : (given : Given) (s : State) (l : Ledger) (ms : ℕ) (actor asking : Actor) (request : Request) (timed : Option ℕ) (outcome : PlainOutcome) → asker s.node actor ≡ Some asking → outcome.ms ≡ ms → may_record outcome.node.told l.history ≡ true → IsPlan given s.node (Ask actor request timed) ms outcome.node
+pub asked_over : (given : Environment) (s : State) (l : Ledger) (ms : ℕ) (actor asking : Actor) (request : Request) (timed : Option ℕ) (outcome : PlainOutcome) → asker s.node actor ≡ Some asking → outcome.ms ≡ ms → may_record outcome.node.told l.history ≡ true → IsPlan given s.node (Ask actor request timed) ms outcome.node
     → applied_subs outcome.subs ms l.subs ≡ behind_wish_if_any s.node l ms (wish_in_time asking timed ms request)
     → unwrap_or outcome.deadlines s.deadlines ≡ left_without outcome.node.gone s.deadlines → IsDone given s l (acts (Ask actor request timed)) ms outcome
 asked_over given s l ms actor asking request timed outcome asks time may plan made left =
@@ -272,14 +272,14 @@ asked_over given s l ms actor asking request timed outcome asks time may plan ma
     }
 
 -- what it is replied
-pub replied : (given : Given) (s : NodeState) (l : Ledger) (ms : ℕ) (actor asking : Actor) (request : Request) (timed : Option ℕ) (reply : Reply) → asker s actor ≡ Some asking → reply ≡ reply_of given s (Ask actor request timed) ms
+pub replied : (given : Environment) (s : NodeState) (l : Ledger) (ms : ℕ) (actor asking : Actor) (request : Request) (timed : Option ℕ) (reply : Reply) → asker s actor ≡ Some asking → reply ≡ reply_of given s (Ask actor request timed) ms
     → with_wish s l (wish_in_time asking timed ms request) (with_events (events_for s l.history (Some asking) request) reply) ≡ full_reply given s l (Ask actor request timed) ms
 replied given s l ms actor asking request timed reply asks is =
     ap (λ (r : Reply). with_wish s l (wish_in_time asking timed ms request) (with_events (events_for s l.history (Some asking) request) r)) is
     ∙ ap (λ (a : Option Actor). with_wish s l (wish_asked a timed ms request) (with_events (events_for s l.history a request) (reply_of given s (Ask actor request timed) ms))) (sym asks)
 
 -- and where nobody is taken as asking
-pub nobody_over : (given : Given) (s : State) (l : Ledger) (ms : ℕ) (actor : Actor) (request : Request) (timed : Option ℕ) (outcome : PlainOutcome) → asker s.node actor ≡ None
+pub nobody_over : (given : Environment) (s : State) (l : Ledger) (ms : ℕ) (actor : Actor) (request : Request) (timed : Option ℕ) (outcome : PlainOutcome) → asker s.node actor ≡ None
     → IsDone given s l (acts Nothing) ms outcome → IsDone given s l (acts (Ask actor request timed)) ms outcome
 nobody_over given s l ms actor request timed outcome none quiet =
     let same = nobody_steps given s actor ms (Ok request) timed none in
@@ -289,5 +289,5 @@ nobody_over given s l ms actor request timed outcome none quiet =
       planned = quiet.planned;
     }
 
-pub nobody_replied : (given : Given) (s : NodeState) (l : Ledger) (ms : ℕ) (actor : Actor) (request : Request) (timed : Option ℕ) → asker s actor ≡ None → full_reply given s l (Ask actor request timed) ms ≡ replies.Nothing
+pub nobody_replied : (given : Environment) (s : NodeState) (l : Ledger) (ms : ℕ) (actor : Actor) (request : Request) (timed : Option ℕ) → asker s actor ≡ None → full_reply given s l (Ask actor request timed) ms ≡ replies.Nothing
 nobody_replied given s l ms actor request timed none = ap (λ (a : Option Actor). with_wish s l (wish_asked a timed ms request) (with_events (events_for s l.history a request) (asked_reply given s request timed ms a))) none

@@ -6,7 +6,7 @@ use Rattle.mt_tlv.specs.declared.value.Value.{Value}
 use Rattle.mt_model.specs.declared.node.action.NodeStep.{NodeStep}
 use Rattle.mt_model.specs.declared.node.action.NodeStep.TheVariants.{Emit}
 use Rattle.mt_model.specs.declared.rows.place.Place.{Place}
-use Rattle.mt_history.specs.History.{History}
+use Rattle.mt_ledger.specs.history.History.{History}
 use Rattle.mt_plain.specs.Recording.{is_of_a_fabric, may_record}
 
 pub of_a_fabric : (place : Place) (priority fabric : ℕ) (value : Value) → is_of_a_fabric (Emit place priority fabric value) ≡ true → fabric ≤ 16

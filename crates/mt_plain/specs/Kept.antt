@@ -5,7 +5,7 @@ use Rattle.mt_model.specs.declared.texts.config.Config.{Config}
 use Rattle.mt_model.specs.declared.texts.config.CsrRow.{CsrRow}
 use Rattle.mt_model.specs.declared.texts.config.JoinRow.{JoinRow}
 use Rattle.mt_model.specs.declared.texts.config.RootRow.{RootRow}
-use Rattle.mt_machine.specs.Given.{Given}
+use Rattle.mt_machine.specs.Environment.{Environment}
 use Rattle.mt_machine.specs.Opened.{opened_whole}
 use Rattle.mt_machine.specs.State.{State}
 use Rattle.mt_ledger.specs.Ledger.{Ledger, opened}
@@ -26,7 +26,7 @@ abbrev pub started : Config → Kept
 started config = record { state = opened_whole config; ledger = opened; config = contents_of config }
 
 -- what is given to it, where these are the rows of the verdicts
-abbrev pub given_to : Kept → List RootRow → List CsrRow → List JoinRow → Given
+abbrev pub given_to : Kept → List RootRow → List CsrRow → List JoinRow → Environment
 given_to kept roots csrs joins = nodes.given_to (node_of kept) roots csrs joins
 
 -- the same plain in another state, with another ledger

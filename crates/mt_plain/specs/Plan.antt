@@ -10,16 +10,16 @@ use Rattle.mt_model.specs.declared.texts.recording.Sent.{Sent}
 use Rattle.mt_node.specs.Plan.{IsPlanned, applied}
 use Rattle.mt_model.specs.declared.node.action.Action.TheVariants.{Expire, Nothing}
 use Rattle.mt_subs.specs.Leaving.{left_in}
-use Rattle.mt_machine.specs.Given.{Given}
+use Rattle.mt_machine.specs.Environment.{Environment}
 use Rattle.mt_machine.specs.Isolation.{is_deadline_in}
 use Rattle.mt_machine.specs.Lines.{behind_action, next_for, next_tick, without}
 use Rattle.mt_machine.specs.State.{State}
 use Rattle.mt_machine.specs.Step.{after_action}
-use Rattle.mt_history.specs.Behind.{history_behind}
-use Rattle.mt_history.specs.History.{History, recorded_all, without_left}
-use Rattle.mt_ledger.specs.Behind.{Doing, acts, action_in, ledger_behind}
+use Rattle.mt_ledger.specs.history.Behind.{history_behind}
+use Rattle.mt_ledger.specs.history.History.{History, recorded_all, without_left}
+use Rattle.mt_ledger.specs.Behind.{Activity, acts, action_in, ledger_behind}
 use Rattle.mt_ledger.specs.Ledger.{Ledger}
-use Rattle.mt_lines.specs.Lines.{action_asked, sent_asked}
+use Rattle.mt_runs.specs.Lines.{action_asked, sent_asked}
 use Rattle.mt_plain.specs.Recording.{may_record}
 use Rattle.mt_plain.specs.Subscribing.{applied_subs}
 use Rattle.mt_plain.specs.declared.behind.SubsBehind.{SubsBehind}
@@ -61,27 +61,27 @@ pub record IsPlainPlanned (s : State) (l : Ledger) (outcome : PlainOutcome) : Ty
   pub recordable : may_record outcome.node.told l.history ≡ true
 
 -- The outcome is that of a line of this actor, whose payload was decoded to this.
-pub record IsLine (given : Given) (s : State) (l : Ledger) (ms : ℕ) (actor : Actor) (asked : Result Request ImFault) (outcome : PlainOutcome) : Type 0 where
+pub record IsLine (given : Environment) (s : State) (l : Ledger) (ms : ℕ) (actor : Actor) (asked : Result Request ImFault) (outcome : PlainOutcome) : Type 0 where
   pub sent : outcome.sent ≡ sent_asked given s l actor ms asked
   pub state : applied_plain outcome s ≡ next_for given s actor ms asked
   pub ledger : applied_ledger outcome s l ≡ ledger_behind given s.node (acts (action_asked s actor asked)) ms l
   pub planned : IsPlainPlanned s l outcome
 
 -- The outcome is that of a time step.
-pub record IsTick (given : Given) (s : State) (l : Ledger) (ms : ℕ) (outcome : PlainOutcome) : Type 0 where
+pub record IsTick (given : Environment) (s : State) (l : Ledger) (ms : ℕ) (outcome : PlainOutcome) : Type 0 where
   pub sent : outcome.sent ≡ []
   pub state : applied_plain outcome s ≡ next_tick given s ms
   pub ledger : applied_ledger outcome s l ≡ ledger_behind given s.node (acts Expire) ms l
   pub planned : IsPlainPlanned s l outcome
 
 -- The outcome is that of this, which no line of a plain actor does.
-pub record IsDone (given : Given) (s : State) (l : Ledger) (doing : Doing) (ms : ℕ) (outcome : PlainOutcome) : Type 0 where
-  pub state : applied_plain outcome s ≡ behind_action given s (action_in doing) ms
-  pub ledger : applied_ledger outcome s l ≡ ledger_behind given s.node doing ms l
+pub record IsDone (given : Environment) (s : State) (l : Ledger) (activity : Activity) (ms : ℕ) (outcome : PlainOutcome) : Type 0 where
+  pub state : applied_plain outcome s ≡ behind_action given s (action_in activity) ms
+  pub ledger : applied_ledger outcome s l ≡ ledger_behind given s.node activity ms l
   pub planned : IsPlainPlanned s l outcome
 
 -- Time passes, this is sent, and this is made of the subscriptions.
-pub record IsPassing (given : Given) (s : State) (l : Ledger) (messages : List Sent) (ms : ℕ) (made : SubsBehind) (outcome : PlainOutcome) : Type 0 where
+pub record IsPassing (given : Environment) (s : State) (l : Ledger) (messages : List Sent) (ms : ℕ) (made : SubsBehind) (outcome : PlainOutcome) : Type 0 where
   pub sent : outcome.sent ≡ messages
   pub state : applied_plain outcome s ≡ behind_action given s Nothing ms
   pub ledger : applied_ledger outcome s l ≡ record { history = history_behind given s.node Nothing ms l.history; subs = left_in (after_action given s.node Nothing ms) (applied_subs made ms l.subs) }

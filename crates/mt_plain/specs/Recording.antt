@@ -3,7 +3,7 @@ use Rattle.std.specs.Prelude.{◌^◌, ◌&&◌, nat_le, Bool, true, List, lengt
 use Rattle.std.specs.List.{list_all}
 use Rattle.mt_model.specs.declared.node.action.NodeStep.{NodeStep}
 use Rattle.mt_model.specs.declared.node.action.NodeStep.TheVariants.{Emit}
-use Rattle.mt_history.specs.History.{History}
+use Rattle.mt_ledger.specs.history.History.{History}
 
 -- it is told to all, or to a fabric that there may be
 abbrev pub is_of_a_fabric : NodeStep → Bool

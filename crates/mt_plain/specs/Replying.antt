@@ -9,7 +9,7 @@ use Rattle.mt_model.specs.declared.texts.recording.Sent.{Sent}
 use Rattle.mt_machine.specs.Lines.{is_refused, sent_as}
 use Rattle.mt_machine.specs.State.{State}
 use Rattle.mt_machine.specs.Step.{refusal}
-use Rattle.mt_history.specs.Asking.{events_asked, with_events}
+use Rattle.mt_ledger.specs.history.Asking.{events_asked, with_events}
 use Rattle.mt_ledger.specs.Ledger.{Ledger}
 
 -- a reply of the node, and the events that the request asks for, or the refusal of a time for which there is no room

@@ -6,7 +6,7 @@ use Rattle.mt_model.specs.declared.messages.message.Reply.{Reply}
 use Rattle.mt_model.specs.declared.node.state.NodeState.{NodeState}
 use Rattle.mt_model.specs.declared.texts.recording.Sent.{Sent}
 use Rattle.mt_machine.specs.Lines.{sent_as}
-use Rattle.mt_history.specs.History.{History}
+use Rattle.mt_ledger.specs.history.History.{History}
 use Rattle.mt_ledger.specs.Reporting.{Due, due_report}
 use Rattle.mt_plain.specs.declared.reports.DueReport as code
 

@@ -5,14 +5,14 @@ ghost use Rattle.std.specs.List.{list_all, list_any};
 ghost use Rattle.mt_events.specs.Reading.{asking, is_told};
 ghost use Rattle.mt_events.specs.Rings.{AreRings};
 ghost use Rattle.mt_events.specs.Telling.{answered, events_for, told};
-ghost use Rattle.mt_history.specs.History.{happened, opened, recorded, recorded_all, start_up, without_left};
+ghost use Rattle.mt_ledger.specs.history.History.{happened, opened, recorded, recorded_all, start_up, without_left};
 ghost use Rattle.mt_tlv.specs.declared.value.Tag.TheVariants.{Context};
 ghost use Rattle.mt_tlv.specs.declared.value.Value.TheVariants as kinds;
 ghost use Rattle.mt_tlv.specs.Tree.{uint, none, more};
 ghost use Rattle.mt_plain.specs.Recording.{is_of_a_fabric, may_record};
 
 use mt_events::{Numbers, Rings};
-use mt_history::{histories_grow_by_events, histories_stay_histories};
+use mt_ledger::{histories_grow_by_events, histories_stay_histories};
 use mt_meta::clusters::BASIC_INFORMATION;
 use mt_meta::clusters::basic_information::START_UP;
 use mt_model::limits::FABRICS;
@@ -47,7 +47,7 @@ impl Drop for History {
 }
 
 impl Model for History {
-    ghost use Rattle.mt_history.specs.History as histories;
+    ghost use Rattle.mt_ledger.specs.history.History as histories;
     ghost use Rattle.mt_tlv.specs.contracts.value.Value as values;
     ghost use Rattle.std.specs.Coded.{codes};
 

@@ -4,9 +4,9 @@ ghost use Rattle.std.specs.Prelude.{◌≡◌, [], Ok, IfOk, map, option_copied}
 ghost use Rattle.mt_machine.specs.Lines.{action_of};
 ghost use Rattle.mt_machine.specs.Step.{session_actor};
 ghost use Rattle.mt_model.specs.declared.messages.message.Payload.{Payload};
-ghost use Rattle.mt_lines.specs.Datagrams.{actor_on, dated, deadline_set, payloads_confirmed, payloads_over};
-ghost use Rattle.mt_lines.specs.Whole.{fabric_over};
-ghost use Rattle.mt_history.specs.Asking.{events_asked, with_events};
+ghost use Rattle.mt_runs.specs.Datagrams.{actor_on, dated, deadline_set, payloads_confirmed, payloads_over};
+ghost use Rattle.mt_runs.specs.Whole.{fabric_over};
+ghost use Rattle.mt_ledger.specs.history.Asking.{events_asked, with_events};
 ghost use Rattle.mt_ledger.specs.Asking.{with_wish};
 ghost use Rattle.mt_ledger.specs.Behind.{acts, confirms, ends};
 ghost use Rattle.mt_ledger.specs.Subscribing.{behind_wish_if_any, confirm_reply, wish_in_time};

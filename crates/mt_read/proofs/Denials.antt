@@ -17,7 +17,7 @@ use Rattle.mt_model.specs.declared.rows.place.Place.{Place}
 use Rattle.mt_model.specs.declared.node.state.Version.{Version}
 use Rattle.mt_model.specs.declared.messages.status.Status.{Status}
 use Rattle.mt_model.specs.declared.messages.status.Status.TheVariants.{UnsupportedAccess, UnsupportedAttribute, UnsupportedCluster, UnsupportedEndpoint}
-use Rattle.mt_read.specs.Denials.{DeniesExactly, IsDenied, LeavesOutExactly}
+use Rattle.mt_read.specs.Denials.{DeniesReadsExactly, IsDenied, LeavesOutAttributesExactly}
 use Rattle.mt_read.specs.Reading.{concrete_items, data_items, found_items, granted_items, is_known, may_read, value_of, wildcard_items}
 
 -- Some privilege is asked everywhere.
@@ -89,10 +89,10 @@ module _ (seen : Seen) (actor : Actor) (filtered : Bool) (versions : List Versio
   either_way (inl d) = inl (from_denied seen actor place d)
   either_way (inr k) = inr k
 
-pub denies_exactly : DeniesExactly
+pub denies_exactly : DeniesReadsExactly
 denies_exactly seen actor filtered versions place = (denied_by seen actor filtered versions place (may_read seen actor place) refl, is_refused seen actor filtered versions place)
 
-pub leaves_out_exactly : LeavesOutExactly
+pub leaves_out_exactly : LeavesOutAttributesExactly
 leaves_out_exactly seen actor filtered versions place meta there =
     let item = Attribute (path_of place) (seen.version_of place.endpoint place.cluster) (value_of seen actor filtered place meta) in
     let is : wildcard_items seen actor filtered versions place ≡ (if may_read seen actor place then data_items seen actor filtered versions place meta else []) = ap (λ r. if may_read seen actor place then granted_items seen actor filtered versions place r else []) there in (

@@ -22,12 +22,12 @@ pub record IsDenied (seen : Seen) (actor : Actor) (place : Place) : Type 0 where
   pub entries : list_any (own_entry_grants actor place asked) seen.entries ≡ false
 
 -- A path that names one place is answered with the status 7E exactly where that is denied.
-abbrev pub DeniesExactly : Type 0
-DeniesExactly = (seen : Seen) (actor : Actor) (filtered : Bool) (versions : List Version) (place : Place)
+abbrev pub DeniesReadsExactly : Type 0
+DeniesReadsExactly = (seen : Seen) (actor : Actor) (filtered : Bool) (versions : List Version) (place : Place)
     → (concrete_items seen actor filtered versions place ≡ Refused (path_of place) 0x7e ∷ []) ↔ IsDenied seen actor place
 
 -- A place of the table that a wildcard names is left out exactly where that is denied, or where the reader has the data of
 -- its cluster in this version already.
-abbrev pub LeavesOutExactly : Type 0
-LeavesOutExactly = (seen : Seen) (actor : Actor) (filtered : Bool) (versions : List Version) (place : Place) (meta : Meta) → find_of place ≡ Ok meta
+abbrev pub LeavesOutAttributesExactly : Type 0
+LeavesOutAttributesExactly = (seen : Seen) (actor : Actor) (filtered : Bool) (versions : List Version) (place : Place) (meta : Meta) → find_of place ≡ Ok meta
     → (wildcard_items seen actor filtered versions place ≡ []) ↔ (IsDenied seen actor place ⊎ (is_known seen versions place ≡ true))

@@ -13,4 +13,4 @@ mod reader;
 mod values;
 
 pub use answering::{ReadFault, read};
-pub use laws::denials_are_exact;
+pub use laws::read_denials_are_exact;

@@ -18,7 +18,7 @@ use Rattle.mt_model.specs.declared.tables.access.Auth.TheVariants.{Case, Group, 
 use Rattle.mt_model.specs.declared.tables.fabric.Fabric.{Fabric}
 use Rattle.mt_model.specs.declared.texts.recording.Event.{Event}
 use Rattle.mt_model.specs.declared.texts.recording.Event.TheVariants as events
-use Rattle.mt_machine.specs.Given.{Given}
+use Rattle.mt_machine.specs.Environment.{Environment}
 use Rattle.mt_machine.specs.Lines.{line_actor}
 use Rattle.mt_machine.specs.State.{IsValid, is_among, is_member, is_plain_of, is_session, stands_rightly}
 use Rattle.mt_machine.specs.Step.{asker, case_actor, live_actor, pase_actor}
@@ -28,10 +28,10 @@ use Rattle.mt_subs.specs.declared.subscription.Kept.{Kept}
 use Rattle.mt_subs.specs.declared.subscription.Subscription.{Subscription}
 use Rattle.mt_ledger.specs.Ledger.{IsLedger, Ledger}
 use Rattle.mt_ledger.specs.Reporting.{due_kept, due_now}
-use Rattle.mt_lines.specs.Datagrams.{session_named}
-use Rattle.mt_lines.specs.Isolation.{IsValidWhole}
-use Rattle.mt_lines.specs.Lines.{fabric_named, fabric_of, sent, sent_due, sent_line}
-use Rattle.mt_lines.specs.Whole.{Whole}
+use Rattle.mt_runs.specs.Datagrams.{session_named}
+use Rattle.mt_runs.specs.Isolation.{IsValidWhole}
+use Rattle.mt_runs.specs.Lines.{fabric_named, fabric_of, sent, sent_due, sent_line}
+use Rattle.mt_runs.specs.Whole.{Whole}
 use Rattle.mt_runs.specs.Marks.{is_in}
 
 pub contradiction : true ≡ false → ⊥
@@ -145,7 +145,7 @@ module _ (s : NodeState) (valid : IsValid s) (fabric : ℕ) (some : fabric ≢ 0
       ap (λ (n : ℕ). if is_member n s then Some (case_actor other node cats) else None) is
       ∙ ap (λ (b : Bool). if b then Some (case_actor other node cats) else None) out
 
-module _ (given : Given) (fabric : ℕ) (w : Whole) (valid : IsValidWhole w) (some : fabric ≢ 0) (out : is_in fabric w ≡ false) where
+module _ (given : Environment) (fabric : ℕ) (w : Whole) (valid : IsValidWhole w) (some : fabric ≢ 0) (out : is_in fabric w ≡ false) where
   abbrev s : NodeState
   s = w.state.node
 

@@ -7,11 +7,11 @@ use Rattle.mt_model.specs.declared.node.state.NodeState.{NodeState}
 use Rattle.mt_model.specs.declared.tables.fabric.Fabric.{Fabric}
 use Rattle.mt_model.specs.declared.texts.recording.Event.{Event}
 use Rattle.mt_model.specs.declared.texts.recording.Event.TheVariants as events
-use Rattle.mt_machine.specs.Given.{Given}
+use Rattle.mt_machine.specs.Environment.{Environment}
 use Rattle.mt_machine.specs.Step.{closed_between, is_live}
-use Rattle.mt_lines.specs.Isolation.{own_part}
-use Rattle.mt_lines.specs.Lines.{is_built, next}
-use Rattle.mt_lines.specs.Whole.{SessionTalk, Whole, let_go, without_ended}
+use Rattle.mt_runs.specs.Isolation.{own_part}
+use Rattle.mt_runs.specs.Lines.{is_built, next}
+use Rattle.mt_runs.specs.Whole.{SessionTalk, Whole, let_go, without_ended}
 use Rattle.mt_runs.specs.Marks.{is_in}
 use Rattle.mt_runs.specs.Replay.{held, if_there}
 use Rattle.mt_runs.proofs.Absent.{contradiction}
@@ -55,7 +55,7 @@ none_ended (t ∷ talks) = ap (λ (rest : List SessionTalk). t ∷ rest) (none_e
 none_let_go : (s : NodeState) (talks : List SessionTalk) → map (let_go s s) talks ≡ talks
 none_let_go s talks = ap (λ (closed : List ℕ). map (without_ended closed) talks) (none_closed s.sessions) ∙ none_ended talks
 
-pub stop_leaves : (given : Given) (w : Whole) (e : Event) → is_built e ≡ false → next given w e ≡ w
+pub stop_leaves : (given : Environment) (w : Whole) (e : Event) → is_built e ≡ false → next given w e ≡ w
 stop_leaves given w (events.Ask ms fabric node cats opcode payload) stops = absurd (contradiction stops)
 stop_leaves given w (events.Datagram ms from bytes) stops = absurd (contradiction stops)
 stop_leaves given w (events.Tick ms) stops = absurd (contradiction stops)

@@ -1,6 +1,14 @@
 pub mod Absent
 pub mod Holding
+pub mod Ids
+pub mod Keeping
+pub mod Leaving
 pub mod Marking
-pub mod Steps
-pub mod Replays
 pub mod Naming
+pub mod Replays
+pub mod Sending
+pub mod Sessions
+pub mod Steps
+pub mod Subscribers
+pub mod Talks
+pub mod Valid

@@ -2,15 +2,15 @@
 use Rattle.std.proofs.Common.{◌≡◌, ℕ, ◌&&◌, not, Bool, true, false, List, [], ◌∷◌, ◌++◌, Option, Some, None, inl, inr, refl, sym, ap, ◌∙◌, append_assoc, if◌then◌else◌}
 use Rattle.std.proofs.lemmas.Bool.{cases_Bool}
 use Rattle.mt_model.specs.declared.texts.recording.Event.{Event}
-use Rattle.mt_machine.specs.Given.{Given}
-use Rattle.mt_lines.specs.Isolation.{OwnPart, PublicPart, own_part, public_part}
-use Rattle.mt_lines.specs.Whole.{Whole}
+use Rattle.mt_machine.specs.Environment.{Environment}
+use Rattle.mt_runs.specs.Isolation.{OwnPart, PublicPart, own_part, public_part}
+use Rattle.mt_runs.specs.Whole.{Whole}
 use Rattle.mt_runs.specs.Marks.{Mark, born, gone, if_born, if_gone, if_seen, is_in, is_of, is_seen, seen}
 use Rattle.mt_runs.specs.Messages.{Message}
 use Rattle.mt_runs.specs.Replay.{held, held_after, held_behind, replayed, sent_at}
 use Rattle.mt_runs.proofs.Holding.{held_out}
 
-module _ (given : Given) (fabric : ℕ) where
+module _ (given : Environment) (fabric : ℕ) where
   -- Some marks, and others behind them.
 
   pub held_append : (some others : List Mark) (o : Option OwnPart) → held_after given fabric o (some ++ others) ≡ held_after given fabric (held_after given fabric o some) others

@@ -15,15 +15,15 @@ use Rattle.mt_model.specs.declared.texts.recording.Event.{Event}
 use Rattle.mt_model.specs.declared.texts.recording.Event.TheVariants as events
 use Rattle.mt_model.specs.declared.texts.recording.Sent.{Sent}
 use Rattle.mt_outside.specs.declared.network.Peer.{Peer}
-use Rattle.mt_machine.specs.Given.{Given}
+use Rattle.mt_machine.specs.Environment.{Environment}
 use Rattle.mt_machine.specs.Lines.{sent_as, sent_plain}
 use Rattle.mt_machine.specs.State.{is_member}
 use Rattle.mt_machine.specs.Step.{asker, case_actor, pase_actor}
 use Rattle.mt_ledger.specs.Asking.{full_line_reply, line_response}
 use Rattle.mt_ledger.specs.Reporting.{Due, due_now, due_report}
-use Rattle.mt_lines.specs.Datagrams.{all_sent, datagram_of, heard, if_any, its_answer, sent_at, session_named}
-use Rattle.mt_lines.specs.Lines.{fabric_of, is_built, next, reported_over, resent_named, sent, sent_due, sent_line, sent_named, sent_to}
-use Rattle.mt_lines.specs.Whole.{SessionTalk, Whole, is_live, talk_of}
+use Rattle.mt_runs.specs.Datagrams.{all_sent, datagram_of, heard, if_any, its_answer, sent_at, session_named}
+use Rattle.mt_runs.specs.Lines.{fabric_of, is_built, next, reported_over, resent_named, sent, sent_due, sent_line, sent_named, sent_to}
+use Rattle.mt_runs.specs.Whole.{SessionTalk, Whole, is_live, talk_of}
 use Rattle.mt_talk.specs.Talks.{report_in, resent_in, sent_by}
 use Rattle.mt_runs.specs.Messages.{message_to, messages, messages_at, names, names_its_fabric}
 
@@ -50,7 +50,7 @@ over_fits : (ms fabric id : ℕ) (peer : Option Peer) (datagrams : List (List �
 over_fits ms fabric id None datagrams = refl
 over_fits ms fabric id (Some peer) datagrams = session_fits ms fabric id peer datagrams
 
-module _ (given : Given) (w : Whole) where
+module _ (given : Environment) (w : Whole) where
   -- a line of a plain actor
   module _ (ms : ℕ) (asked : Result Request ImFault) (actor : Actor) where
     taken_fits : (asking : Actor) → list_all (fits asking.fabric) (sent_line given w.state w.ledger actor ms asked (Some asking)) ≡ true
@@ -116,7 +116,7 @@ module _ (given : Given) (w : Whole) where
   pub line_names : (e : Event) → list_all names_its_fabric (messages_at given w e) ≡ true
   line_names e = list_all-map names_its_fabric (message_to (fabric_of w.state.node e)) (sent given w e) ∙ sent_fits e
 
-pub run_names : (given : Given) (es : List Event) (w : Whole) → list_all names_its_fabric (messages given w es) ≡ true
+pub run_names : (given : Environment) (es : List Event) (w : Whole) → list_all names_its_fabric (messages given w es) ≡ true
 run_names given [] w = refl
 run_names given (e ∷ es) w =
     let now = next given w e in

@@ -6,11 +6,11 @@ use Rattle.std.proofs.lemmas.List.Elements.{filter-append}
 use Rattle.mt_model.specs.declared.texts.recording.Event.{Event}
 use Rattle.mt_model.specs.declared.texts.recording.Sent.{Sent}
 use Rattle.mt_opcreds.specs.Laws.{KeepsRules}
-use Rattle.mt_machine.specs.Given.{Given}
-use Rattle.mt_lines.specs.Isolation.{IsValidWhole, OwnPart}
-use Rattle.mt_lines.specs.Laws as laws
-use Rattle.mt_lines.specs.Lines.{fabric_of, is_built, next, run, sent}
-use Rattle.mt_lines.specs.Whole.{Whole}
+use Rattle.mt_machine.specs.Environment.{Environment}
+use Rattle.mt_runs.specs.Isolation.{IsValidWhole, OwnPart}
+use Rattle.mt_runs.specs.LineLaws as laws
+use Rattle.mt_runs.specs.Lines.{fabric_of, is_built, next, run, sent}
+use Rattle.mt_runs.specs.Whole.{Whole}
 use Rattle.mt_runs.specs.Laws.{StrangersAreSentNothing}
 use Rattle.mt_runs.specs.Marks.{Mark, if_born, if_gone, if_seen, marks}
 use Rattle.mt_runs.specs.Messages.{Message, is_to, message_to, messages, messages_at, messages_to, whole_behind}
@@ -27,7 +27,7 @@ texts_to : (fabric : ℕ) (xs : List Sent) → map text_of (map (message_to fabr
 texts_to fabric [] = refl
 texts_to fabric (x ∷ xs) = ap (λ (rest : List Sent). x ∷ rest) (texts_to fabric xs)
 
-module _ (given : Given) where
+module _ (given : Environment) where
   pub texts : (es : List Event) (w : Whole) → run given w es ≡ map text_of (messages given w es)
   texts [] w = refl
   texts (e ∷ es) w =
@@ -43,7 +43,7 @@ module _ (given : Given) where
             ∙ sym (ap (λ (b : Bool). map text_of (if b then messages_at given w e ++ messages given now es else [])) stops)
       ]
 
-  module _ (stays : laws.StaysValid) (rules : KeepsRules given.judged) where
+  module _ (stays : laws.WholeStaysValid) (rules : KeepsRules given.judged) where
     pub stay_valid : (es : List Event) (w : Whole) → IsValidWhole w → IsValidWhole (whole_behind given w es)
     stay_valid [] w valid = valid
     stay_valid (e ∷ es) w valid =
@@ -53,14 +53,14 @@ module _ (given : Given) where
           | inr stops ↦ subst (λ (b : Bool). IsValidWhole (if b then whole_behind given now es else w)) (sym stops) valid
         ]
 
-    module _ (fabric : ℕ) (some : fabric ≢ 0) (leaves : laws.LeavesTheOwnOnTheVeil) (ticks : laws.TicksOnTheVeil) (keeps : laws.KeepsTheOwn) where
+    module _ (fabric : ℕ) (some : fabric ≢ 0) (leaves : laws.WholeLeavesTheOwnOnTheVeil) (ticks : laws.WholeTicksOnTheVeil) (keeps : laws.WholeKeepsTheOwn) where
       abbrev marks_if : Whole → Event → List Event → Bool → List Mark
       marks_if w e es built =
           if built then if_seen fabric w e ++ (if_born fabric w (next given w e) ++ (if_gone fabric w e (next given w e) ++ marks given fabric (next given w e) es))
           else if_seen fabric w e
 
       -- What is sent.
-      pub replays : laws.SendsOnTheVeil → StrangersAreSentNothing → (es : List Event) (w : Whole) → IsValidWhole w → messages_to fabric (messages given w es) ≡ replayed given fabric (held fabric w) (marks given fabric w es)
+      pub replays : laws.WholeSendsOnTheVeil → StrangersAreSentNothing → (es : List Event) (w : Whole) → IsValidWhole w → messages_to fabric (messages given w es) ≡ replayed given fabric (held fabric w) (marks given fabric w es)
       replays sends strangers [] w valid = refl
       replays sends strangers (e ∷ es) w valid =
           let now = next given w e in
@@ -80,7 +80,7 @@ module _ (given : Given) where
           ]
 
       -- What is left.
-      pub replays_left : laws.KeepsItsOwnPart → (es : List Event) (w : Whole) → IsValidWhole w → held fabric (whole_behind given w es) ≡ held_after given fabric (held fabric w) (marks given fabric w es)
+      pub replays_left : laws.WholeKeepsItsOwnPart → (es : List Event) (w : Whole) → IsValidWhole w → held fabric (whole_behind given w es) ≡ held_after given fabric (held fabric w) (marks given fabric w es)
       replays_left again [] w valid = refl
       replays_left again (e ∷ es) w valid =
           let now = next given w e in

@@ -5,12 +5,12 @@ use Rattle.mt_model.specs.declared.texts.recording.Event.{Event}
 use Rattle.mt_model.specs.declared.texts.recording.Event.TheVariants as events
 use Rattle.mt_model.specs.declared.texts.recording.Sent.{Sent}
 use Rattle.mt_opcreds.specs.Laws.{KeepsRules}
-use Rattle.mt_machine.specs.Given.{Given}
+use Rattle.mt_machine.specs.Environment.{Environment}
 use Rattle.mt_machine.specs.Lines.{is_tick}
-use Rattle.mt_lines.specs.Isolation.{IsValidWhole, OwnPart, PublicPart, own_part, public_part, seen_whole, veil}
-use Rattle.mt_lines.specs.Laws as laws
-use Rattle.mt_lines.specs.Lines.{fabric_of, is_built, next, sent}
-use Rattle.mt_lines.specs.Whole.{Whole}
+use Rattle.mt_runs.specs.Isolation.{IsValidWhole, OwnPart, PublicPart, own_part, public_part, seen_whole, veil}
+use Rattle.mt_runs.specs.LineLaws as laws
+use Rattle.mt_runs.specs.Lines.{fabric_of, is_built, next, sent}
+use Rattle.mt_runs.specs.Whole.{Whole}
 use Rattle.mt_runs.specs.Laws.{StrangersAreSentNothing}
 use Rattle.mt_runs.specs.Marks.{if_born, if_gone, if_seen, is_in, is_of, is_seen, is_stop, seen}
 use Rattle.mt_runs.specs.Messages.{Message, message_to, messages_at, messages_to}
@@ -43,7 +43,7 @@ to_another fabric other apart (x ∷ xs) =
 
 -- What time steps and stops send: nothing.
 
-stop_quiet : (given : Given) (v : Whole) (e : Event) → is_built e ≡ false → sent given v e ≡ []
+stop_quiet : (given : Environment) (v : Whole) (e : Event) → is_built e ≡ false → sent given v e ≡ []
 stop_quiet given v (events.Ask ms fabric node cats opcode payload) stops = absurd (contradiction stops)
 stop_quiet given v (events.Datagram ms from bytes) stops = absurd (contradiction stops)
 stop_quiet given v (events.Tick ms) stops = absurd (contradiction stops)
@@ -51,7 +51,7 @@ stop_quiet given v (events.Report ms fabric subscription) stops = absurd (contra
 stop_quiet given v (events.Resend ms session) stops = absurd (contradiction stops)
 stop_quiet given v (events.Stop calls fate) stops = refl
 
-common_quiet : (given : Given) (v : Whole) (e : Event) → (is_tick e || is_stop e) ≡ true → sent given v e ≡ []
+common_quiet : (given : Environment) (v : Whole) (e : Event) → (is_tick e || is_stop e) ≡ true → sent given v e ≡ []
 common_quiet given v (events.Ask ms fabric node cats opcode payload) is = absurd (contradiction (sym is))
 common_quiet given v (events.Datagram ms from bytes) is = absurd (contradiction (sym is))
 common_quiet given v (events.Tick ms) is = refl
@@ -60,7 +60,7 @@ common_quiet given v (events.Resend ms session) is = absurd (contradiction (sym 
 common_quiet given v (events.Stop calls fate) is = refl
 
 -- and what a time step leaves
-tick_leaves : laws.TicksOnTheVeil → (given : Given) (fabric : ℕ) (w : Whole) (e : Event) → IsValidWhole w → is_built e ≡ true → (is_tick e || is_stop e) ≡ true → own_part fabric (next given (veil fabric w) e) ≡ own_part fabric (next given w e)
+tick_leaves : laws.WholeTicksOnTheVeil → (given : Environment) (fabric : ℕ) (w : Whole) (e : Event) → IsValidWhole w → is_built e ≡ true → (is_tick e || is_stop e) ≡ true → own_part fabric (next given (veil fabric w) e) ≡ own_part fabric (next given w e)
 tick_leaves ticks given fabric w (events.Ask ms other node cats opcode payload) valid built is = absurd (contradiction (sym is))
 tick_leaves ticks given fabric w (events.Datagram ms from bytes) valid built is = absurd (contradiction (sym is))
 tick_leaves ticks given fabric w (events.Tick ms) valid built is = ticks given fabric w ms valid
@@ -68,7 +68,7 @@ tick_leaves ticks given fabric w (events.Report ms other subscription) valid bui
 tick_leaves ticks given fabric w (events.Resend ms session) valid built is = absurd (contradiction (sym is))
 tick_leaves ticks given fabric w (events.Stop calls fate) valid built is = absurd (contradiction (sym built))
 
-module _ (given : Given) (fabric : ℕ) (w : Whole) (valid : IsValidWhole w) (some : fabric ≢ 0) (e : Event) where
+module _ (given : Environment) (fabric : ℕ) (w : Whole) (valid : IsValidWhole w) (some : fabric ≢ 0) (e : Event) where
   abbrev public : PublicPart
   public = public_part fabric w
 
@@ -86,7 +86,7 @@ module _ (given : Given) (fabric : ℕ) (w : Whole) (valid : IsValidWhole w) (so
   stop_replayed stops = quiet_replayed (λ v. stop_quiet given v e stops) (held fabric w) (is_seen fabric w e)
 
   -- an event of its own
-  own_sent : laws.SendsOnTheVeil → StrangersAreSentNothing → is_of fabric w e ≡ true → map (message_to fabric) (sent given w e) ≡ replayed given fabric (held fabric w) (seen e public ∷ [])
+  own_sent : laws.WholeSendsOnTheVeil → StrangersAreSentNothing → is_of fabric w e ≡ true → map (message_to fabric) (sent given w e) ≡ replayed given fabric (held fabric w) (seen e public ∷ [])
   own_sent sends strangers its =
       let of_it : fabric_of w.state.node e ≡ fabric = eqb-true (fabric_of w.state.node e) fabric its in
       elim (cases_Bool (is_in fabric w)) [
@@ -106,7 +106,7 @@ module _ (given : Given) (fabric : ℕ) (w : Whole) (valid : IsValidWhole w) (so
       let common : (is_tick e || is_stop e) ≡ true = sym (ap (λ (b : Bool). b || (is_tick e || is_stop e)) other) ∙ is in
       quiet_replayed (λ v. common_quiet given v e common) (held fabric w) true
 
-  pub line_sent : laws.SendsOnTheVeil → StrangersAreSentNothing → messages_to fabric (messages_at given w e) ≡ replayed given fabric (held fabric w) (if_seen fabric w e)
+  pub line_sent : laws.WholeSendsOnTheVeil → StrangersAreSentNothing → messages_to fabric (messages_at given w e) ≡ replayed given fabric (held fabric w) (if_seen fabric w e)
   line_sent sends strangers = elim (cases_Bool (is_of fabric w e)) [
     | inl its ↦
         ap (λ (n : ℕ). messages_to fabric (map (message_to n) (sent given w e))) (eqb-true (fabric_of w.state.node e) fabric its)
@@ -121,7 +121,7 @@ module _ (given : Given) (fabric : ℕ) (w : Whole) (valid : IsValidWhole w) (so
   -- WHAT IS LEFT.
 
   -- what it sees leaves it on its veil what it leaves on the whole
-  seen_leaves : laws.LeavesTheOwnOnTheVeil → laws.TicksOnTheVeil → KeepsRules given.judged → is_built e ≡ true → is_seen fabric w e ≡ true → own_part fabric (next given (veil fabric w) e) ≡ own_part fabric (next given w e)
+  seen_leaves : laws.WholeLeavesTheOwnOnTheVeil → laws.WholeTicksOnTheVeil → KeepsRules given.judged → is_built e ≡ true → is_seen fabric w e ≡ true → own_part fabric (next given (veil fabric w) e) ≡ own_part fabric (next given w e)
   seen_leaves leaves ticks rules built sees = elim (cases_Bool (is_of fabric w e)) [
     | inl its ↦
         let of_it : fabric_of w.state.node e ≡ fabric = eqb-true (fabric_of w.state.node e) fabric its in
@@ -130,7 +130,7 @@ module _ (given : Given) (fabric : ℕ) (w : Whole) (valid : IsValidWhole w) (so
   ]
 
   -- and what it does not see leaves it its own part, where it stays in the table
-  hidden_keeps : laws.KeepsTheOwn → KeepsRules given.judged → is_seen fabric w e ≡ false → is_in fabric w ≡ true → is_in fabric (next given w e) ≡ true → own_part fabric (next given w e) ≡ own_part fabric w
+  hidden_keeps : laws.WholeKeepsTheOwn → KeepsRules given.judged → is_seen fabric w e ≡ false → is_in fabric w ≡ true → is_in fabric (next given w e) ≡ true → own_part fabric (next given w e) ≡ own_part fabric w
   hidden_keeps keeps rules hidden there still =
       let parts = or_parts (is_of fabric w e) (is_tick e || is_stop e) hidden in
       let no_tick : is_tick e ≡ false = (or_parts (is_tick e) (is_stop e) parts.1).0 in
@@ -170,7 +170,7 @@ module _ (given : Given) (fabric : ℕ) (w : Whole) (valid : IsValidWhole w) (so
     | inr out ↦ leaves_held behind there out (or_parts (is_of fabric w e) (is_tick e || is_stop e) hidden).0
   ]
 
-  pub line_left : laws.LeavesTheOwnOnTheVeil → laws.TicksOnTheVeil → laws.KeepsTheOwn → KeepsRules given.judged → is_built e ≡ true → after_line given fabric w (next given w e) e ≡ held fabric (next given w e)
+  pub line_left : laws.WholeLeavesTheOwnOnTheVeil → laws.WholeTicksOnTheVeil → laws.WholeKeepsTheOwn → KeepsRules given.judged → is_built e ≡ true → after_line given fabric w (next given w e) e ≡ held fabric (next given w e)
   line_left leaves ticks keeps rules built = elim (cases_Bool (is_in fabric w)) [
     | inl there ↦ elim (cases_Bool (is_seen fabric w e)) [
       | inl sees ↦ ends_held (next given w e) (in_held (next given w e) there (seen_held (next given w e) (seen_leaves leaves ticks rules built sees) there sees))
@@ -181,14 +181,14 @@ module _ (given : Given) (fabric : ℕ) (w : Whole) (valid : IsValidWhole w) (so
 
   -- A stop leaves what is held.
 
-  stop_seen : laws.KeepsItsOwnPart → is_built e ≡ false → is_in fabric w ≡ true → (sees : Bool) → held_after given fabric (Some (own_part fabric w)) (if sees then seen e public ∷ [] else []) ≡ held fabric w
+  stop_seen : laws.WholeKeepsItsOwnPart → is_built e ≡ false → is_in fabric w ≡ true → (sees : Bool) → held_after given fabric (Some (own_part fabric w)) (if sees then seen e public ∷ [] else []) ≡ held fabric w
   stop_seen again stops there true =
       ap (λ (v : Whole). if_there fabric (own_part fabric v)) (stop_leaves given (veil fabric w) e stops)
       ∙ ap (if_there fabric) (again fabric w valid)
       ∙ as_held fabric w
   stop_seen again stops there false = sym (held_in fabric w there)
 
-  pub stop_held : laws.KeepsItsOwnPart → is_built e ≡ false → held_after given fabric (held fabric w) (if_seen fabric w e) ≡ held fabric w
+  pub stop_held : laws.WholeKeepsItsOwnPart → is_built e ≡ false → held_after given fabric (held fabric w) (if_seen fabric w e) ≡ held fabric w
   stop_held again stops = elim (cases_Bool (is_in fabric w)) [
     | inl there ↦
         ap (λ (o : Option OwnPart). held_after given fabric o (if_seen fabric w e)) (held_in fabric w there)

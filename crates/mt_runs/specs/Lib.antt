@@ -1,4 +1,9 @@
+pub mod Datagrams
+pub mod Isolation
 pub mod Laws
+pub mod LineLaws
+pub mod Lines
 pub mod Marks
 pub mod Messages
 pub mod Replay
+pub mod Whole

@@ -4,9 +4,9 @@ use Rattle.mt_model.specs.declared.texts.recording.Event.{Event}
 use Rattle.mt_model.specs.declared.texts.recording.Sent.{Sent}
 use Rattle.mt_model.specs.declared.texts.recording.To.{To}
 use Rattle.mt_model.specs.declared.texts.recording.To.TheVariants.{Plain}
-use Rattle.mt_machine.specs.Given.{Given}
-use Rattle.mt_lines.specs.Lines.{fabric_of, is_built, next, sent}
-use Rattle.mt_lines.specs.Whole.{Whole}
+use Rattle.mt_machine.specs.Environment.{Environment}
+use Rattle.mt_runs.specs.Lines.{fabric_of, is_built, next, sent}
+use Rattle.mt_runs.specs.Whole.{Whole}
 
 -- A message, and the fabric to which it is sent: that for which its line acts.
 pub record Message : Type 0 where
@@ -17,11 +17,11 @@ abbrev pub message_to : ℕ → Sent → Message
 message_to fabric sent = record { fabric = fabric; sent = sent }
 
 -- what one line sends
-abbrev pub messages_at : Given → Whole → Event → List Message
+abbrev pub messages_at : Environment → Whole → Event → List Message
 messages_at given w event = map (message_to (fabric_of w.state.node event)) (sent given w event)
 
 -- ALL THAT A RUN SENDS, up to the first line that is not built
-abbrev pub messages : Given → Whole → List Event → List Message
+abbrev pub messages : Environment → Whole → List Event → List Message
 messages given w [] = []
 messages given w (event ∷ events) = if is_built event then messages_at given w event ++ messages given (next given w event) events else []
 
@@ -33,7 +33,7 @@ abbrev pub messages_to : ℕ → List Message → List Message
 messages_to fabric all = filter (is_to fabric) all
 
 -- the whole behind all lines, up to the first that is not built
-abbrev pub whole_behind : Given → Whole → List Event → Whole
+abbrev pub whole_behind : Environment → Whole → List Event → Whole
 whole_behind given w [] = w
 whole_behind given w (event ∷ events) = if is_built event then whole_behind given (next given w event) events else w
 

@@ -2,10 +2,10 @@
 use Rattle.std.specs.Prelude.{ℕ, Bool, List, [], ◌∷◌, ◌++◌, Option, Some, None, map, if◌then◌else◌}
 use Rattle.mt_model.specs.declared.texts.recording.Event.{Event}
 use Rattle.mt_fabrics.specs.Table.{is_used}
-use Rattle.mt_machine.specs.Given.{Given}
-use Rattle.mt_lines.specs.Isolation.{OwnPart, PublicPart, own_part, seen_whole}
-use Rattle.mt_lines.specs.Lines.{next, sent}
-use Rattle.mt_lines.specs.Whole.{Whole}
+use Rattle.mt_machine.specs.Environment.{Environment}
+use Rattle.mt_runs.specs.Isolation.{OwnPart, PublicPart, own_part, seen_whole}
+use Rattle.mt_runs.specs.Lines.{next, sent}
+use Rattle.mt_runs.specs.Whole.{Whole}
 use Rattle.mt_runs.specs.Marks.{Mark, born, gone, is_in, seen}
 use Rattle.mt_runs.specs.Messages.{Message, message_to}
 
@@ -23,31 +23,31 @@ if_there fabric o = if is_there fabric o then Some o else None
 
 -- Behind a line that it sees: what that makes of the whole that is built of its own part and of what is public to it.
 
-abbrev pub held_seen : Given → ℕ → Event → PublicPart → Option OwnPart → Option OwnPart
+abbrev pub held_seen : Environment → ℕ → Event → PublicPart → Option OwnPart → Option OwnPart
 held_seen given fabric event public None = None
 held_seen given fabric event public (Some o) = if_there fabric (own_part fabric (next given (seen_whole fabric o public) event))
 
-abbrev pub sent_seen : Given → ℕ → Event → PublicPart → Option OwnPart → List Message
+abbrev pub sent_seen : Environment → ℕ → Event → PublicPart → Option OwnPart → List Message
 sent_seen given fabric event public None = []
 sent_seen given fabric event public (Some o) = map (message_to fabric) (sent given (seen_whole fabric o public) event)
 
 -- behind a mark
-abbrev pub held_behind : Given → ℕ → Option OwnPart → Mark → Option OwnPart
+abbrev pub held_behind : Environment → ℕ → Option OwnPart → Mark → Option OwnPart
 held_behind given fabric o (seen event public) = held_seen given fabric event public o
 held_behind given fabric o (born own) = Some own
 held_behind given fabric o gone = None
 
-abbrev pub sent_at : Given → ℕ → Option OwnPart → Mark → List Message
+abbrev pub sent_at : Environment → ℕ → Option OwnPart → Mark → List Message
 sent_at given fabric o (seen event public) = sent_seen given fabric event public o
 sent_at given fabric o (born own) = []
 sent_at given fabric o gone = []
 
 -- all that it is sent
-abbrev pub replayed : Given → ℕ → Option OwnPart → List Mark → List Message
+abbrev pub replayed : Environment → ℕ → Option OwnPart → List Mark → List Message
 replayed given fabric o [] = []
 replayed given fabric o (mark ∷ marks) = sent_at given fabric o mark ++ replayed given fabric (held_behind given fabric o mark) marks
 
 -- what it holds at the end
-abbrev pub held_after : Given → ℕ → Option OwnPart → List Mark → Option OwnPart
+abbrev pub held_after : Environment → ℕ → Option OwnPart → List Mark → Option OwnPart
 held_after given fabric o [] = o
 held_after given fabric o (mark ∷ marks) = held_after given fabric (held_behind given fabric o mark) marks

@@ -1,18 +1,25 @@
-//! Whole runs, as they are written: what each fabric is sent of a run, its marks, which are what it may learn beside its own
+//! Every line of a recording and whole runs, as they are written: what a line sends and the whole behind it; what each fabric is sent of a run, its marks, which are what it may learn beside its own
 //! part, and what is made of these two. The definitions stand in `specs/`, a chapter a file; the functions here do nothing,
 //! and their contracts are the laws.
 //!
+//! - `lines`: the laws of lines; their chapters are `Whole`, `Datagrams`, `Lines`, `Isolation` and `LineLaws`;
 //! - `Messages`: all that a run sends, each message with the fabric to which it is sent;
 //! - `Marks`: the marks of a fabric in a run;
 //! - `Replay`: what a fabric is sent, made of its own part and its marks and of nothing else;
 //! - `Laws`: the laws.
 #![tactic(auto)]
 
+mod lines;
+
 ghost use Rattle.mt_runs.specs.Laws.{EqualMarksEqualMessages, EqualMarksEqualParts, LinesNameTheirFabric, RunsAreReplayed, RunsAreTheirMessages, RunsLeaveWhatIsReplayed, RunsNameTheirFabrics, RunsStayValid, StrangersAreSentNothing};
 
-use mt_lines::{
-    keeps_the_own, leaves_the_own_on_the_veil, sends_on_the_veil, ticks_see_the_mark_alone,
+use crate::lines::{
+    whole_keeps_the_own, whole_leaves_the_own_on_the_veil, whole_sends_on_the_veil, ticks_see_the_mark_alone,
     veil_keeps_the_own, wholes_are_valid,
+};
+
+pub use lines::{
+    whole_keeps_the_own, whole_leaves_the_own_on_the_veil, whole_sends_on_the_veil, ticks_see_the_mark_alone, veil_keeps_the_own, wholes_are_valid,
 };
 
 /// What is written of a run is its messages in their order, each once; and a run leaves a valid whole.
@@ -41,9 +48,9 @@ pub fn runs_are_replayed()
 {
     wholes_are_valid();
     veil_keeps_the_own();
-    sends_on_the_veil();
-    leaves_the_own_on_the_veil();
-    keeps_the_own();
+    whole_sends_on_the_veil();
+    whole_leaves_the_own_on_the_veil();
+    whole_keeps_the_own();
     ticks_see_the_mark_alone();
     strangers_are_sent_nothing();
 }

@@ -10,7 +10,7 @@ ghost use Rattle.mt_window.specs.declared.window.Seen.TheVariants.{Fresh};
 ghost use Rattle.mt_session.specs.Datagrams.{datagram, datagram_length, mirror, opened, sent_header};
 ghost use Rattle.mt_session.specs.Opening.{received};
 
-use mt_frame::written_is_read;
+use mt_frame::written_headers_are_read;
 
 /// What a session seals its mirror lets in, where the counter is new to it: the counter, the protocol
 /// header and the payload come out as they were. The mirror has the ids, nodes, keys and counters of
@@ -22,7 +22,7 @@ pub fn mirror_opens_what_is_sealed()
         → received (mirror row) accepted (datagram row counter header payload)
         ≡ Ok (record { counter = counter; header = header; payload = payload }) }
 {
-    written_is_read();
+    written_headers_are_read();
 }
 
 /// What is opened under a key, a nonce and associated data is the plaintext that is sealed to the bytes.

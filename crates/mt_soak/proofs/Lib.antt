@@ -1,2 +1,5 @@
 pub mod OneByOne
+pub mod Onward
+pub mod Over
+pub mod Short
 pub mod Totals

@@ -11,7 +11,7 @@ use Rattle.mt_tlv.specs.Tree.{Tree}
 use Rattle.mt_tlv.specs.Limits.{IsElement}
 use Rattle.mt_tlv.specs.Reading.{element_at}
 use Rattle.mt_model.specs.declared.texts.recording.Sent.{Sent}
-use Rattle.mt_codes.specs.Codes.{AreCounted, codes_of, occurrences}
+use Rattle.mt_soak.specs.Codes.{AreCounted, codes_of, occurrences}
 use Rattle.mt_files.specs.Lines.{ended, text_of}
 use Rattle.mt_files.specs.Output as output
 use Rattle.mt_files.specs.Output.{output_text}

@@ -12,7 +12,7 @@ use Rattle.mt_tlv.specs.Reading.{element_at}
 use Rattle.mt_model.specs.declared.texts.recording.Sent.{Sent}
 use Rattle.mt_model.specs.declared.texts.recording.To.{To}
 use Rattle.mt_model.specs.declared.texts.recording.To.TheVariants.{Plain, Session}
-use Rattle.mt_codes.specs.Codes.{codes_of, most, occurrences}
+use Rattle.mt_soak.specs.Codes.{codes_of, most, occurrences}
 use Rattle.mt_files.specs.Lines.{text_of}
 use Rattle.mt_files.specs.Output.{output_text}
 use Rattle.mt_soak.specs.declared.tally.Tally.{Tally}

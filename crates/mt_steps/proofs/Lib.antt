@@ -1,3 +1,3 @@
-pub mod Given
+pub mod Environment
 pub mod Joining
 pub mod Valid

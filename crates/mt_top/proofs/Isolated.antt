@@ -14,9 +14,9 @@ use Rattle.mt_model.specs.declared.texts.recording.Event.{Event}
 use Rattle.mt_model.specs.texts.Config.{are_csrs, are_joins, are_roots, is_csr, is_join, is_root}
 use Rattle.mt_model.specs.texts.Contents.{Contents, contents_of}
 use Rattle.mt_opcreds.specs.Laws.{KeepsRules}
-use Rattle.mt_machine.specs.Given.{given_by}
-use Rattle.mt_lines.specs.Isolation.{IsValidWhole}
-use Rattle.mt_lines.specs.Laws.{OpensValid}
+use Rattle.mt_machine.specs.Environment.{given_by}
+use Rattle.mt_runs.specs.Isolation.{IsValidWhole}
+use Rattle.mt_runs.specs.LineLaws.{WholeOpensValid}
 use Rattle.mt_runs.specs.Messages.{Message, messages}
 use Rattle.mt_runs.specs.Laws.{EqualMarksEqualMessages, EqualMarksEqualParts, RunsAreTheirMessages}
 use Rattle.mt_endings.specs.Endings.{Recordings, configured, of_files, recorded}
@@ -50,7 +50,7 @@ lines_of_messages : (all : List Message) → map sent_line (map (λ (message : M
 lines_of_messages [] = refl
 lines_of_messages (message ∷ all) = ap (λ (lines : List (List ℕ)). line_to message ∷ lines) (lines_of_messages all)
 
-module _ (opens : OpensValid) (theirs : RunsAreTheirMessages) (equal : EqualMarksEqualMessages) (left : EqualMarksEqualParts) where
+module _ (opens : WholeOpensValid) (theirs : RunsAreTheirMessages) (equal : EqualMarksEqualMessages) (left : EqualMarksEqualParts) where
   valid : (config : Config) → IsValidWhole (begun_with (contents_of config)).whole
   valid config = opens config.fabrics config.entries config.sessions config.fabrics_are_valid config.entries_are_valid config.sessions_are_valid
 

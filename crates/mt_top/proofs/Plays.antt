@@ -7,8 +7,8 @@ use Rattle.mt_model.specs.declared.texts.recording.Event.{Event}
 use Rattle.mt_model.specs.declared.texts.recording.Sent.{Sent}
 use Rattle.mt_files.specs.Lines.{ended}
 use Rattle.mt_files.specs.Output.{output_text, sent_line}
-use Rattle.mt_lines.specs.Lines as lines
-use Rattle.mt_lines.specs.Lines.{run}
+use Rattle.mt_runs.specs.Lines as lines
+use Rattle.mt_runs.specs.Lines.{run}
 use Rattle.mt_top.specs.Begun.{Begun, IsPlayerOf, behind, is_built, sent_by}
 use Rattle.mt_top.specs.declared.playing.Player.{Player}
 use Rattle.mt_endings.specs.declared.fault.Fault.TheVariants.{Unbuilt}

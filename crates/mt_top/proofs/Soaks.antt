@@ -7,7 +7,7 @@ use Rattle.mt_model.specs.texts.Config.{are_fabrics}
 use Rattle.mt_model.specs.declared.texts.recording.Event.{Event}
 use Rattle.mt_model.specs.declared.texts.recording.Event.TheVariants as events
 use Rattle.mt_model.specs.declared.texts.recording.Sent.{Sent}
-use Rattle.mt_lines.specs.Lines as lines
+use Rattle.mt_runs.specs.Lines as lines
 use Rattle.mt_soak.specs.Generated.{State, event_of, events_from, is_played}
 use Rattle.mt_soak.specs.Generated as generated
 use Rattle.mt_soak.specs.Summary.{IsTallyOf}

@@ -4,14 +4,14 @@ use Rattle.std.specs.Option.{option_map}
 use Rattle.mt_files.specs.Output.{sent_line}
 use Rattle.mt_model.specs.declared.texts.recording.Event.{Event}
 use Rattle.mt_model.specs.texts.Contents.{Contents}
-use Rattle.mt_lines.specs.Lines as lines
-use Rattle.mt_lines.specs.Lines.{run}
+use Rattle.mt_runs.specs.Lines as lines
+use Rattle.mt_runs.specs.Lines.{run}
 use Rattle.mt_soak.specs.Generated.{generated}
 use Rattle.mt_soak.specs.Summary.{summary_lines}
 use Rattle.mt_words.specs.Words.{asked}
 use Rattle.mt_words.specs.declared.asked.Asked.{Asked}
 use Rattle.mt_words.specs.declared.asked.Asked.TheVariants.{Compare, Replay, Soak}
-use Rattle.mt_differences.specs.Difference.{Difference, difference}
+use Rattle.mt_marks.specs.differences.Difference.{Difference, difference}
 use Rattle.mt_compare.specs.Text.{comparison_lines}
 use Rattle.mt_endings.specs.Endings.{Ending, Played, Recordings, nothing_but, of_files, of_none, of_recording, of_recordings}
 use Rattle.mt_endings.specs.declared.fault.Fault.{Fault}

@@ -5,10 +5,10 @@ use Rattle.mt_files.specs.Output.{output_text}
 use Rattle.mt_model.specs.texts.Contents.{Contents}
 use Rattle.mt_model.specs.declared.texts.recording.Event.{Event}
 use Rattle.mt_model.specs.declared.texts.recording.Sent.{Sent}
-use Rattle.mt_machine.specs.Given.{Given, given_by}
-use Rattle.mt_lines.specs.Lines as lines
-use Rattle.mt_lines.specs.Lines.{next, sent}
-use Rattle.mt_lines.specs.Whole.{Whole, whole_with}
+use Rattle.mt_machine.specs.Environment.{Environment, given_by}
+use Rattle.mt_runs.specs.Lines as lines
+use Rattle.mt_runs.specs.Lines.{next, sent}
+use Rattle.mt_runs.specs.Whole.{Whole, whole_with}
 use Rattle.mt_whole.specs.Plan.{given_to}
 use Rattle.mt_whole.specs.Talks.{IsWholeOf}
 use Rattle.mt_soak.specs.Summary.{IsTallyOf}
@@ -16,7 +16,7 @@ use Rattle.mt_soak.specs.declared.tally.Tally.{Tally}
 use Rattle.mt_top.specs.declared.playing.Player.{Player}
 
 pub record Begun : Type 0 where
-  pub given : Given
+  pub given : Environment
   pub whole : Whole
 
 -- as a configuration begins it

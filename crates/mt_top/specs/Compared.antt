@@ -6,9 +6,9 @@ use Rattle.mt_model.specs.declared.texts.config.Config.{Config}
 use Rattle.mt_model.specs.declared.texts.recording.Event.{Event}
 use Rattle.mt_model.specs.texts.Contents.{contents_of}
 use Rattle.mt_runs.specs.Marks.{marks}
-use Rattle.mt_differences.specs.Difference.{Difference}
-use Rattle.mt_differences.specs.Laws.{IsFirst}
-use Rattle.mt_differences.specs.Marked.{marked}
+use Rattle.mt_marks.specs.differences.Difference.{Difference}
+use Rattle.mt_marks.specs.differences.Laws.{IsFirst}
+use Rattle.mt_marks.specs.differences.Marked.{marked}
 use Rattle.mt_compare.specs.Text.{comparison_lines}
 use Rattle.mt_endings.specs.Endings.{Ending, Recordings, of_files}
 use Rattle.mt_endings.specs.declared.fault.Fault.TheVariants.{Differ}

@@ -6,8 +6,8 @@ use Rattle.mt_files.specs.Recording.{recording_of}
 use Rattle.mt_model.specs.declared.texts.config.Config.{Config}
 use Rattle.mt_model.specs.declared.texts.recording.Event.{Event}
 use Rattle.mt_model.specs.texts.Contents.{contents_of}
-use Rattle.mt_lines.specs.Isolation.{IsValidWhole, own_part}
-use Rattle.mt_lines.specs.Whole.{Whole}
+use Rattle.mt_runs.specs.Isolation.{IsValidWhole, own_part}
+use Rattle.mt_runs.specs.Whole.{Whole}
 use Rattle.mt_runs.specs.Marks.{marks}
 use Rattle.mt_runs.specs.Messages.{Message, messages, messages_to, whole_behind}
 use Rattle.mt_runs.specs.Replay.{held}

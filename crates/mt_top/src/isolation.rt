@@ -4,8 +4,8 @@ ghost use Rattle.mt_top.specs.Compared.{ComparisonsAreExact};
 ghost use Rattle.mt_top.specs.Denials.{DenialsAreExact};
 ghost use Rattle.mt_top.specs.Isolated.{RunsAreIsolated};
 
-use mt_differences::equal_marks_do_not_differ;
-use mt_lines::wholes_are_valid;
+use mt_marks::equal_marks_do_not_differ;
+use mt_runs::wholes_are_valid;
 use mt_runs::{equal_marks_have_equal_messages, runs_are_their_messages};
 
 /// Of every configuration and every recording: the lines to which they come are the messages of the written run, each to one
@@ -24,10 +24,10 @@ pub fn runs_are_isolated()
 pub fn denials_are_exact()
     ensures { DenialsAreExact }
 {
-    mt_events::denials_are_exact();
-    mt_read::denials_are_exact();
-    mt_write::denials_are_exact();
-    mt_invoke::denials_are_exact();
+    mt_events::event_denials_are_exact();
+    mt_read::read_denials_are_exact();
+    mt_write::write_denials_are_exact();
+    mt_invoke::command_denials_are_exact();
 }
 
 /// Two recordings of which each line is built are told to be alike for a fabric exactly where its marks are equal in both;

@@ -1,7 +1,7 @@
 //! A long input made from a number, and the summary of what is sent for it.
 
 ghost use Rattle.std.specs.Prelude.{◌≡◌, ◌≤◌, [], IfOk, OnOk, Some, length};
-ghost use Rattle.mt_lines.specs.Lines.{run};
+ghost use Rattle.mt_runs.specs.Lines.{run};
 ghost use Rattle.mt_soak.specs.Generated.{events_from};
 ghost use Rattle.mt_soak.specs.Summary.{IsTallyOf};
 ghost use Rattle.mt_top.specs.Begun.{Begun, IsPlayerOf};

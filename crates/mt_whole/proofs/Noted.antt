@@ -12,14 +12,14 @@ use Rattle.mt_outside.specs.declared.network.Peer.{Peer}
 use Rattle.mt_exchange.specs.Runs as runs
 use Rattle.mt_talk.specs.Hearing.{after_received, fresh_by}
 use Rattle.mt_talk.specs.Talks.{Talk, after_report, behind, behind_unless_refused, behind_unless_too_long, refusal_in}
-use Rattle.mt_machine.specs.Given.{Given}
+use Rattle.mt_machine.specs.Environment.{Environment}
 use Rattle.mt_ledger.specs.Reporting.{due_now}
-use Rattle.mt_lines.specs.Lines.{talks_behind, with_next}
-use Rattle.mt_lines.specs.Whole.{SessionTalk, Whole, is_talk_of, talk_of, with_talk}
+use Rattle.mt_runs.specs.Lines.{talks_behind, with_next}
+use Rattle.mt_runs.specs.Whole.{SessionTalk, Whole, is_talk_of, talk_of, with_talk}
 use Rattle.mt_plain.specs.Reporting.{reported_over}
-use Rattle.mt_told.specs.Noted.{happening_in, noted_if, noted_talk}
-use Rattle.mt_told.specs.declared.happening.Happening.{Happening}
-use Rattle.mt_told.specs.declared.happening.Note.{Note}
+use Rattle.mt_marks.specs.Noted.{happening_in, noted_if, noted_talk}
+use Rattle.mt_marks.specs.declared.happening.Happening.{Happening}
+use Rattle.mt_marks.specs.declared.happening.Note.{Note}
 use Rattle.mt_whole.specs.Noting.{IsNoteOf, behind_said, is_too_long, listed}
 use Rattle.mt_whole.proofs.Listed.{with_same}
 use Rattle.mt_whole.proofs.Planned.{due_to_plain, due_to_session, found_is, talk_told}
@@ -42,7 +42,7 @@ noted_over id t ts (Some note) next is noted =
 
 -- What a report step adds, by what is reported over which session.
 
-module _ (given : Given) (w : Whole) (ms fabric id : ℕ) where
+module _ (given : Environment) (w : Whole) (ms fabric id : ℕ) where
   abbrev pub reported_now : Option (ℕ × List Payload)
   reported_now = reported_over w.state.node w.ledger.history fabric id (due_now w.state.node w.ledger ms fabric id)
 

@@ -15,17 +15,17 @@ use Rattle.mt_outside.specs.declared.network.Peer.{Peer}
 use Rattle.mt_exchange.specs.declared.exchange.Key.{Key}
 use Rattle.mt_talk.specs.Hearing.{Said}
 use Rattle.mt_talk.specs.Talks.{Talk, after_report, after_resend, ended_in, report_in, resent_in, sent_by}
-use Rattle.mt_machine.specs.Given.{Given}
+use Rattle.mt_machine.specs.Environment.{Environment}
 use Rattle.mt_machine.specs.Lines.{behind_action, line_actor}
 use Rattle.mt_machine.specs.State.{State}
 use Rattle.mt_machine.specs.Step.{Aside, closed_between}
 use Rattle.mt_ledger.specs.Behind.{acts, action_in, ends, ledger_behind, reports}
 use Rattle.mt_ledger.specs.Ledger.{Ledger}
 use Rattle.mt_ledger.specs.Reporting.{Due, due_now, due_report}
-use Rattle.mt_lines.specs.Datagrams.{Answer, all_sent, answer_to, datagram_of, doing_said, heard, if_any, its_answer, resent_talk, sent_over, session_named, talked}
-use Rattle.mt_lines.specs.Lines as lines
-use Rattle.mt_lines.specs.Lines.{doing_again, doing_named, ledger_after, next, resent_named, sent_due, sent_named, sent_to, state_behind, talks_behind, talks_due, talks_told, with_next}
-use Rattle.mt_lines.specs.Whole.{SessionTalk, Whole, fabric_over, is_live, is_talk_of, talk_of, with_talk, without_ended}
+use Rattle.mt_runs.specs.Datagrams.{Answer, all_sent, answer_to, datagram_of, activity_said, heard, if_any, its_answer, resent_talk, sent_over, session_named, talked}
+use Rattle.mt_runs.specs.Lines as lines
+use Rattle.mt_runs.specs.Lines.{activity_again, activity_named, ledger_after, next, resent_named, sent_due, sent_named, sent_to, state_behind, talks_behind, talks_due, talks_told, with_next}
+use Rattle.mt_runs.specs.Whole.{SessionTalk, Whole, fabric_over, is_live, is_talk_of, talk_of, with_talk, without_ended}
 use Rattle.mt_whole.specs.declared.outcome.WholeOutcome.{WholeOutcome}
 use Rattle.mt_whole.specs.declared.talks.SessionTalk as code
 use Rattle.mt_plain.specs.Plan.{IsDone, IsLine, IsPlainPlanned, IsTick, applied_ledger, applied_plain}
@@ -65,48 +65,48 @@ replaced_or_same id None t talk talks ts is stays are =
 replaced_or_same id (Some made) t talk talks ts is new are = replaced id (Some made) t talk talks ts is new are
 
 -- A datagram that names no session of the boot.
-pub unheard : (given : Given) (w : Whole) (ms : ℕ) (from : Peer) (bytes : List ℕ) (outcome : WholeOutcome) → talk_of (session_named bytes) w.talks ≡ None → IsQuiet given w.state w.ledger ms outcome
+pub unheard : (given : Environment) (w : Whole) (ms : ℕ) (from : Peer) (bytes : List ℕ) (outcome : WholeOutcome) → talk_of (session_named bytes) w.talks ≡ None → IsQuiet given w.state w.ledger ms outcome
     → IsWholePlan given w (events.Datagram ms from bytes) outcome
 unheard given w ms from bytes outcome none quiet = record {
   sent = quiet.sent ∙ ap (sent_named given w.state.node w.ledger ms from bytes) (sym none);
   fresh = ap told_fresh quiet.fresh ∙ ap (fresh_named bytes) (sym none);
-  state = quiet.state ∙ ap (λ (o : Option SessionTalk). behind_action given w.state (action_in (doing_named w.state.node bytes o)) ms) (sym none);
-  ledger = quiet.ledger ∙ ap (λ (o : Option SessionTalk). ledger_behind given w.state.node (doing_named w.state.node bytes o) ms w.ledger) (sym none);
+  state = quiet.state ∙ ap (λ (o : Option SessionTalk). behind_action given w.state (action_in (activity_named w.state.node bytes o)) ms) (sym none);
+  ledger = quiet.ledger ∙ ap (λ (o : Option SessionTalk). ledger_behind given w.state.node (activity_named w.state.node bytes o) ms w.ledger) (sym none);
   talks = λ talks are. subst (λ (o : Option code.SessionTalk). AreTalks (put o talks) (with_next (talked given w.state.node w.ledger ms from bytes) (talk_of (session_named bytes) w.talks) w.talks)) (sym quiet.talk)
       (subst (λ (o : Option SessionTalk). AreTalks talks (with_next (talked given w.state.node w.ledger ms from bytes) o w.talks)) (sym none) are);
 }
 
 -- A datagram that names a session, by what that hears.
-pub heard_as_planned : (given : Given) (w : Whole) (ms : ℕ) (from : Peer) (bytes : List ℕ) (id : ℕ) (t : SessionTalk) (outcome : WholeOutcome) → session_named bytes ≡ Some id → find (is_talk_of id) w.talks ≡ Some t
+pub heard_as_planned : (given : Environment) (w : Whole) (ms : ℕ) (from : Peer) (bytes : List ℕ) (id : ℕ) (t : SessionTalk) (outcome : WholeOutcome) → session_named bytes ≡ Some id → find (is_talk_of id) w.talks ≡ Some t
     → IsHeard given w.state w.ledger ms from bytes t outcome → IsWholePlan given w (events.Datagram ms from bytes) outcome
 heard_as_planned given w ms from bytes id t outcome named is hears =
     let at : talk_of (session_named bytes) w.talks ≡ Some t = ap (λ (n : Option ℕ). talk_of n w.talks) named ∙ is in
     record {
       sent = hears.sent ∙ ap (sent_named given w.state.node w.ledger ms from bytes) (sym at);
       fresh = hears.fresh ∙ ap (fresh_named bytes) (sym at);
-      state = hears.state ∙ ap (λ (o : Option SessionTalk). behind_action given w.state (action_in (doing_named w.state.node bytes o)) ms) (sym at);
-      ledger = hears.ledger ∙ ap (λ (o : Option SessionTalk). ledger_behind given w.state.node (doing_named w.state.node bytes o) ms w.ledger) (sym at);
+      state = hears.state ∙ ap (λ (o : Option SessionTalk). behind_action given w.state (action_in (activity_named w.state.node bytes o)) ms) (sym at);
+      ledger = hears.ledger ∙ ap (λ (o : Option SessionTalk). ledger_behind given w.state.node (activity_named w.state.node bytes o) ms w.ledger) (sym at);
       talks = λ talks are. subst (λ (o : Option SessionTalk). AreTalks (put outcome.talk talks) (with_next (talked given w.state.node w.ledger ms from bytes) o w.talks)) (sym at)
           (replaced id outcome.talk t (talked given w.state.node w.ledger ms from bytes t) talks w.talks is hears.talk are);
     }
 
 -- A resend that names no session of the boot.
-pub unsent : (given : Given) (w : Whole) (ms id : ℕ) (outcome : WholeOutcome) → find (is_talk_of id) w.talks ≡ None → IsQuiet given w.state w.ledger ms outcome → IsWholePlan given w (events.Resend ms id) outcome
+pub unsent : (given : Environment) (w : Whole) (ms id : ℕ) (outcome : WholeOutcome) → find (is_talk_of id) w.talks ≡ None → IsQuiet given w.state w.ledger ms outcome → IsWholePlan given w (events.Resend ms id) outcome
 unsent given w ms id outcome none quiet = record {
   sent = quiet.sent ∙ ap (resent_named w.state.node ms) (sym none);
   fresh = ap told_fresh quiet.fresh;
   state = quiet.state;
-  ledger = quiet.ledger ∙ ap (λ (o : Option SessionTalk). ledger_behind given w.state.node (doing_again w.state.node ms o) ms w.ledger) (sym none);
+  ledger = quiet.ledger ∙ ap (λ (o : Option SessionTalk). ledger_behind given w.state.node (activity_again w.state.node ms o) ms w.ledger) (sym none);
   talks = λ talks are. subst (λ (o : Option code.SessionTalk). AreTalks (put o talks) (with_next (resent_talk w.state.node ms) (talk_of (Some id) w.talks) w.talks)) (sym quiet.talk)
       (subst (λ (o : Option SessionTalk). AreTalks talks (with_next (resent_talk w.state.node ms) o w.talks)) (sym none) are);
 }
 
-pub again_as_planned : (given : Given) (w : Whole) (ms id : ℕ) (t : SessionTalk) (outcome : WholeOutcome) → find (is_talk_of id) w.talks ≡ Some t → IsAgain given w.state w.ledger ms t outcome → IsWholePlan given w (events.Resend ms id) outcome
+pub again_as_planned : (given : Environment) (w : Whole) (ms id : ℕ) (t : SessionTalk) (outcome : WholeOutcome) → find (is_talk_of id) w.talks ≡ Some t → IsAgain given w.state w.ledger ms t outcome → IsWholePlan given w (events.Resend ms id) outcome
 again_as_planned given w ms id t outcome is again = record {
   sent = again.sent ∙ ap (resent_named w.state.node ms) (sym is);
   fresh = ap told_fresh again.fresh;
   state = again.state;
-  ledger = again.ledger ∙ ap (λ (o : Option SessionTalk). ledger_behind given w.state.node (doing_again w.state.node ms o) ms w.ledger) (sym is);
+  ledger = again.ledger ∙ ap (λ (o : Option SessionTalk). ledger_behind given w.state.node (activity_again w.state.node ms o) ms w.ledger) (sym is);
   talks = λ talks are. subst (λ (o : Option SessionTalk). AreTalks (put outcome.talk talks) (with_next (resent_talk w.state.node ms) o w.talks)) (sym is)
       (replaced_or_same id outcome.talk t (resent_talk w.state.node ms t) talks w.talks is again.talk are);
 }
@@ -114,7 +114,7 @@ again_as_planned given w ms id t outcome is again = record {
 -- What is sent again.
 
 -- over a session that is not live nothing is
-pub quiet_again : (given : Given) (s : State) (l : Ledger) (ms : ℕ) (t : SessionTalk) (outcome : WholeOutcome) → is_live s.node t.row.session ≡ false → IsQuiet given s l ms outcome → IsAgain given s l ms t outcome
+pub quiet_again : (given : Environment) (s : State) (l : Ledger) (ms : ℕ) (t : SessionTalk) (outcome : WholeOutcome) → is_live s.node t.row.session ≡ false → IsQuiet given s l ms outcome → IsAgain given s l ms t outcome
 quiet_again given s l ms t outcome off quiet = record {
   sent = quiet.sent ∙ ap (λ (b : Bool). if b then all_sent ms t.row.session t.talk.latest (resent_in t.row ms t.talk) else []) (sym off);
   fresh = quiet.fresh;
@@ -124,7 +124,7 @@ quiet_again given s l ms t outcome off quiet = record {
 }
 
 -- over one that is live these are, and these subscriptions end
-pub again_over : (given : Given) (s : State) (l : Ledger) (ms : ℕ) (t : SessionTalk) (id : ℕ) (peer : Option Peer) (datagrams : List (List ℕ)) (ids : List ℕ) (outcome : WholeOutcome) → is_live s.node t.row.session ≡ true → id ≡ t.row.session
+pub again_over : (given : Environment) (s : State) (l : Ledger) (ms : ℕ) (t : SessionTalk) (id : ℕ) (peer : Option Peer) (datagrams : List (List ℕ)) (ids : List ℕ) (outcome : WholeOutcome) → is_live s.node t.row.session ≡ true → id ≡ t.row.session
     → outcome.sent ≡ all_sent ms id peer datagrams → peer ≡ t.talk.latest → datagrams ≡ resent_in t.row ms t.talk → outcome.fresh ≡ None → IsDone given s l (ends (fabric_over s.node id) ids) ms outcome.plain → ids ≡ ended_in t.row ms t.talk
     → IsTalkBehind outcome.talk t (after_resend ms t.talk) → IsAgain given s l ms t outcome
 again_over given s l ms t id peer datagrams ids outcome on its sent there are fresh done ended talk = record {
@@ -167,7 +167,7 @@ if_ok_both (Ok x) P Q R by one other = by x one other
 if_ok_both (Err e) P Q R by one other = tt
 
 -- Where a session's datagram is sent, and which.
-pub sent_as_heard : (given : Given) (s : State) (l : Ledger) (ms : ℕ) (from : Peer) (bytes : List ℕ) (t : SessionTalk) (id : ℕ) (peer : Option Peer) (datagram : Option (List ℕ)) → id ≡ t.row.session → peer ≡ (heard s.node from bytes t).latest
+pub sent_as_heard : (given : Environment) (s : State) (l : Ledger) (ms : ℕ) (from : Peer) (bytes : List ℕ) (t : SessionTalk) (id : ℕ) (peer : Option Peer) (datagram : Option (List ℕ)) → id ≡ t.row.session → peer ≡ (heard s.node from bytes t).latest
     → datagram ≡ datagram_of t.row (heard s.node from bytes t) (its_answer given s.node l ms bytes t) → all_sent ms id peer (if_any datagram) ≡ sent_over given s.node l ms from bytes t
 sent_as_heard given s l ms from bytes t id peer datagram its there is =
     ap (λ (n : ℕ). all_sent ms n peer (if_any datagram)) its
@@ -178,8 +178,8 @@ sent_as_heard given s l ms from bytes t id peer datagram its there is =
 abbrev pub answering : Key → Option ℕ → List Payload → Option Answer
 answering key acknowledge payloads = Some (record { key = key; acknowledge = acknowledge; payloads = payloads })
 
-pub answered_with : (given : Given) (s : State) (l : Ledger) (id ms : ℕ) (said : Said) (key : Key) (acknowledge : Option ℕ) (payloads : List Payload) (made : Answering) (plain : PlainOutcome)
-    → made ≡ record { key = key; acknowledge = acknowledge; payloads = payloads } → answering key acknowledge payloads ≡ answer_to given s.node l id ms said → IsDone given s l (doing_said s.node id said) ms plain
+pub answered_with : (given : Environment) (s : State) (l : Ledger) (id ms : ℕ) (said : Said) (key : Key) (acknowledge : Option ℕ) (payloads : List Payload) (made : Answering) (plain : PlainOutcome)
+    → made ≡ record { key = key; acknowledge = acknowledge; payloads = payloads } → answering key acknowledge payloads ≡ answer_to given s.node l id ms said → IsDone given s l (activity_said s.node id said) ms plain
     → IsAnswered given s l id ms said (Some made, plain)
 answered_with given s l id ms said key acknowledge payloads made plain is answer done = record {
   answer = ap (λ (x : Answering). answer_as (Some x)) is ∙ answer;
@@ -194,7 +194,7 @@ answered_with given s l id ms said key acknowledge payloads made plain is answer
 pub plainly_planned : (s : State) (l : Ledger) (plain : PlainOutcome) (outcome : WholeOutcome) → IsPlainly plain outcome → IsPlainPlanned s l plain → IsPlainPlanned s l outcome.plain
 plainly_planned s l plain outcome its planned = subst (IsPlainPlanned s l) (sym its.plain) (record { node = planned.node; recordable = planned.recordable })
 
-pub plainly_as_planned : (given : Given) (w : Whole) (event : Event) (plain : PlainOutcome) (outcome : WholeOutcome) → IsPlainly plain outcome → plain.sent ≡ lines.sent given w event → fresh_by_line w event ≡ None
+pub plainly_as_planned : (given : Environment) (w : Whole) (event : Event) (plain : PlainOutcome) (outcome : WholeOutcome) → IsPlainly plain outcome → plain.sent ≡ lines.sent given w event → fresh_by_line w event ≡ None
     → applied_plain plain w.state ≡ state_behind given w event → applied_ledger plain w.state w.ledger ≡ ledger_after given w event → talks_behind given w event ≡ w.talks → IsWholePlan given w event outcome
 plainly_as_planned given w event plain outcome its sent_same no_fresh state_same ledger_same talks_same = record {
   sent = its.sent ∙ sent_same;
@@ -204,11 +204,11 @@ plainly_as_planned given w event plain outcome its sent_same no_fresh state_same
   talks = λ talks are. subst (λ (o : Option code.SessionTalk). AreTalks (put o talks) (talks_behind given w event)) (sym its.talk) (subst (λ (ts : List SessionTalk). AreTalks talks ts) (sym talks_same) are);
 }
 
-pub asked_as_planned : (given : Given) (w : Whole) (ms fabric node : ℕ) (cats : List ℕ) (opcode : ℕ) (payload : List ℕ) (plain : PlainOutcome) (outcome : WholeOutcome) → IsPlainly plain outcome
+pub asked_as_planned : (given : Environment) (w : Whole) (ms fabric node : ℕ) (cats : List ℕ) (opcode : ℕ) (payload : List ℕ) (plain : PlainOutcome) (outcome : WholeOutcome) → IsPlainly plain outcome
     → IsLine given w.state w.ledger ms (line_actor fabric node cats) (request_in opcode payload) plain → IsWholePlan given w (events.Ask ms fabric node cats opcode payload) outcome
 asked_as_planned given w ms fabric node cats opcode payload plain outcome its line = plainly_as_planned given w (events.Ask ms fabric node cats opcode payload) plain outcome its line.sent refl line.state line.ledger refl
 
-pub tick_as_planned : (given : Given) (w : Whole) (ms : ℕ) (plain : PlainOutcome) (outcome : WholeOutcome) → IsPlainly plain outcome → IsTick given w.state w.ledger ms plain → IsWholePlan given w (events.Tick ms) outcome
+pub tick_as_planned : (given : Environment) (w : Whole) (ms : ℕ) (plain : PlainOutcome) (outcome : WholeOutcome) → IsPlainly plain outcome → IsTick given w.state w.ledger ms plain → IsWholePlan given w (events.Tick ms) outcome
 tick_as_planned given w ms plain outcome its tick = plainly_as_planned given w (events.Tick ms) plain outcome its tick.sent refl tick.state tick.ledger refl
 
 -- A report, which is told to a plain actor, or over the session of the subscriber.
@@ -272,20 +272,20 @@ due_to_session s l talks ms fabric id None session payloads is = absurd (cc)
 due_to_session s l talks ms fabric id (Some due) session payloads is = to_session ms fabric id (due_report s l.history fabric id due) talks due.kept.sub.actor.session session payloads is
 
 -- what the plain makes of a report step
-pub record IsReported (given : Given) (s : State) (l : Ledger) (ms fabric id : ℕ) (over : Option (ℕ × List Payload)) (plain : PlainOutcome) : Type 0 where
+pub record IsReported (given : Environment) (s : State) (l : Ledger) (ms fabric id : ℕ) (over : Option (ℕ × List Payload)) (plain : PlainOutcome) : Type 0 where
   pub due : over ≡ reported_over s.node l.history fabric id (due_now s.node l ms fabric id)
   pub sent : plain.sent ≡ sent_plainly s.node l.history ms fabric id (due_now s.node l ms fabric id)
   pub done : IsDone given s l (reports fabric id) ms plain
 
 -- nothing is told over a session
-pub reported_at_once : (given : Given) (w : Whole) (ms fabric id : ℕ) (plain : PlainOutcome) (outcome : WholeOutcome) → IsReported given w.state w.ledger ms fabric id None plain → IsPlainly plain outcome
+pub reported_at_once : (given : Environment) (w : Whole) (ms fabric id : ℕ) (plain : PlainOutcome) (outcome : WholeOutcome) → IsReported given w.state w.ledger ms fabric id None plain → IsPlainly plain outcome
     → IsWholePlan given w (events.Report ms fabric id) outcome
 reported_at_once given w ms fabric id plain outcome made its =
     let told = due_to_plain w.state.node w.ledger w.talks ms fabric id (due_now w.state.node w.ledger ms fabric id) (sym made.due) in
     plainly_as_planned given w (events.Report ms fabric id) plain outcome its (made.sent ∙ told.sent) refl made.done.state made.done.ledger told.stay
 
 -- it is told over a session that is none of the boot: nothing is sent
-pub reported_to_nobody : (given : Given) (w : Whole) (ms fabric id session : ℕ) (payloads : List Payload) (plain : PlainOutcome) (outcome : WholeOutcome) → IsReported given w.state w.ledger ms fabric id (Some (session, payloads)) plain → IsPlainly plain outcome
+pub reported_to_nobody : (given : Environment) (w : Whole) (ms fabric id session : ℕ) (payloads : List Payload) (plain : PlainOutcome) (outcome : WholeOutcome) → IsReported given w.state w.ledger ms fabric id (Some (session, payloads)) plain → IsPlainly plain outcome
     → find (is_talk_of session) w.talks ≡ None → IsWholePlan given w (events.Report ms fabric id) outcome
 reported_to_nobody given w ms fabric id session payloads plain outcome made its none =
     let told = due_to_session w.state.node w.ledger w.talks ms fabric id (due_now w.state.node w.ledger ms fabric id) session payloads (sym made.due) in
@@ -293,7 +293,7 @@ reported_to_nobody given w ms fabric id session payloads plain outcome made its 
     (told.next ∙ ap (λ (o : Option SessionTalk). with_next (talk_told ms id payloads) o w.talks) none)
 
 -- it is told over this session
-pub reported_as_planned : (given : Given) (w : Whole) (ms fabric id session : ℕ) (payloads : List Payload) (plain : PlainOutcome) (t : SessionTalk) (outcome : WholeOutcome)
+pub reported_as_planned : (given : Environment) (w : Whole) (ms fabric id session : ℕ) (payloads : List Payload) (plain : PlainOutcome) (t : SessionTalk) (outcome : WholeOutcome)
     → IsReported given w.state w.ledger ms fabric id (Some (session, payloads)) plain → find (is_talk_of session) w.talks ≡ Some t → outcome.plain ≡ plain → IsToldOver ms id payloads t outcome → IsWholePlan given w (events.Report ms fabric id) outcome
 reported_as_planned given w ms fabric id session payloads plain t outcome made is same its =
     let told = due_to_session w.state.node w.ledger w.talks ms fabric id (due_now w.state.node w.ledger ms fabric id) session payloads (sym made.due) in
@@ -311,13 +311,13 @@ reported_as_planned given w ms fabric id session payloads plain t outcome made i
 closed_is : (s : State) (l : Ledger) (outcome : PlainOutcome) → IsPlainPlanned s l outcome → outcome.node.closed ≡ closed_between s.node.sessions (applied_plain outcome s).node.sessions
 closed_is s l outcome planned = ap (λ (a : Aside). a.closed) planned.node.1.1.1.aside ∙ ap (λ (n : NodeState). closed_between s.node.sessions n.sessions) (sym planned.node.1.1.1.state)
 
-pub closed_behind : (given : Given) (w : Whole) (event : Event) (outcome : WholeOutcome) → IsPlainPlanned w.state w.ledger outcome.plain → IsWholePlan given w event outcome
+pub closed_behind : (given : Environment) (w : Whole) (event : Event) (outcome : WholeOutcome) → IsPlainPlanned w.state w.ledger outcome.plain → IsWholePlan given w event outcome
     → outcome.plain.node.closed ≡ closed_between w.state.node.sessions (state_behind given w event).node.sessions
 closed_behind given w event outcome planned plan =
     closed_is w.state w.ledger outcome.plain planned ∙ ap (λ (x : State). closed_between w.state.node.sessions x.node.sessions) plan.state
 
 -- The talks behind an event, of which those that end have let go.
-pub talks_applied : (given : Given) (w : Whole) (event : Event) (s : State) (l : Ledger) (outcome : WholeOutcome) (talks behind : List code.SessionTalk) (closed : List ℕ) → s ≡ w.state → IsPlainPlanned s l outcome.plain → IsWholePlan given w event outcome
+pub talks_applied : (given : Environment) (w : Whole) (event : Event) (s : State) (l : Ledger) (outcome : WholeOutcome) (talks behind : List code.SessionTalk) (closed : List ℕ) → s ≡ w.state → IsPlainPlanned s l outcome.plain → IsWholePlan given w event outcome
     → AreTalks talks w.talks → closed ≡ outcome.plain.node.closed → ((ts : List SessionTalk) → AreTalks (put outcome.talk talks) ts → AreTalks behind (map (without_ended closed) ts)) → AreTalks behind (next given w event).talks
 talks_applied given w event s l outcome talks behind closed same planned plan are ended lets_go =
     let ended_is : closed ≡ closed_between w.state.node.sessions (state_behind given w event).node.sessions =

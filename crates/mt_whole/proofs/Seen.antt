@@ -10,8 +10,8 @@ use Rattle.mt_machine.specs.Isolation.{OwnOfWhole, is_deadline_in, own, own_of_w
 use Rattle.mt_machine.specs.State.{State}
 use Rattle.mt_ledger.specs.Isolation.{OwnLedger, own_ledger}
 use Rattle.mt_ledger.specs.Ledger.{Ledger}
-use Rattle.mt_lines.specs.Isolation.{OwnPart, is_talk_among, own_part, talks_among}
-use Rattle.mt_lines.specs.Whole.{SessionTalk, Whole}
+use Rattle.mt_runs.specs.Isolation.{OwnPart, is_talk_among, own_part, talks_among}
+use Rattle.mt_runs.specs.Whole.{SessionTalk, Whole}
 use Rattle.mt_whole.specs.declared.talks.SessionTalk as code
 use Rattle.mt_whole.specs.declared.whole.Whole as whole
 use Rattle.mt_whole.specs.Seeing.{OwnStanding, Standing, is_live_for, own_standing, standing, standing_in, standings_in, standings_of}

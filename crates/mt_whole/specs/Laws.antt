@@ -1,11 +1,11 @@
 -- Laws of wholes, of their outcomes and of what is a fabric's own of them.
 use Rattle.std.specs.Prelude.{◌≡◌, ◌↔◌, ℕ, map}
 use Rattle.mt_model.specs.declared.texts.recording.Event.{Event}
-use Rattle.mt_machine.specs.Given.{Given}
+use Rattle.mt_machine.specs.Environment.{Environment}
 use Rattle.mt_machine.specs.Step.{closed_between}
-use Rattle.mt_lines.specs.Isolation.{own_part}
-use Rattle.mt_lines.specs.Lines.{next, talks_behind}
-use Rattle.mt_lines.specs.Whole.{Whole, without_ended}
+use Rattle.mt_runs.specs.Isolation.{own_part}
+use Rattle.mt_runs.specs.Lines.{next, talks_behind}
+use Rattle.mt_runs.specs.Whole.{Whole, without_ended}
 use Rattle.mt_plain.specs.Plan.{IsPlainPlanned}
 use Rattle.mt_whole.specs.Plan.{IsWholePlan}
 use Rattle.mt_whole.specs.Seeing.{own_standing}
@@ -13,12 +13,12 @@ use Rattle.mt_whole.specs.declared.outcome.WholeOutcome.{WholeOutcome}
 
 -- The sessions that end with an outcome are those that end behind the event.
 abbrev pub ClosedAreThoseThatEnd : Type 0
-ClosedAreThoseThatEnd = (given : Given) (w : Whole) (event : Event) (outcome : WholeOutcome) → IsPlainPlanned w.state w.ledger outcome.plain → IsWholePlan given w event outcome
+ClosedAreThoseThatEnd = (given : Environment) (w : Whole) (event : Event) (outcome : WholeOutcome) → IsPlainPlanned w.state w.ledger outcome.plain → IsWholePlan given w event outcome
     → outcome.plain.node.closed ≡ closed_between w.state.node.sessions (next given w event).state.node.sessions
 
 -- What is said behind the event is what the line adds, of which those that end have let go.
 abbrev pub TalksLetGoWhatCloses : Type 0
-TalksLetGoWhatCloses = (given : Given) (w : Whole) (event : Event) (outcome : WholeOutcome) → IsPlainPlanned w.state w.ledger outcome.plain → IsWholePlan given w event outcome
+TalksLetGoWhatCloses = (given : Environment) (w : Whole) (event : Event) (outcome : WholeOutcome) → IsPlainPlanned w.state w.ledger outcome.plain → IsWholePlan given w event outcome
     → (next given w event).talks ≡ map (without_ended outcome.plain.node.closed) (talks_behind given w event)
 
 -- Own parts are the same exactly where what stands is, and all that was said over the live sessions.

@@ -2,11 +2,11 @@
 use Rattle.std.specs.Prelude.{◌≡◌, Bool, true, false, List, [], ◌∷◌, Option, Some, None}
 use Rattle.mt_session.specs.declared.fault.SealFault.{SealFault}
 use Rattle.mt_session.specs.declared.fault.SealFault.TheVariants.{TooLong}
-use Rattle.mt_lines.specs.Whole.{SessionTalk}
+use Rattle.mt_runs.specs.Whole.{SessionTalk}
 use Rattle.mt_talk.specs.Talks.{Talk, behind}
-use Rattle.mt_told.specs.Noted.{happening_in, noted_talk}
-use Rattle.mt_told.specs.declared.happening.Happening.{Happening}
-use Rattle.mt_told.specs.declared.happening.Note.{Note}
+use Rattle.mt_marks.specs.Noted.{happening_in, noted_talk}
+use Rattle.mt_marks.specs.declared.happening.Happening.{Happening}
+use Rattle.mt_marks.specs.declared.happening.Note.{Note}
 
 -- the talk of a session becomes this one, by what is noted; where nothing is, it stays
 abbrev pub IsNoteOf : Option Note → SessionTalk → Talk → Type 0

@@ -13,14 +13,14 @@ use Rattle.mt_session.specs.Opening.{Arrival}
 use Rattle.mt_talk.specs.Hearing.{Said, fresh_by, received_in}
 use Rattle.mt_model.specs.declared.messages.message.Payload.{Payload}
 use Rattle.mt_talk.specs.Talks.{IsTalkOf, Talk, after_report, report_in, sent_by}
-use Rattle.mt_machine.specs.Given.{Given}
+use Rattle.mt_machine.specs.Environment.{Environment}
 use Rattle.mt_machine.specs.Lines.{behind_action}
 use Rattle.mt_machine.specs.State.{State}
-use Rattle.mt_lines.specs.Datagrams.{Answer, all_sent, answer_to, doing_resent, doing_said, if_any, resent_over, resent_talk, said_to, sent_over, session_named, talked}
+use Rattle.mt_runs.specs.Datagrams.{Answer, all_sent, answer_to, activity_resent, activity_said, if_any, resent_over, resent_talk, said_to, sent_over, session_named, talked}
 use Rattle.mt_ledger.specs.Behind.{acts, action_in, ledger_behind}
 use Rattle.mt_ledger.specs.Ledger.{Ledger}
-use Rattle.mt_lines.specs.Lines.{is_built, ledger_after, sent, state_behind, talks_behind}
-use Rattle.mt_lines.specs.Whole.{SessionTalk, Whole, opened, talk_of}
+use Rattle.mt_runs.specs.Lines.{is_built, ledger_after, sent, state_behind, talks_behind}
+use Rattle.mt_runs.specs.Whole.{SessionTalk, Whole, opened, talk_of}
 use Rattle.mt_plain.specs.Kept as plain
 use Rattle.mt_plain.specs.Plan.{IsPlainPlanned, applied_ledger, applied_plain}
 use Rattle.mt_plain.specs.declared.outcome.PlainOutcome.{PlainOutcome}
@@ -31,7 +31,7 @@ use Rattle.mt_whole.specs.declared.talks.SessionTalk as code
 use Rattle.mt_whole.specs.Talks.{AreTalks, IsWholeOf, put}
 
 -- what is given to a whole, where these are the rows of the verdicts
-abbrev pub given_to : whole.Whole → List RootRow → List CsrRow → List JoinRow → Given
+abbrev pub given_to : whole.Whole → List RootRow → List CsrRow → List JoinRow → Environment
 given_to one roots csrs joins = plain.given_to one.plain roots csrs joins
 
 -- a whole that was started with this configuration
@@ -57,7 +57,7 @@ fresh_by_line w (events.Datagram ms from bytes) = fresh_named bytes (talk_of (se
 fresh_by_line w event = None
 
 -- The outcome is that of this event: what is sent, what it brings, the node and the deadlines, what is said.
-pub record IsWholePlan (given : Given) (w : Whole) (event : Event) (outcome : WholeOutcome) : Type 0 where
+pub record IsWholePlan (given : Environment) (w : Whole) (event : Event) (outcome : WholeOutcome) : Type 0 where
   pub sent : outcome.sent ≡ sent given w event
   pub fresh : told_fresh outcome.fresh ≡ fresh_by_line w event
   pub state : applied_plain outcome.plain w.state ≡ state_behind given w event
@@ -65,7 +65,7 @@ pub record IsWholePlan (given : Given) (w : Whole) (event : Event) (outcome : Wh
   pub talks : (talks : List code.SessionTalk) → AreTalks talks w.talks → AreTalks (put outcome.talk talks) (talks_behind given w event)
 
 -- there is an outcome exactly where the event is built
-abbrev pub IsPlanIf : Given → Whole → Event → Option WholeOutcome → Type 0
+abbrev pub IsPlanIf : Environment → Whole → Event → Option WholeOutcome → Type 0
 IsPlanIf given w event None = is_built event ≡ false
 IsPlanIf given w event (Some outcome) = (is_built event ≡ true) × IsWholePlan given w event outcome
 
@@ -81,11 +81,11 @@ abbrev pub IsNewTalk : Option code.SessionTalk → SessionTalk → Talk → Type
 IsNewTalk None t talk = ⊥
 IsNewTalk (Some new) t talk = (new.id ≡ t.row.session) × IsTalkOf new.talk t.row talk
 
-pub record IsHeard (given : Given) (s : State) (l : Ledger) (ms : ℕ) (from : Peer) (bytes : List ℕ) (t : SessionTalk) (outcome : WholeOutcome) : Type 0 where
+pub record IsHeard (given : Environment) (s : State) (l : Ledger) (ms : ℕ) (from : Peer) (bytes : List ℕ) (t : SessionTalk) (outcome : WholeOutcome) : Type 0 where
   pub sent : outcome.sent ≡ sent_over given s.node l ms from bytes t
   pub fresh : told_fresh outcome.fresh ≡ fresh_over bytes t
-  pub state : applied_plain outcome.plain s ≡ behind_action given s (action_in (doing_said s.node t.row.session (said_to s.node bytes t))) ms
-  pub ledger : applied_ledger outcome.plain s l ≡ ledger_behind given s.node (doing_said s.node t.row.session (said_to s.node bytes t)) ms l
+  pub state : applied_plain outcome.plain s ≡ behind_action given s (action_in (activity_said s.node t.row.session (said_to s.node bytes t))) ms
+  pub ledger : applied_ledger outcome.plain s l ≡ ledger_behind given s.node (activity_said s.node t.row.session (said_to s.node bytes t)) ms l
   pub talk : IsNewTalk outcome.talk t (talked given s.node l ms from bytes t)
 
 -- What is answered to what is said: on which exchange, with which acknowledgement, and what comes of it.
@@ -94,10 +94,10 @@ abbrev pub answer_as : Option Answering → Option Answer
 answer_as None = None
 answer_as (Some answer) = Some (record { key = answer.key; acknowledge = answer.acknowledge; payloads = answer.payloads })
 
-pub record IsAnswered (given : Given) (s : State) (l : Ledger) (id ms : ℕ) (said : Said) (both : Option Answering × PlainOutcome) : Type 0 where
+pub record IsAnswered (given : Environment) (s : State) (l : Ledger) (id ms : ℕ) (said : Said) (both : Option Answering × PlainOutcome) : Type 0 where
   pub answer : answer_as both.0 ≡ answer_to given s.node l id ms said
-  pub state : applied_plain both.1 s ≡ behind_action given s (action_in (doing_said s.node id said)) ms
-  pub ledger : applied_ledger both.1 s l ≡ ledger_behind given s.node (doing_said s.node id said) ms l
+  pub state : applied_plain both.1 s ≡ behind_action given s (action_in (activity_said s.node id said)) ms
+  pub ledger : applied_ledger both.1 s l ≡ ledger_behind given s.node (activity_said s.node id said) ms l
   pub planned : IsPlainPlanned s l both.1
 
 -- What is of no session, what passes, and what is sent again.
@@ -110,7 +110,7 @@ pub record IsPlainly (made : PlainOutcome) (outcome : WholeOutcome) : Type 0 whe
   pub talk : outcome.talk ≡ None
 
 -- nothing is sent or said, and time passes
-pub record IsQuiet (given : Given) (s : State) (l : Ledger) (ms : ℕ) (outcome : WholeOutcome) : Type 0 where
+pub record IsQuiet (given : Environment) (s : State) (l : Ledger) (ms : ℕ) (outcome : WholeOutcome) : Type 0 where
   pub sent : outcome.sent ≡ []
   pub fresh : outcome.fresh ≡ None
   pub state : applied_plain outcome.plain s ≡ behind_action given s actions.Nothing ms
@@ -123,11 +123,11 @@ abbrev pub IsTalkBehind : Option code.SessionTalk → SessionTalk → Talk → T
 IsTalkBehind None t talk = talk ≡ t.talk
 IsTalkBehind (Some new) t talk = (new.id ≡ t.row.session) × IsTalkOf new.talk t.row talk
 
-pub record IsAgain (given : Given) (s : State) (l : Ledger) (ms : ℕ) (t : SessionTalk) (outcome : WholeOutcome) : Type 0 where
+pub record IsAgain (given : Environment) (s : State) (l : Ledger) (ms : ℕ) (t : SessionTalk) (outcome : WholeOutcome) : Type 0 where
   pub sent : outcome.sent ≡ resent_over s.node ms t
   pub fresh : outcome.fresh ≡ None
   pub state : applied_plain outcome.plain s ≡ behind_action given s actions.Nothing ms
-  pub ledger : applied_ledger outcome.plain s l ≡ ledger_behind given s.node (doing_resent s.node ms t) ms l
+  pub ledger : applied_ledger outcome.plain s l ≡ ledger_behind given s.node (activity_resent s.node ms t) ms l
   pub talk : IsTalkBehind outcome.talk t (resent_talk s.node ms t)
 
 -- these payloads are reported over a session

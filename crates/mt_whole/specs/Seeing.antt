@@ -9,8 +9,8 @@ use Rattle.mt_exchange.specs.declared.exchange.Exchange.{Exchange}
 use Rattle.mt_subs.specs.Leaving.{is_live_as}
 use Rattle.mt_machine.specs.Isolation.{OwnOfWhole, own_of_whole}
 use Rattle.mt_ledger.specs.Isolation.{OwnLedger, own_ledger}
-use Rattle.mt_lines.specs.Isolation.{own_part, public_part}
-use Rattle.mt_lines.specs.Whole.{SessionTalk, Whole}
+use Rattle.mt_runs.specs.Isolation.{own_part, public_part}
+use Rattle.mt_runs.specs.Whole.{SessionTalk, Whole}
 use Rattle.mt_runs.specs.Marks.{Mark, is_seen, seen}
 use Rattle.mt_whole.specs.declared.talks.SessionTalk as code
 use Rattle.mt_whole.specs.declared.whole.Whole as whole

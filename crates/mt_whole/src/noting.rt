@@ -4,14 +4,14 @@ ghost use Rattle.std.specs.Prelude.{◌≡◌, ◌<◌, ◌++◌, ◌^◌, IfOk,
 ghost use Rattle.std.specs.Option.{option_map};
 ghost use Rattle.mt_model.specs.declared.texts.recording.Event.TheVariants.{Datagram, Report, Resend};
 ghost use Rattle.mt_model.specs.declared.texts.config.SessionRow.{SessionRow};
-ghost use Rattle.mt_lines.specs.Datagrams.{behind_answer, resent_talk, talked};
-ghost use Rattle.mt_lines.specs.Lines.{talks_behind};
-ghost use Rattle.mt_lines.specs.Whole.{SessionTalk as ToldTalk, Whole as Told};
+ghost use Rattle.mt_runs.specs.Datagrams.{behind_answer, resent_talk, talked};
+ghost use Rattle.mt_runs.specs.Lines.{talks_behind};
+ghost use Rattle.mt_runs.specs.Whole.{SessionTalk as ToldTalk, Whole as Told};
 ghost use Rattle.mt_exchange.specs.Runs.{arrived};
 ghost use Rattle.mt_talk.specs.Hearing.{fresh_as};
 ghost use Rattle.mt_talk.specs.Talks.{IsTalkOf, Talk as Written, after_report};
-ghost use Rattle.mt_machine.specs.Given.{Given};
-ghost use Rattle.mt_told.specs.Noted.{happening_in, noted_if};
+ghost use Rattle.mt_machine.specs.Environment.{Environment};
+ghost use Rattle.mt_marks.specs.Noted.{happening_in, noted_if};
 ghost use Rattle.mt_whole.specs.Noting.{IsNoteOf, behind_said, is_too_long, listed};
 ghost use Rattle.mt_whole.specs.Plan.{answer_as, given_to};
 ghost use Rattle.mt_whole.specs.Talks.{IsTalkAt, IsWholeOf};
@@ -24,7 +24,7 @@ use mt_outside::Peer;
 use mt_session::Opened;
 use mt_talk::{SealFault, Talk};
 use mt_tlv::Bytes;
-use mt_told::{Arrived, Happening, Happenings, Note};
+use mt_marks::{Arrived, Happening, Happenings, Note};
 use std::alloc::{AllocError, Global};
 
 impl Whole {
@@ -178,7 +178,7 @@ fn noted_over(
 
 // What a resend step adds, where the session is live.
 fn noted_resend(whole: &Whole, ms: u64, session: u16) -> Result<Option<Note>, AllocError>
-    ensures { (given : Given) (w : Told) → IsWholeOf whole.now w → IfOk result (λ note. noted_if note w.talks ≡ talks_behind given w (Resend ms session)) }
+    ensures { (given : Environment) (w : Told) → IsWholeOf whole.now w → IfOk result (λ note. noted_if note w.talks ≡ talks_behind given w (Resend ms session)) }
 {
     match talk_of(&whole.talks, session) {
         Some(talk) => noted_again(whole, ms, talk),

@@ -4,7 +4,7 @@ ghost use Rattle.std.specs.Prelude.{◌≡◌, ◌==◌, List, Some, true, IfOk,
 ghost use Rattle.std.specs.List.{find, list_all};
 ghost use Rattle.mt_model.specs.declared.texts.config.SessionRow.{SessionRow as Row};
 ghost use Rattle.mt_model.specs.texts.Config.{is_session};
-ghost use Rattle.mt_lines.specs.Whole.{SessionTalk as Told, begun, without_ended};
+ghost use Rattle.mt_runs.specs.Whole.{SessionTalk as Told, begun, without_ended};
 ghost use Rattle.mt_whole.specs.Talks.{AreTalks, IsTalkAt, is_code_of, put};
 
 use mt_model::{ExactCopy, SessionRow};

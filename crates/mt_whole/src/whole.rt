@@ -1,11 +1,11 @@
 //! The whole.
 
 ghost use Rattle.std.specs.Prelude.{◌≡◌, IfOk, option_copied};
-ghost use Rattle.mt_machine.specs.Given.{Given};
+ghost use Rattle.mt_machine.specs.Environment.{Environment};
 ghost use Rattle.mt_model.specs.declared.texts.recording.Event.{Event as Line};
 ghost use Rattle.mt_plain.specs.Plan.{IsPlainPlanned};
-ghost use Rattle.mt_lines.specs.Lines.{next};
-ghost use Rattle.mt_lines.specs.Whole.{Whole as Told, fabric_live};
+ghost use Rattle.mt_runs.specs.Lines.{next};
+ghost use Rattle.mt_runs.specs.Whole.{Whole as Told, fabric_live};
 ghost use Rattle.mt_whole.specs.Plan.{IsPlainly, IsPlanIf, IsPlannedIf, IsStarted, IsWholePlan, given_to};
 ghost use Rattle.mt_whole.specs.Talks.{IsWholeOf};
 
@@ -127,7 +127,7 @@ impl Whole {
     pub fn apply(&mut self, outcome: WholeOutcome)
         requires { IsPlainPlanned self.old.plain.state self.old.plain.ledger outcome.plain }
         ensures config { self.new.plain.config ≡ self.old.plain.config }
-        ensures stands { (given : Given) (w : Told) (event : Line) → IsWholeOf self.old w → IsWholePlan given w event outcome → IsWholeOf self.new (next given w event) }
+        ensures stands { (given : Environment) (w : Told) (event : Line) → IsWholeOf self.old w → IsWholePlan given w event outcome → IsWholeOf self.new (next given w event) }
     {
         let WholeOutcome {
             sent: _,

@@ -29,7 +29,7 @@ use Rattle.mt_tlv.specs.declared.value.Value.{Value}
 use Rattle.mt_write.specs.Entries.{kept_entry}
 use Rattle.mt_meta.specs.Fields.{all_elements, has_type, is_item, is_within}
 use Rattle.mt_write.specs.Items.{given_items, in_front, is_append, kept_each, kept_item, new_items, with_room}
-use Rattle.mt_write.specs.Laws.{DeniesExactly, IsDenied}
+use Rattle.mt_write.specs.Laws.{DeniesWritesExactly, IsDenied}
 use Rattle.mt_write.specs.Latest.{entries_now, rows_now}
 use Rattle.mt_write.specs.Writing.{array_of, array_with, behind, entries_step, entries_written, fabric_of, is_entry_list, is_outdated, is_scoped, list_with, may_write, members_of, new_rows, new_value, open_at, own_values, row_step, rows_written, staying, written_at}
 
@@ -179,7 +179,7 @@ module _ (seen : Seen) (actor : Actor) (timed : Bool) (steps : List NodeStep) (i
       absurd cc
   to_denied false is h = denied_by seen actor place (privilege_of place Write) refl is
 
-pub denies_exactly : DeniesExactly
+pub denies_exactly : DeniesWritesExactly
 denies_exactly seen actor timed steps item place = (
   to_denied seen actor timed steps item place (may_write seen actor place) refl,
   λ d. ap (outcome seen actor timed steps item place) (not_granted seen actor place d),

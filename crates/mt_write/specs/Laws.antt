@@ -50,8 +50,8 @@ pub record IsDenied (seen : Seen) (actor : Actor) (place : Place) : Type 0 where
   pub entries : list_any (own_entry_grants actor place asked) seen.entries ≡ false
 
 -- An item that names one place is refused with the status 7E exactly where that is denied, whatever steps stand before it.
-abbrev pub DeniesExactly : Type 0
-DeniesExactly = (seen : Seen) (actor : Actor) (timed : Bool) (steps : List NodeStep) (item : WriteItem) (place : Place)
+abbrev pub DeniesWritesExactly : Type 0
+DeniesWritesExactly = (seen : Seen) (actor : Actor) (timed : Bool) (steps : List NodeStep) (item : WriteItem) (place : Place)
     → (item_step seen actor timed steps item (Some place) ≡ Err UnsupportedAccess) ↔ IsDenied seen actor place
 
 -- What a step sets is such as a state keeps there.

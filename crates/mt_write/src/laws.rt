@@ -1,7 +1,7 @@
 //! Laws of what a write answers. Each is the contract of a function that does nothing, but that it may
 //! call laws of the table and of values.
 
-ghost use Rattle.mt_write.specs.Laws.{DeniesExactly, LeavesSound, NobodySetsScoped, TouchesItsOwn};
+ghost use Rattle.mt_write.specs.Laws.{DeniesWritesExactly, LeavesSound, NobodySetsScoped, TouchesItsOwn};
 
 use mt_meta::writable_attributes_take_something;
 use mt_tlv::values_are_trees;
@@ -23,8 +23,8 @@ pub fn nobody_writes_scoped()
 /// An item that names one place is refused with the status UNSUPPORTED_ACCESS exactly where a privilege is
 /// asked and neither the implicit entry nor an entry of the writer's own fabric grants it, as they stood
 /// before the request.
-pub fn denials_are_exact()
-    ensures { DeniesExactly }
+pub fn write_denials_are_exact()
+    ensures { DeniesWritesExactly }
 {}
 
 /// Where the rows and entries that a writer's fabric sees as its own, or nobody's, have their form, so has

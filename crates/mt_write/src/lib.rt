@@ -20,6 +20,6 @@ mod writing;
 
 pub use latest::{latest_entries, latest_row};
 pub use laws::{
-    denials_are_exact, nobody_writes_scoped, writes_keep_forms, writes_touch_their_own,
+    write_denials_are_exact, nobody_writes_scoped, writes_keep_forms, writes_touch_their_own,
 };
 pub use writing::{Change, Written, write};

@@ -3,7 +3,7 @@ use Rattle.mt_im.specs.declared.fault.ImFault.{ImFault}
 use Rattle.mt_model.specs.declared.messages.message.Request.{Request}
 use Rattle.mt_model.specs.declared.node.state.NodeState.{NodeState}
 use Rattle.mt_model.specs.declared.tables.access.Actor.{Actor}
-use Rattle.mt_machine.specs.Given.{Given}
+use Rattle.mt_machine.specs.Environment.{Environment}
 use Rattle.mt_machine.specs.Isolation.{veil}
 use Rattle.mt_machine.specs.Lines.{action_of}
 use Rattle.mt_machine.specs.State.{IsValid}
@@ -36,7 +36,7 @@ returns-clause-deadline c = λ s asking. deadline-own asking s.deadlines
 pub returns-clause-steps : goal.returns-clause-steps
 returns-clause-steps c = λ given s actor asking asked deadline ms valid on_state on_veil. by_asked given s actor asking valid on_state on_veil deadline ms asked
   where
-    by_asked : (given : Given) (s : NodeState) (actor asking : Actor) → IsValid s → asker s actor ≡ Some asking → asker (veil asking.fabric s) actor ≡ Some asking → (deadline : Option ℕ) (ms : ℕ) (asked : Result Request ImFault)
+    by_asked : (given : Environment) (s : NodeState) (actor asking : Actor) → IsValid s → asker s actor ≡ Some asking → asker (veil asking.fabric s) actor ≡ Some asking → (deadline : Option ℕ) (ms : ℕ) (asked : Result Request ImFault)
         → steps_of given (veil asking.fabric s) (action_of actor deadline asked) ms ≡ steps_of given s (action_of actor deadline asked) ms
     by_asked given s actor asking valid on_state on_veil deadline ms (Ok request) = steps_same given (record { node = s; deadlines = [] }) valid actor asking on_veil on_state request deadline ms
     by_asked given s actor asking valid on_state on_veil deadline ms (Err fault) = refl

@@ -1,7 +1,7 @@
 use Rattle.std.proofs.Common.{◌≡◌, List, ap, sym, ◌∙◌, filter}
 use Rattle.mt_model.specs.declared.node.state.NodeSession.{NodeSession}
 use Rattle.mt_subs.specs.Leaving.{is_live_as}
-use Rattle.mt_lines.specs.Isolation.{OwnPart, talks_among}
+use Rattle.mt_runs.specs.Isolation.{OwnPart, talks_among}
 use Rattle.mt_compare.proofs.Owning.{live, own_in, same_stands, stands_same}
 use Rattle.mt_compare.proofs.between.are_own_same.Goals as goal
 

@@ -2,10 +2,10 @@ use Rattle.std.proofs.Common.{◌≡◌, List, subst}
 use Rattle.std.specs.Prelude.{IfOk}
 use Rattle.std.specs.Option.{option_map}
 use Rattle.mt_model.specs.texts.Contents.{contents_of}
-use Rattle.mt_machine.specs.Given.{given_by}
-use Rattle.mt_lines.specs.Whole.{opened}
-use Rattle.mt_differences.specs.Difference.{difference_from}
-use Rattle.mt_differences.specs.Marked.{Marked}
+use Rattle.mt_machine.specs.Environment.{given_by}
+use Rattle.mt_runs.specs.Whole.{opened}
+use Rattle.mt_marks.specs.differences.Difference.{difference_from}
+use Rattle.mt_marks.specs.differences.Marked.{Marked}
 use Rattle.mt_compare.specs.Found.{difference_in}
 use Rattle.mt_compare.specs.Sides.{left, left_of}
 use Rattle.mt_compare.proofs.comparing.compare_with.Goals as goal

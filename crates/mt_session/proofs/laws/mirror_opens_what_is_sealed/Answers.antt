@@ -32,5 +32,5 @@ let_in row accepted counter header payload read framed fresh =
 
 pub returns : goal.returns
 returns c = λ row accepted counter header payload good framed fresh.
-    let_in row accepted counter header payload (c.written_is_read.ensures.message (sent_header row counter) _ good)
-    (c.written_is_read.ensures.protocol header payload framed) fresh
+    let_in row accepted counter header payload (c.written_headers_are_read.ensures.message (sent_header row counter) _ good)
+    (c.written_headers_are_read.ensures.protocol header payload framed) fresh

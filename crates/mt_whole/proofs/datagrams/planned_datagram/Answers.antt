@@ -4,8 +4,8 @@ use Rattle.std.specs.Option.{option_copied}
 use Rattle.mt_machine.specs.State.{State}
 use Rattle.mt_ledger.specs.Ledger.{Ledger}
 use Rattle.mt_model.specs.declared.texts.recording.Event.TheVariants.{Datagram}
-use Rattle.mt_lines.specs.Datagrams.{session_named}
-use Rattle.mt_lines.specs.Whole.{talk_of}
+use Rattle.mt_runs.specs.Datagrams.{session_named}
+use Rattle.mt_runs.specs.Whole.{talk_of}
 use Rattle.mt_whole.specs.Plan.{IsHeard, IsQuiet, IsWholePlan, given_to}
 use Rattle.mt_whole.specs.Talks.{is_code_of}
 use Rattle.mt_whole.proofs.Planned.{heard_as_planned, if_ok, one_found, unheard}

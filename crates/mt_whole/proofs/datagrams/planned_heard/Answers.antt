@@ -3,8 +3,8 @@ use Rattle.mt_talk.specs.Hearing.{Said, after_datagram, fresh_by, received_in, s
 use Rattle.mt_talk.specs.Talks.{IsTalkOf}
 use Rattle.mt_talk.specs.declared.talk.Talk as code
 use Rattle.mt_machine.specs.Step.{session_actor}
-use Rattle.mt_lines.specs.Datagrams.{Answer, behind_answer, datagram_of, heard, its_answer, said_to}
-use Rattle.mt_lines.specs.Whole.{is_live}
+use Rattle.mt_runs.specs.Datagrams.{Answer, behind_answer, datagram_of, heard, its_answer, said_to}
+use Rattle.mt_runs.specs.Whole.{is_live}
 use Rattle.mt_whole.specs.Plan.{IsAnswered, answer_as, given_to}
 use Rattle.mt_whole.proofs.Planned.{sent_as_heard}
 use Rattle.mt_whole.proofs.datagrams.planned_heard.Goals as goal

@@ -1,7 +1,7 @@
 use Rattle.std.proofs.Common.{◌≡◌, ℕ, Bool, true, false, Some, is_some, not, sym, ap, subst, ◌∙◌, if◌then◌else◌}
 use Rattle.mt_machine.specs.Step.{session_actor}
 use Rattle.mt_talk.specs.Talks.{after_resend}
-use Rattle.mt_lines.specs.Whole.{is_live}
+use Rattle.mt_runs.specs.Whole.{is_live}
 use Rattle.mt_whole.specs.Noting.{IsNoteOf}
 use Rattle.mt_whole.proofs.noting.noted_again.Goals as goal
 

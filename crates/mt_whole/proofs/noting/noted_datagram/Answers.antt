@@ -3,9 +3,9 @@ use Rattle.std.specs.List.{find}
 use Rattle.std.specs.Option.{option_copied}
 use Rattle.mt_machine.specs.State.{State}
 use Rattle.mt_ledger.specs.Ledger.{Ledger}
-use Rattle.mt_lines.specs.Datagrams.{session_named, talked}
-use Rattle.mt_lines.specs.Lines.{with_next}
-use Rattle.mt_lines.specs.Whole.{SessionTalk, talk_of}
+use Rattle.mt_runs.specs.Datagrams.{session_named, talked}
+use Rattle.mt_runs.specs.Lines.{with_next}
+use Rattle.mt_runs.specs.Whole.{SessionTalk, talk_of}
 use Rattle.mt_whole.specs.Noting.{IsNoteOf}
 use Rattle.mt_whole.specs.Plan.{given_to}
 use Rattle.mt_whole.specs.Talks.{is_code_of}

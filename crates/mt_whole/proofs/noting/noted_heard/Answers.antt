@@ -5,11 +5,11 @@ use Rattle.mt_talk.specs.Hearing.{Said, after_datagram, fresh_as, fresh_by, rece
 use Rattle.mt_talk.specs.Talks.{IsTalkOf}
 use Rattle.mt_talk.specs.declared.talk.Talk as code
 use Rattle.mt_machine.specs.Step.{session_actor}
-use Rattle.mt_lines.specs.Datagrams.{Answer, behind_answer, heard, its_answer, said_to}
-use Rattle.mt_lines.specs.Whole.{is_live}
-use Rattle.mt_told.specs.Noted.{happening_in}
-use Rattle.mt_told.specs.declared.happening.Happening.{Happening}
-use Rattle.mt_told.specs.declared.happening.Note.{Note}
+use Rattle.mt_runs.specs.Datagrams.{Answer, behind_answer, heard, its_answer, said_to}
+use Rattle.mt_runs.specs.Whole.{is_live}
+use Rattle.mt_marks.specs.Noted.{happening_in}
+use Rattle.mt_marks.specs.declared.happening.Happening.{Happening}
+use Rattle.mt_marks.specs.declared.happening.Note.{Note}
 use Rattle.mt_whole.specs.Plan.{IsAnswered, answer_as, given_to}
 use Rattle.mt_whole.proofs.Noted.{heard_noted, received_list}
 use Rattle.mt_whole.proofs.noting.noted_heard.Goals as goal

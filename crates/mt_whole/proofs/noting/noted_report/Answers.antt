@@ -5,12 +5,12 @@ use Rattle.mt_machine.specs.State.{State}
 use Rattle.mt_ledger.specs.Ledger.{Ledger}
 use Rattle.mt_ledger.specs.Reporting.{due_now}
 use Rattle.mt_talk.specs.Talks.{after_report}
-use Rattle.mt_lines.specs.Lines.{talks_behind}
+use Rattle.mt_runs.specs.Lines.{talks_behind}
 use Rattle.mt_model.specs.declared.messages.message.Payload.{Payload}
 use Rattle.mt_model.specs.declared.texts.recording.Event.TheVariants.{Report}
 use Rattle.mt_plain.specs.Reporting.{reported_over}
-use Rattle.mt_told.specs.Noted.{noted_if}
-use Rattle.mt_told.specs.declared.happening.Note.{Note}
+use Rattle.mt_marks.specs.Noted.{noted_if}
+use Rattle.mt_marks.specs.declared.happening.Note.{Note}
 use Rattle.mt_whole.specs.Noting.{IsNoteOf}
 use Rattle.mt_whole.specs.Plan.{given_to}
 use Rattle.mt_whole.specs.Talks.{is_code_of}

@@ -1,13 +1,13 @@
 use Rattle.std.proofs.Common.{◌≡◌, Option, Some, None, sym, ap, subst, ◌∙◌}
 use Rattle.std.specs.List.{find}
 use Rattle.std.specs.Option.{option_copied}
-use Rattle.mt_lines.specs.Datagrams.{resent_talk}
-use Rattle.mt_lines.specs.Lines.{talks_behind, with_next}
-use Rattle.mt_lines.specs.Whole.{SessionTalk}
+use Rattle.mt_runs.specs.Datagrams.{resent_talk}
+use Rattle.mt_runs.specs.Lines.{talks_behind, with_next}
+use Rattle.mt_runs.specs.Whole.{SessionTalk}
 use Rattle.mt_machine.specs.State.{State}
 use Rattle.mt_model.specs.declared.texts.recording.Event.TheVariants.{Resend}
-use Rattle.mt_told.specs.Noted.{noted_if}
-use Rattle.mt_told.specs.declared.happening.Note.{Note}
+use Rattle.mt_marks.specs.Noted.{noted_if}
+use Rattle.mt_marks.specs.declared.happening.Note.{Note}
 use Rattle.mt_whole.specs.Noting.{IsNoteOf}
 use Rattle.mt_whole.specs.Talks.{is_code_of}
 use Rattle.mt_whole.proofs.Noted.{noted_over}

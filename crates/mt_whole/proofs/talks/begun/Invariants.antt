@@ -1,6 +1,6 @@
 use Rattle.std.proofs.Common.{◌==◌, ◌++◌, List, drop, filter, map}
 use Rattle.mt_model.specs.declared.texts.config.SessionRow.{SessionRow as Row}
-use Rattle.mt_lines.specs.Whole.{begun}
+use Rattle.mt_runs.specs.Whole.{begun}
 use Rattle.mt_whole.specs.declared.talks.SessionTalk as code
 use Rattle.mt_whole.specs.Talks.{AreTalks}
 use Rattle.mt_whole.proofs.talks.begun.Given as goal

@@ -6,10 +6,10 @@ use Rattle.mt_model.specs.declared.node.action.Action.TheVariants.{Ask, Nothing}
 use Rattle.mt_model.specs.declared.node.action.PlainDeadline.{PlainDeadline}
 use Rattle.mt_model.specs.declared.node.state.NodeState.{NodeState}
 use Rattle.mt_model.specs.declared.tables.access.Actor.{Actor}
-use Rattle.mt_machine.specs.Given.{Given}
+use Rattle.mt_machine.specs.Environment.{Environment}
 use Rattle.mt_machine.specs.Step.{asker}
 use Rattle.mt_ledger.specs.Behind.{acts}
-use Rattle.mt_lines.specs.Datagrams.{actor_on, dated, deadline_set}
+use Rattle.mt_runs.specs.Datagrams.{actor_on, dated, deadline_set}
 use Rattle.mt_node.specs.Plan.{IsPlan}
 use Rattle.mt_plain.specs.Kept.{Kept, given_to}
 use Rattle.mt_plain.specs.Plan.{IsDone, left_without}

@@ -1,7 +1,7 @@
 use Rattle.std.proofs.Common.{◌≡◌, List, sym, ap, subst, ◌∙◌, rules}
 use Rattle.std.proofs.lemmas.List.{with_items_is}
 use Rattle.std.specs.Vec.{with_items}
-use Rattle.mt_lines.specs.Lines.{next}
+use Rattle.mt_runs.specs.Lines.{next}
 use Rattle.mt_machine.specs.State.{State}
 use Rattle.mt_ledger.specs.Ledger.{Ledger}
 use Rattle.mt_plain.specs.Kept.{Kept}

@@ -1,8 +1,8 @@
 use Rattle.std.proofs.Common.{◌≡◌, Option, IfOk, sym, subst}
-use Rattle.mt_lines.specs.Lines.{talks_behind}
+use Rattle.mt_runs.specs.Lines.{talks_behind}
 use Rattle.mt_model.specs.declared.texts.recording.Event.{Event}
-use Rattle.mt_told.specs.Noted.{noted_if}
-use Rattle.mt_told.specs.declared.happening.Note.{Note}
+use Rattle.mt_marks.specs.Noted.{noted_if}
+use Rattle.mt_marks.specs.declared.happening.Note.{Note}
 use Rattle.mt_whole.specs.Plan.{given_to}
 use Rattle.mt_whole.proofs.whole.Whole.note.Goals as goal
 

@@ -4,7 +4,7 @@ use Rattle.mt_machine.specs.Lines.{line_actor}
 use Rattle.mt_machine.specs.State.{State}
 use Rattle.mt_model.specs.declared.texts.recording.Event.{Event}
 use Rattle.mt_ledger.specs.Ledger.{Ledger}
-use Rattle.mt_lines.specs.Lines.{is_built}
+use Rattle.mt_runs.specs.Lines.{is_built}
 use Rattle.mt_plain.specs.Plan.{IsLine, IsTick}
 use Rattle.mt_whole.specs.Plan.{IsWholePlan, given_to}
 use Rattle.mt_whole.proofs.Planned.{asked_as_planned, tick_as_planned}

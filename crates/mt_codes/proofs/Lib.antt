@@ -1,3 +1,0 @@
-pub mod Onward
-pub mod Over
-pub mod Short

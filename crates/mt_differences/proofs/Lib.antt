@@ -1,5 +1,0 @@
-mod Codes
-mod Differing
-mod Parted
-mod Placing
-mod Standing

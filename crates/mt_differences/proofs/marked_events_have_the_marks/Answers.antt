@@ -1,5 +1,0 @@
-use Rattle.mt_differences.proofs.Standing.{marks_of_marked}
-use Rattle.mt_differences.proofs.marked_events_have_the_marks.Goals as goal
-
-pub returns : goal.returns
-returns c = marks_of_marked

@@ -1,7 +1,0 @@
-pub mod Rings
-pub mod Recording
-pub mod Valid
-pub mod Told
-pub mod Keeping
-pub mod Replies
-pub mod OnVeil

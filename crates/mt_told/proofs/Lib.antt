@@ -1,4 +1,0 @@
-mod Among
-mod Back
-mod Beginning
-mod Edited
