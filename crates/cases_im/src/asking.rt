@@ -2,7 +2,7 @@
 
 use crate::access::{entry, nobody};
 use crate::commands::tell_check;
-use crate::node::Kept;
+use crate::node::SmallNode;
 use crate::reading::{
     code, narrow_number, number, number_or_none, path, place, short, truth, value,
 };
@@ -15,7 +15,7 @@ use std::{io, mem};
 pub(crate) struct Asking {
     alloc: Global,
     writes: Writes,
-    node: Kept,
+    node: SmallNode,
 }
 
 impl Drop for Asking {
@@ -33,7 +33,7 @@ impl Asking {
         Asking {
             alloc,
             writes: Writes::new(alloc),
-            node: Kept::new(alloc, nobody(alloc)),
+            node: SmallNode::new(alloc, nobody(alloc)),
         }
     }
 

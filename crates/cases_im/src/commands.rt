@@ -1,7 +1,7 @@
 //! What stands in the way of commands.
 
 use crate::access::actor;
-use crate::node::Kept;
+use crate::node::SmallNode;
 use crate::reading::{place, truth, value};
 use cases_page::{Page, word};
 use mt_invoke::{check, has_form};
@@ -10,7 +10,7 @@ use std::io;
 
 /// Whether a command may be carried out: by whom (fabric, mode, node, CATs), where, and whether the request
 /// was timed.
-pub(crate) fn tell_check(page: &mut Page, node: &Kept, words: &[&str]) {
+pub(crate) fn tell_check(page: &mut Page, node: &SmallNode, words: &[&str]) {
     let actor = actor(
         word(words, 1),
         word(words, 2),

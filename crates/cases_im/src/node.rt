@@ -13,15 +13,15 @@ use std::alloc::{AllocError, Global};
 use std::slice;
 
 /// What the node keeps.
-pub(crate) struct Kept {
+pub(crate) struct SmallNode {
     pub(crate) rows: Vec<Row>,
     pub(crate) version: Version,
     pub(crate) entry: AclEntry,
 }
 
-impl Drop for Kept {
+impl Drop for SmallNode {
     fn drop(self) {
-        let Kept {
+        let SmallNode {
             rows: _,
             version: _,
             entry: _,
@@ -29,7 +29,7 @@ impl Drop for Kept {
     }
 }
 
-impl Sight for Kept {
+impl Sight for SmallNode {
     ghost use Rattle.std.specs.Prelude.{[], ◌∷◌, filter};
     ghost use Rattle.mt_model.specs.rows.Sight.{stands_at};
 
@@ -78,10 +78,10 @@ fn stands_at(row: &Row, place: &Place) -> bool
         && row.place.leaf == place.leaf
 }
 
-impl Kept {
+impl SmallNode {
     /// A node without rows.
-    pub(crate) fn new(alloc: Global, entry: AclEntry) -> Kept {
-        Kept {
+    pub(crate) fn new(alloc: Global, entry: AclEntry) -> SmallNode {
+        SmallNode {
             rows: Vec::new(alloc),
             version: Version {
                 endpoint: 0,

@@ -43,7 +43,7 @@ module _ (given : Environment) (fabric : ℕ) (w : Whole) (event : Event) (new :
   passes false false false p = p
 
   pub passes_to : (old : Running) (was is : Bool) (acting : ℕ) (passed : Passed) → IsRunning old given w → is_built event ≡ true → IsRunning new given (next given w event)
-      → was ≡ is_member fabric old.whole.plain.state.node → acting ≡ fabric_of old.whole.plain.state.node event → is ≡ is_member fabric new.whole.plain.state.node
+      → was ≡ is_member fabric old.whole.interactions.state.node → acting ≡ fabric_of old.whole.interactions.state.node event → is ≡ is_member fabric new.whole.interactions.state.node
       → passed ≡ passed_by was (acting == fabric) is → PassesTo given fabric w event new passed
   passes_to old was is acting passed stands built now had acts has told =
       let before : is_in fabric w ≡ was = sym (had ∙ ap (λ (s : machine.State). is_member fabric s.node) stands.whole.state) in

@@ -17,7 +17,7 @@ live fabric s = filter (λ (session : NodeSession). is_live_as fabric session.st
 
 -- what the code has of a fabric's own part
 abbrev pub own_in : ℕ → Running → OwnPart
-own_in fabric one = record { whole = own_of_whole fabric one.whole.plain.state; ledger = own_ledger fabric one.whole.plain.ledger; talks = talks_among (live fabric one.whole.plain.state) one.told }
+own_in fabric one = record { whole = own_of_whole fabric one.whole.interactions.state; ledger = own_ledger fabric one.whole.interactions.ledger; talks = talks_among (live fabric one.whole.interactions.state) one.told }
 
 own_stands : (fabric : ℕ) (one : Running) (given : Environment) (w : Whole) → IsRunning one given w → own_in fabric one ≡ own_part fabric w
 own_stands fabric one given w is = λ i. record {

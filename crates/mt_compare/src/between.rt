@@ -14,8 +14,7 @@ ghost use Rattle.mt_compare.specs.Seen.{public_in};
 
 use crate::running::Running;
 use crate::side::{Here, Side};
-use mt_marks::parts_come_in_order;
-use mt_marks::{Mark, Part, first_difference};
+use mt_marks::{Mark, Part, first_difference, parts_come_in_order};
 use mt_model::{ExactCopy, NodeSession};
 use mt_subs::is_live_as;
 use std::alloc::{AllocError, Global};

@@ -6,8 +6,8 @@ ghost use Rattle.mt_machine.specs.Environment.{Environment, given_by};
 ghost use Rattle.mt_runs.specs.Whole.{Whole as Told, opened};
 ghost use Rattle.mt_compare.specs.Runs.{IsRunning, PassesTo, StepsTo, passed_by};
 
-use mt_model::{Config, Event, TableVerdicts};
 use mt_marks::ToldTalks;
+use mt_model::{Config, Event, TableVerdicts};
 use mt_whole::{Whole, closed_sessions_are_those_that_end};
 use std::alloc::{AllocError, Global};
 

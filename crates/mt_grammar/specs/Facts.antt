@@ -12,10 +12,10 @@ use Rattle.mt_model.specs.declared.tables.fabric.Credentials.{Credentials}
 use Rattle.mt_model.specs.declared.tables.fabric.Fabric.{Fabric}
 use Rattle.mt_model.specs.declared.tables.network.Armed.{Armed}
 use Rattle.mt_model.specs.declared.tables.network.Network.{Network}
-use Rattle.mt_grammar.specs.declared.kept.Kept.{Kept}
+use Rattle.mt_grammar.specs.declared.kept.MapContents.{MapContents}
 
 -- 01 and 02 are always there.
-abbrev pub has_numbers : Kept → Bool
+abbrev pub has_numbers : MapContents → Bool
 has_numbers kept = is_some kept.boot && is_some kept.ceiling
 
 -- Fabrics: lengths of certificates and keys, operational node ids, labels that are text; identities differ, and labels.
@@ -80,11 +80,11 @@ is_failsafe fabrics (Some armed) = is_added fabrics armed
 
 -- All of them.
 
-abbrev pub fabric_facts : Kept → Bool
+abbrev pub fabric_facts : MapContents → Bool
 fabric_facts kept = are_fabrics kept.fabrics && (are_rows kept.fabrics kept.rows && are_entries kept.fabrics kept.entries)
 
-abbrev pub commissioning_facts : Kept → Bool
+abbrev pub commissioning_facts : MapContents → Bool
 commissioning_facts kept = are_roots kept.fabrics kept.failsafe kept.roots && (are_networks kept.networks && is_failsafe kept.fabrics kept.failsafe)
 
-abbrev pub facts_hold : Kept → Bool
+abbrev pub facts_hold : MapContents → Bool
 facts_hold kept = has_numbers kept && (fabric_facts kept && commissioning_facts kept)

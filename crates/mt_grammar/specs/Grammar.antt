@@ -3,9 +3,9 @@ use Rattle.std.specs.Prelude.{Bool, false, List, Option, Some, None}
 use Rattle.mt_durable.specs.declared.durable.Entry.{Entry}
 use Rattle.mt_grammar.specs.Decoding.{kept_in}
 use Rattle.mt_grammar.specs.Facts.{facts_hold}
-use Rattle.mt_grammar.specs.declared.kept.Kept.{Kept}
+use Rattle.mt_grammar.specs.declared.kept.MapContents.{MapContents}
 
-abbrev pub is_state : Option Kept → Bool
+abbrev pub is_state : Option MapContents → Bool
 is_state None = false
 is_state (Some kept) = facts_hold kept
 

@@ -9,10 +9,10 @@ ghost use Rattle.mt_grammar.specs.Values.{entries_in, entry_in, entry_of, subjec
 
 use crate::fields::{array_in, fields_in, if_some, is_null};
 use crate::rows::is_of;
-use mt_rules::{each, mode_in, privilege_in};
 use mt_meta::clusters::access_control::{SUBJECTS, TARGETS};
 use mt_meta::target_of;
 use mt_model::{AclEntries, AclEntry, Subjects, Target, Targets, field, unsigned_of};
+use mt_rules::{each, mode_in, privilege_in};
 use mt_tlv::{Tag, Value};
 use std::alloc::{AllocError, Global};
 

@@ -8,7 +8,7 @@ ghost use Rattle.mt_model.specs.texts.Config.{is_certificate, none_alike};
 ghost use Rattle.mt_grammar.specs.Facts.{are_entries, are_fabrics, are_networks, are_roots, are_rows, are_saved, commissioning_facts, fabric_facts, facts_hold, has_numbers, is_added, is_failsafe, is_idle, is_row_of, is_updated, most_idle};
 ghost use Rattle.mt_model.specs.tables.Holding.{have_one_id, is_fabric_with, is_network, is_root_of, saves_identity};
 
-use crate::kept::Kept;
+use crate::kept::MapContents;
 use mt_model::limits::{NETWORK_ID_BYTES, NETWORK_SECRET_BYTES, NETWORKS};
 use mt_model::{AclEntry, Armed, Credentials, Fabric, Network, Row};
 use mt_rules::{
@@ -18,13 +18,13 @@ use mt_rules::{
 use mt_tlv::Bytes;
 
 /// Whether what holds between the keys of a valid state holds of what is kept.
-pub fn facts_hold(kept: &Kept) -> bool
+pub fn facts_hold(kept: &MapContents) -> bool
     ensures { result ≡ facts_hold kept.now }
 {
     has_numbers(kept) && fabric_facts(kept) && commissioning_facts(kept)
 }
 
-fn fabric_facts(kept: &Kept) -> bool
+fn fabric_facts(kept: &MapContents) -> bool
     ensures { result ≡ fabric_facts kept.now }
 {
     let fabrics = kept.fabrics.as_slice();
@@ -33,7 +33,7 @@ fn fabric_facts(kept: &Kept) -> bool
         && are_entries(fabrics, kept.entries.as_slice())
 }
 
-fn commissioning_facts(kept: &Kept) -> bool
+fn commissioning_facts(kept: &MapContents) -> bool
     ensures { result ≡ commissioning_facts kept.now }
 {
     let fabrics = kept.fabrics.as_slice();
@@ -44,7 +44,7 @@ fn commissioning_facts(kept: &Kept) -> bool
         && is_failsafe(fabrics, &kept.failsafe)
 }
 
-fn has_numbers(kept: &Kept) -> bool
+fn has_numbers(kept: &MapContents) -> bool
     ensures { result ≡ has_numbers kept.now }
 {
     kept.boot.is_some() && kept.ceiling.is_some()

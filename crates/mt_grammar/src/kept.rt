@@ -30,7 +30,7 @@ pub type KeptRows = Listed<Row>;
 
 /// What a map keeps.
 #[derive(Drop)]
-pub struct Kept {
+pub struct MapContents {
     /// How often the node has started.
     pub boot: Option<u64>,
     /// Below which the numbers of events are set aside.
@@ -46,13 +46,13 @@ pub struct Kept {
 }
 
 /// What a map keeps, None where a key or what stands under it has no form.
-pub fn kept_in(alloc: Global, map: &Durable) -> Result<Option<Kept>, AllocError>
+pub fn kept_in(alloc: Global, map: &Durable) -> Result<Option<MapContents>, AllocError>
     ensures { IfOk result (λ kept. kept ≡ kept_in map.now) }
 {
     kept_of(alloc, map.as_slice())
 }
 
-fn kept_of(alloc: Global, entries: &[Entry]) -> Result<Option<Kept>, AllocError>
+fn kept_of(alloc: Global, entries: &[Entry]) -> Result<Option<MapContents>, AllocError>
     ensures { IfOk result (λ kept. kept ≡ kept_in entries.now) }
 {
     let mut kept = nothing(alloc);
@@ -65,10 +65,10 @@ fn kept_of(alloc: Global, entries: &[Entry]) -> Result<Option<Kept>, AllocError>
     Ok(Some(kept))
 }
 
-fn nothing(alloc: Global) -> Kept
+fn nothing(alloc: Global) -> MapContents
     ensures { result ≡ nothing }
 {
-    Kept {
+    MapContents {
         boot: None,
         ceiling: None,
         rows: KeptRows::new(alloc),
@@ -81,7 +81,11 @@ fn nothing(alloc: Global) -> Kept
 }
 
 // With what stands under one key more.
-fn with_entry(alloc: Global, kept: Kept, entry: &Entry) -> Result<Option<Kept>, AllocError>
+fn with_entry(
+    alloc: Global,
+    kept: MapContents,
+    entry: &Entry,
+) -> Result<Option<MapContents>, AllocError>
     ensures { IfOk result (λ next. next ≡ with_entry kept entry.now) }
 {
     let Some(key) = key_in(entry.key.as_slice()) else {
@@ -95,10 +99,10 @@ fn with_entry(alloc: Global, kept: Kept, entry: &Entry) -> Result<Option<Kept>, 
 
 fn with_value(
     alloc: Global,
-    kept: Kept,
+    kept: MapContents,
     value: &Value,
     key: Key,
-) -> Result<Option<Kept>, AllocError>
+) -> Result<Option<MapContents>, AllocError>
     ensures { IfOk result (λ next. next ≡ with_value kept value.now key) }
 {
     match key {
@@ -113,27 +117,31 @@ fn with_value(
     }
 }
 
-fn with_boot(kept: Kept, value: &Value) -> Option<Kept>
+fn with_boot(kept: MapContents, value: &Value) -> Option<MapContents>
     ensures { result ≡ with_boot kept (number_in greatest_boot (tree value.now)) }
 {
     let boot = number_in(GREATEST_BOOT, value)?;
-    Some(Kept {
+    Some(MapContents {
         boot: Some(boot),
         ..kept
     })
 }
 
-fn with_ceiling(kept: Kept, value: &Value) -> Option<Kept>
+fn with_ceiling(kept: MapContents, value: &Value) -> Option<MapContents>
     ensures { result ≡ with_ceiling kept (number_in greatest_ceiling (tree value.now)) }
 {
     let ceiling = number_in(GREATEST_CEILING, value)?;
-    Some(Kept {
+    Some(MapContents {
         ceiling: Some(ceiling),
         ..kept
     })
 }
 
-fn with_single(kept: Kept, place: &Place, value: &Value) -> Result<Option<Kept>, AllocError>
+fn with_single(
+    kept: MapContents,
+    place: &Place,
+    value: &Value,
+) -> Result<Option<MapContents>, AllocError>
     ensures { IfOk result (λ next. next ≡ with_single kept place.now value.now) }
 {
     if !may_stand(place, value) {
@@ -145,16 +153,16 @@ fn with_single(kept: Kept, place: &Place, value: &Value) -> Result<Option<Kept>,
         fabric: 0,
         value: value.copy()?,
     })?;
-    Ok(Some(Kept { rows, ..kept }))
+    Ok(Some(MapContents { rows, ..kept }))
 }
 
 fn with_items(
     alloc: Global,
-    kept: Kept,
+    kept: MapContents,
     fabric: u8,
     place: &Place,
     value: &Value,
-) -> Result<Option<Kept>, AllocError>
+) -> Result<Option<MapContents>, AllocError>
     ensures { IfOk result (λ next. next ≡ with_items kept fabric place.now (tree value.now)) }
 {
     match table_row(place) {
@@ -165,12 +173,12 @@ fn with_items(
 
 fn with_items_in(
     alloc: Global,
-    kept: Kept,
+    kept: MapContents,
     fabric: u8,
     place: &Place,
     value: &Value,
     row: &AttributeRow,
-) -> Result<Option<Kept>, AllocError>
+) -> Result<Option<MapContents>, AllocError>
     ensures { IfOk result (λ next. next ≡ with_items_in kept fabric place.now (tree value.now) (Some row.now)) }
 {
     if !has_items(&row.meta) {
@@ -182,14 +190,17 @@ fn with_items_in(
     with_rows(kept, items_in(alloc, place, fabric, &row.meta, value)?)
 }
 
-fn with_entries(kept: Kept, entries: Option<AclEntries>) -> Result<Option<Kept>, AllocError>
+fn with_entries(
+    kept: MapContents,
+    entries: Option<AclEntries>,
+) -> Result<Option<MapContents>, AllocError>
     ensures { IfOk result (λ next. next ≡ with_entries kept entries) }
 {
     let Some(entries) = entries else {
         return Ok(None);
     };
     let entries = joined_entries(kept.entries, entries)?;
-    Ok(Some(Kept { entries, ..kept }))
+    Ok(Some(MapContents { entries, ..kept }))
 }
 
 fn joined_entries(front: AclEntries, back: AclEntries) -> Result<AclEntries, AllocError>
@@ -202,14 +213,14 @@ fn joined_entries(front: AclEntries, back: AclEntries) -> Result<AclEntries, All
     Ok(all)
 }
 
-fn with_rows(kept: Kept, rows: Option<KeptRows>) -> Result<Option<Kept>, AllocError>
+fn with_rows(kept: MapContents, rows: Option<KeptRows>) -> Result<Option<MapContents>, AllocError>
     ensures { IfOk result (λ next. next ≡ with_rows kept rows) }
 {
     let Some(rows) = rows else {
         return Ok(None);
     };
     let rows = joined_rows(kept.rows, rows)?;
-    Ok(Some(Kept { rows, ..kept }))
+    Ok(Some(MapContents { rows, ..kept }))
 }
 
 fn joined_rows(front: KeptRows, back: KeptRows) -> Result<KeptRows, AllocError>
@@ -222,7 +233,11 @@ fn joined_rows(front: KeptRows, back: KeptRows) -> Result<KeptRows, AllocError>
     Ok(all)
 }
 
-fn with_fabric(kept: Kept, index: u8, value: &Value) -> Result<Option<Kept>, AllocError>
+fn with_fabric(
+    kept: MapContents,
+    index: u8,
+    value: &Value,
+) -> Result<Option<MapContents>, AllocError>
     ensures { IfOk result (λ next. next ≡ with_fabric kept (fabric_in index (tree value.now))) }
 {
     let Some(fabric) = fabric_in(index, value)? else {
@@ -230,32 +245,44 @@ fn with_fabric(kept: Kept, index: u8, value: &Value) -> Result<Option<Kept>, All
     };
     let mut fabrics = kept.fabrics;
     fabrics.push(fabric)?;
-    Ok(Some(Kept { fabrics, ..kept }))
+    Ok(Some(MapContents { fabrics, ..kept }))
 }
 
-fn with_roots(alloc: Global, kept: Kept, value: &Value) -> Result<Option<Kept>, AllocError>
+fn with_roots(
+    alloc: Global,
+    kept: MapContents,
+    value: &Value,
+) -> Result<Option<MapContents>, AllocError>
     ensures { IfOk result (λ next. next ≡ with_roots kept (roots_in (tree value.now))) }
 {
     match roots_in(alloc, value)? {
-        Some(roots) => Ok(Some(Kept { roots, ..kept })),
+        Some(roots) => Ok(Some(MapContents { roots, ..kept })),
         None => Ok(None),
     }
 }
 
-fn with_networks(alloc: Global, kept: Kept, value: &Value) -> Result<Option<Kept>, AllocError>
+fn with_networks(
+    alloc: Global,
+    kept: MapContents,
+    value: &Value,
+) -> Result<Option<MapContents>, AllocError>
     ensures { IfOk result (λ next. next ≡ with_networks kept (networks_in (tree value.now))) }
 {
     match networks_in(alloc, value)? {
-        Some(networks) => Ok(Some(Kept { networks, ..kept })),
+        Some(networks) => Ok(Some(MapContents { networks, ..kept })),
         None => Ok(None),
     }
 }
 
-fn with_failsafe(alloc: Global, kept: Kept, value: &Value) -> Result<Option<Kept>, AllocError>
+fn with_failsafe(
+    alloc: Global,
+    kept: MapContents,
+    value: &Value,
+) -> Result<Option<MapContents>, AllocError>
     ensures { IfOk result (λ next. next ≡ with_failsafe kept (armed_in (tree value.now))) }
 {
     match armed_in(alloc, value)? {
-        Some(armed) => Ok(Some(Kept {
+        Some(armed) => Ok(Some(MapContents {
             failsafe: Some(armed),
             ..kept
         })),

@@ -23,5 +23,5 @@ mod rows;
 
 pub use facts::facts_hold;
 pub use grammar::{States, is_in_grammar};
-pub use kept::{Kept, KeptRows, kept_in};
+pub use kept::{KeptRows, MapContents, kept_in};
 pub use keys::{Key, key_in};

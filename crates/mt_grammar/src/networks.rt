@@ -6,8 +6,8 @@ ghost use Rattle.mt_grammar.specs.Fields.{all_in};
 ghost use Rattle.mt_grammar.specs.Values.{network_in, network_of, networks_in, roots_in};
 
 use crate::fields::{array_in, fields_in, if_some, octets_at, octets_in, truth_at};
-use mt_rules::each;
 use mt_model::{Network, Networks, Roots};
+use mt_rules::each;
 use mt_tlv::{Tag, Value};
 use std::alloc::{AllocError, Global};
 

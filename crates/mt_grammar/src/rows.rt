@@ -13,9 +13,9 @@ ghost use Rattle.mt_grammar.specs.Values.{has_items, if_few, is_acl, is_first, i
 use crate::fields::{array_in, is_null, unsigned_at};
 use crate::forms::has_form;
 use crate::kept::KeptRows;
-use mt_rules::each;
 use mt_meta::{AttributeRow, FirstValue, Kind, Meta, Origin, attributes_of, find};
 use mt_model::{Place, Row};
+use mt_rules::each;
 use mt_tlv::{Tag, Value};
 use std::alloc::{AllocError, Global};
 

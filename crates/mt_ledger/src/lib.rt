@@ -18,19 +18,15 @@ mod history;
 
 ghost use Rattle.mt_ledger.specs.Laws.{ConfirmsAside, ConfirmsOnTheVeil, DueOnTheVeil, EndsAside, EndsOnTheVeil, FindsItsOwn, KeepsItsLedger, KeepsOthersLedgers, KeepsTheRecent, LeavesItsLedgerOnTheVeil, LineRepliesOnTheVeil, NobodyChangesIt, OpensLedger, RepliesOnTheVeil, ReportedOnTheVeil, ReportsAside, ReportsOnTheVeil, RespondsOnTheVeil, StaysLedger, TicksLeaveLedgersOnTheVeil, TicksSpareLedgers, TimeChangesNothing};
 
-use crate::history::{
-    events_are_left_on_the_veil, histories_stay_histories, others_events_are_kept,
-    replies_are_the_same_on_the_veil, veils_keep_events,
+pub use history::{
+    events_are_left_on_the_veil, histories_grow_by_events, histories_stay_histories,
+    others_events_are_kept, replies_are_the_same_on_the_veil, veils_keep_events,
 };
 use mt_machine::{
     actions_set_values, keeps_the_own, leaves_the_own_on_the_veil, sees_the_veil,
     ticks_let_the_failsafe_expire, veil_keeps_both_parts, what_is_asked_is_the_same_on_the_veil,
 };
 use mt_subs::valid_subscriptions_stay_valid;
-
-pub use history::{
-    events_are_left_on_the_veil, histories_grow_by_events, histories_stay_histories, others_events_are_kept, replies_are_the_same_on_the_veil, veils_keep_events,
-};
 
 /// The ledger of a new node is one, and whatever is done leaves it so: subscriptions keep their rules, and whoever has
 /// subscribed is there.

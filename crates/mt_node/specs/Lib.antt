@@ -1,4 +1,4 @@
 pub mod Answered
 pub mod Differences
-pub mod Kept
+pub mod Configured
 pub mod Plan

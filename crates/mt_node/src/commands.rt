@@ -8,7 +8,7 @@ ghost use Rattle.mt_commission.specs.Commands as commission;
 ghost use Rattle.mt_machine.specs.Commands.{carried_out, command_effect, is_commissioning, nobodys_rows, unless_refused};
 ghost use Rattle.mt_machine.specs.Observation.{observation};
 ghost use Rattle.mt_machine.specs.Step.{invoke_reply, invoke_steps};
-ghost use Rattle.mt_node.specs.Kept.{given_to};
+ghost use Rattle.mt_node.specs.Configured.{given_to};
 
 use crate::node::Node;
 use crate::requests::{is_untimely, refused, unless_suppressed};

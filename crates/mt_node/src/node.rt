@@ -7,7 +7,7 @@ ghost use Rattle.mt_machine.specs.Rollback.{is_due};
 ghost use Rattle.mt_machine.specs.State.{IsValid};
 ghost use Rattle.mt_machine.specs.Step.{asker, is_late, session_actor};
 ghost use Rattle.mt_node.specs.Answered.{IsAnswerInTime, is_of_credentials};
-ghost use Rattle.mt_node.specs.Kept.{given_to, in_state, started};
+ghost use Rattle.mt_node.specs.Configured.{given_to, in_state, started};
 ghost use Rattle.mt_node.specs.Plan.{IsPlan, IsPlanned, applied};
 ghost use Rattle.mt_opcreds.specs.Judged.{judged_by};
 ghost use Rattle.mt_opcreds.specs.Laws.{KeepsRules};
@@ -46,11 +46,11 @@ impl Drop for Node {
 impl Model for Node {
     ghost use Rattle.mt_model.specs.texts.Contents.{contents_of};
     ghost use Rattle.mt_machine.specs.State.{IsValid};
-    ghost use Rattle.mt_node.specs.Kept.{Kept};
+    ghost use Rattle.mt_node.specs.Configured.{ConfiguredNode};
     ghost use Rattle.mt_tlv.specs.contracts.value.Value as values;
     ghost use Rattle.std.specs.Coded.{codes};
 
-    ghost Value = { Kept };
+    ghost Value = { ConfiguredNode };
 
     ghost coded = { Prim.hlevel (codes, values.the_row.coded) };
 

@@ -5,7 +5,7 @@ ghost use Rattle.mt_model.specs.messages.Status.{code_of};
 ghost use Rattle.mt_model.specs.declared.messages.message.Reply.TheVariants.{Nothing};
 ghost use Rattle.mt_machine.specs.Step.{is_untimely, refusal, unless_suppressed};
 ghost use Rattle.mt_node.specs.Answered.{IsAnswer};
-ghost use Rattle.mt_node.specs.Kept.{given_to};
+ghost use Rattle.mt_node.specs.Configured.{given_to};
 
 use crate::node::Node;
 use crate::{commands, reads, writes};

@@ -13,13 +13,9 @@ mod lines;
 
 ghost use Rattle.mt_runs.specs.Laws.{EqualMarksEqualMessages, EqualMarksEqualParts, LinesNameTheirFabric, RunsAreReplayed, RunsAreTheirMessages, RunsLeaveWhatIsReplayed, RunsNameTheirFabrics, RunsStayValid, StrangersAreSentNothing};
 
-use crate::lines::{
-    whole_keeps_the_own, whole_leaves_the_own_on_the_veil, whole_sends_on_the_veil, ticks_see_the_mark_alone,
-    veil_keeps_the_own, wholes_are_valid,
-};
-
 pub use lines::{
-    whole_keeps_the_own, whole_leaves_the_own_on_the_veil, whole_sends_on_the_veil, ticks_see_the_mark_alone, veil_keeps_the_own, wholes_are_valid,
+    ticks_see_the_mark_alone, veil_keeps_the_own, whole_keeps_the_own,
+    whole_leaves_the_own_on_the_veil, whole_sends_on_the_veil, wholes_are_valid,
 };
 
 /// What is written of a run is its messages in their order, each once; and a run leaves a valid whole.

@@ -17,9 +17,8 @@ use mt_ledger::{
     veils_keep_ledgers,
 };
 use mt_machine::{
-    keeps_the_own, leaves_the_own_on_the_veil, 
-    sessions_keep_their_ids, states_are_valid, ticks_let_the_failsafe_expire,
-    veil_keeps_both_parts, what_is_asked_is_the_same_on_the_veil,
+    keeps_the_own, leaves_the_own_on_the_veil, sessions_keep_their_ids, states_are_valid,
+    ticks_let_the_failsafe_expire, veil_keeps_both_parts, what_is_asked_is_the_same_on_the_veil,
 };
 
 /// The whole that a configuration begins is valid, and a line leaves it so: its node is valid, its ledger is one beside

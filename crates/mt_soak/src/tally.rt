@@ -7,8 +7,8 @@ ghost use Rattle.mt_files.specs.Lines.{ended, text_of};
 ghost use Rattle.mt_files.specs.Output.{output_text};
 ghost use Rattle.mt_soak.specs.Summary.{AreCountsOf, IsTallyOf, codes_in, codes_sent, line_where_counted, message_codes, status_lines, summary_text};
 
-use itoa::Buffer;
 use crate::codes::count_codes;
+use itoa::Buffer;
 use mt_files::write_sent;
 use mt_model::{Sent, To};
 use mt_tlv::{TlvFault, read};

@@ -16,7 +16,7 @@ use Rattle.mt_machine.specs.Environment.{Environment}
 use Rattle.mt_ledger.specs.Reporting.{due_now}
 use Rattle.mt_runs.specs.Lines.{talks_behind, with_next}
 use Rattle.mt_runs.specs.Whole.{SessionTalk, Whole, is_talk_of, talk_of, with_talk}
-use Rattle.mt_plain.specs.Reporting.{reported_over}
+use Rattle.mt_interactions.specs.Reporting.{reported_over}
 use Rattle.mt_marks.specs.Noted.{happening_in, noted_if, noted_talk}
 use Rattle.mt_marks.specs.declared.happening.Happening.{Happening}
 use Rattle.mt_marks.specs.declared.happening.Note.{Note}

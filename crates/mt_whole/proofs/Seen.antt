@@ -60,21 +60,21 @@ standings_stand fabric sessions (talk ∷ talks) (t ∷ ts) are =
 -- What stands of a whole.
 
 abbrev pub own_in : ℕ → whole.Whole → OwnStanding
-own_in fabric one = record { whole = own_of_whole fabric one.plain.state; ledger = own_ledger fabric one.plain.ledger; standings = standings_of fabric one }
+own_in fabric one = record { whole = own_of_whole fabric one.interactions.state; ledger = own_ledger fabric one.interactions.ledger; standings = standings_of fabric one }
 
 pub own_stands : (fabric : ℕ) (one : whole.Whole) (w : Whole) → IsWholeOf one w → own_in fabric one ≡ own_standing fabric w
 own_stands fabric one w is =
     let standings : standings_of fabric one ≡ map standing (own_part fabric w).talks =
-    standings_stand fabric one.plain.state.node.sessions one.talks.items w.talks is.talks ∙ ap (λ (s : State). map standing (talks_among (live_for fabric s.node.sessions) w.talks)) is.state in
+    standings_stand fabric one.interactions.state.node.sessions one.talks.items w.talks is.talks ∙ ap (λ (s : State). map standing (talks_among (live_for fabric s.node.sessions) w.talks)) is.state in
     λ i. record { whole = own_of_whole fabric (is.state i); ledger = own_ledger fabric (is.ledger i); standings = standings i }
 
 -- Two wholes.
 
 pub alike_so : (fabric : ℕ) (one other : whole.Whole) (w v : Whole) → IsWholeOf one w → IsWholeOf other v
-    → (own_of_whole fabric one.plain.state ≡ own_of_whole fabric other.plain.state) × (own_ledger fabric one.plain.ledger ≡ own_ledger fabric other.plain.ledger)
+    → (own_of_whole fabric one.interactions.state ≡ own_of_whole fabric other.interactions.state) × (own_ledger fabric one.interactions.ledger ≡ own_ledger fabric other.interactions.ledger)
     → standings_of fabric one ≡ standings_of fabric other → own_standing fabric w ≡ own_standing fabric v
-alike_so fabric one other w v is its plain standings =
-    let both : own_in fabric one ≡ own_in fabric other = λ i. record { whole = plain.0 i; ledger = plain.1 i; standings = standings i } in
+alike_so fabric one other w v is its interactions standings =
+    let both : own_in fabric one ≡ own_in fabric other = λ i. record { whole = interactions.0 i; ledger = interactions.1 i; standings = standings i } in
     sym (own_stands fabric one w is) ∙ both ∙ own_stands fabric other v its
 
 pub alike_in : (fabric : ℕ) (one other : whole.Whole) (w v : Whole) → IsWholeOf one w → IsWholeOf other v → own_standing fabric w ≡ own_standing fabric v → own_in fabric one ≡ own_in fabric other

@@ -21,9 +21,9 @@ use Rattle.mt_ledger.specs.Behind.{acts, action_in, ledger_behind}
 use Rattle.mt_ledger.specs.Ledger.{Ledger}
 use Rattle.mt_runs.specs.Lines.{is_built, ledger_after, sent, state_behind, talks_behind}
 use Rattle.mt_runs.specs.Whole.{SessionTalk, Whole, opened, talk_of}
-use Rattle.mt_plain.specs.Kept as plain
-use Rattle.mt_plain.specs.Plan.{IsPlainPlanned, applied_ledger, applied_plain}
-use Rattle.mt_plain.specs.declared.outcome.PlainOutcome.{PlainOutcome}
+use Rattle.mt_interactions.specs.Configured as interactions
+use Rattle.mt_interactions.specs.Plan.{IsInteractionPlanned, applied_ledger, applied_state}
+use Rattle.mt_interactions.specs.declared.outcome.InteractionOutcome.{InteractionOutcome}
 use Rattle.mt_whole.specs.declared.datagrams.Answering.{Answering}
 use Rattle.mt_whole.specs.declared.outcome.WholeOutcome.{WholeOutcome}
 use Rattle.mt_whole.specs.declared.whole.Whole as whole
@@ -32,11 +32,11 @@ use Rattle.mt_whole.specs.Talks.{AreTalks, IsWholeOf, put}
 
 -- what is given to a whole, where these are the rows of the verdicts
 abbrev pub given_to : whole.Whole → List RootRow → List CsrRow → List JoinRow → Environment
-given_to one roots csrs joins = plain.given_to one.plain roots csrs joins
+given_to one roots csrs joins = interactions.given_to one.interactions roots csrs joins
 
 -- a whole that was started with this configuration
 pub record IsStarted (config : Config) (one : whole.Whole) : Type 0 where
-  pub begun : one.plain ≡ plain.started config
+  pub begun : one.interactions ≡ interactions.started config
   pub stands : IsWholeOf one (opened config)
 
 -- a message that was let in, as the code tells it
@@ -57,22 +57,22 @@ fresh_by_line w (events.Datagram ms from bytes) = fresh_named bytes (talk_of (se
 fresh_by_line w event = None
 
 -- The outcome is that of this event: what is sent, what it brings, the node and the deadlines, what is said.
-pub record IsWholePlan (given : Environment) (w : Whole) (event : Event) (outcome : WholeOutcome) : Type 0 where
+pub record IsPlan (given : Environment) (w : Whole) (event : Event) (outcome : WholeOutcome) : Type 0 where
   pub sent : outcome.sent ≡ sent given w event
   pub fresh : told_fresh outcome.fresh ≡ fresh_by_line w event
-  pub state : applied_plain outcome.plain w.state ≡ state_behind given w event
-  pub ledger : applied_ledger outcome.plain w.state w.ledger ≡ ledger_after given w event
+  pub state : applied_state outcome.interactions w.state ≡ state_behind given w event
+  pub ledger : applied_ledger outcome.interactions w.state w.ledger ≡ ledger_after given w event
   pub talks : (talks : List code.SessionTalk) → AreTalks talks w.talks → AreTalks (put outcome.talk talks) (talks_behind given w event)
 
 -- there is an outcome exactly where the event is built
 abbrev pub IsPlanIf : Environment → Whole → Event → Option WholeOutcome → Type 0
 IsPlanIf given w event None = is_built event ≡ false
-IsPlanIf given w event (Some outcome) = (is_built event ≡ true) × IsWholePlan given w event outcome
+IsPlanIf given w event (Some outcome) = (is_built event ≡ true) × IsPlan given w event outcome
 
 -- an outcome was made on this state
 abbrev pub IsPlannedIf : State → Ledger → Option WholeOutcome → Type 0
 IsPlannedIf s l None = ⊤
-IsPlannedIf s l (Some outcome) = IsPlainPlanned s l outcome.plain
+IsPlannedIf s l (Some outcome) = IsInteractionPlanned s l outcome.interactions
 
 -- What comes over one session.
 
@@ -84,8 +84,8 @@ IsNewTalk (Some new) t talk = (new.id ≡ t.row.session) × IsTalkOf new.talk t.
 pub record IsHeard (given : Environment) (s : State) (l : Ledger) (ms : ℕ) (from : Peer) (bytes : List ℕ) (t : SessionTalk) (outcome : WholeOutcome) : Type 0 where
   pub sent : outcome.sent ≡ sent_over given s.node l ms from bytes t
   pub fresh : told_fresh outcome.fresh ≡ fresh_over bytes t
-  pub state : applied_plain outcome.plain s ≡ behind_action given s (action_in (activity_said s.node t.row.session (said_to s.node bytes t))) ms
-  pub ledger : applied_ledger outcome.plain s l ≡ ledger_behind given s.node (activity_said s.node t.row.session (said_to s.node bytes t)) ms l
+  pub state : applied_state outcome.interactions s ≡ behind_action given s (action_in (activity_said s.node t.row.session (said_to s.node bytes t))) ms
+  pub ledger : applied_ledger outcome.interactions s l ≡ ledger_behind given s.node (activity_said s.node t.row.session (said_to s.node bytes t)) ms l
   pub talk : IsNewTalk outcome.talk t (talked given s.node l ms from bytes t)
 
 -- What is answered to what is said: on which exchange, with which acknowledgement, and what comes of it.
@@ -94,29 +94,29 @@ abbrev pub answer_as : Option Answering → Option Answer
 answer_as None = None
 answer_as (Some answer) = Some (record { key = answer.key; acknowledge = answer.acknowledge; payloads = answer.payloads })
 
-pub record IsAnswered (given : Environment) (s : State) (l : Ledger) (id ms : ℕ) (said : Said) (both : Option Answering × PlainOutcome) : Type 0 where
+pub record IsAnswered (given : Environment) (s : State) (l : Ledger) (id ms : ℕ) (said : Said) (both : Option Answering × InteractionOutcome) : Type 0 where
   pub answer : answer_as both.0 ≡ answer_to given s.node l id ms said
-  pub state : applied_plain both.1 s ≡ behind_action given s (action_in (activity_said s.node id said)) ms
+  pub state : applied_state both.1 s ≡ behind_action given s (action_in (activity_said s.node id said)) ms
   pub ledger : applied_ledger both.1 s l ≡ ledger_behind given s.node (activity_said s.node id said) ms l
-  pub planned : IsPlainPlanned s l both.1
+  pub planned : IsInteractionPlanned s l both.1
 
 -- What is of no session, what passes, and what is sent again.
 
--- what is sent is what the plain sends, and nothing is said
-pub record IsPlainly (made : PlainOutcome) (outcome : WholeOutcome) : Type 0 where
+-- what is sent is what the interactions send, and nothing is said
+pub record IsPlainly (made : InteractionOutcome) (outcome : WholeOutcome) : Type 0 where
   pub sent : outcome.sent ≡ made.sent
   pub fresh : outcome.fresh ≡ None
-  pub plain : outcome.plain ≡ record made { sent = [] }
+  pub interactions : outcome.interactions ≡ record made { sent = [] }
   pub talk : outcome.talk ≡ None
 
 -- nothing is sent or said, and time passes
 pub record IsQuiet (given : Environment) (s : State) (l : Ledger) (ms : ℕ) (outcome : WholeOutcome) : Type 0 where
   pub sent : outcome.sent ≡ []
   pub fresh : outcome.fresh ≡ None
-  pub state : applied_plain outcome.plain s ≡ behind_action given s actions.Nothing ms
-  pub ledger : applied_ledger outcome.plain s l ≡ ledger_behind given s.node (acts actions.Nothing) ms l
+  pub state : applied_state outcome.interactions s ≡ behind_action given s actions.Nothing ms
+  pub ledger : applied_ledger outcome.interactions s l ≡ ledger_behind given s.node (acts actions.Nothing) ms l
   pub talk : outcome.talk ≡ None
-  pub planned : IsPlainPlanned s l outcome.plain
+  pub planned : IsInteractionPlanned s l outcome.interactions
 
 -- the talk that an outcome brings, if any, stands for this; where it brings none it stays
 abbrev pub IsTalkBehind : Option code.SessionTalk → SessionTalk → Talk → Type 0
@@ -126,8 +126,8 @@ IsTalkBehind (Some new) t talk = (new.id ≡ t.row.session) × IsTalkOf new.talk
 pub record IsAgain (given : Environment) (s : State) (l : Ledger) (ms : ℕ) (t : SessionTalk) (outcome : WholeOutcome) : Type 0 where
   pub sent : outcome.sent ≡ resent_over s.node ms t
   pub fresh : outcome.fresh ≡ None
-  pub state : applied_plain outcome.plain s ≡ behind_action given s actions.Nothing ms
-  pub ledger : applied_ledger outcome.plain s l ≡ ledger_behind given s.node (activity_resent s.node ms t) ms l
+  pub state : applied_state outcome.interactions s ≡ behind_action given s actions.Nothing ms
+  pub ledger : applied_ledger outcome.interactions s l ≡ ledger_behind given s.node (activity_resent s.node ms t) ms l
   pub talk : IsTalkBehind outcome.talk t (resent_talk s.node ms t)
 
 -- these payloads are reported over a session

@@ -53,4 +53,4 @@ standings_in fabric sessions talks = map standing_in (filter (λ (talk : code.Se
 
 -- those of a whole
 abbrev pub standings_of : ℕ → whole.Whole → List Standing
-standings_of fabric one = standings_in fabric one.plain.state.node.sessions one.talks.items
+standings_of fabric one = standings_in fabric one.interactions.state.node.sessions one.talks.items

@@ -35,6 +35,6 @@ put (Some new) (talk ∷ talks) = if talk.id == new.id then new ∷ talks else t
 
 -- THE WHOLE THAT THE CODE STANDS FOR: its node, its deadlines, its events and subscriptions, and lists of what was said, which nothing stores.
 pub record IsWholeOf (one : whole.Whole) (w : Whole) : Type 0 where
-  pub state : one.plain.state ≡ w.state
-  pub ledger : one.plain.ledger ≡ w.ledger
+  pub state : one.interactions.state ≡ w.state
+  pub ledger : one.interactions.ledger ≡ w.ledger
   pub talks : AreTalks one.talks.items w.talks

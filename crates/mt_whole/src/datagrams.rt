@@ -5,10 +5,10 @@ ghost use Rattle.mt_model.specs.declared.texts.recording.Event.TheVariants.{Data
 ghost use Rattle.mt_model.specs.declared.texts.config.SessionRow.{SessionRow};
 ghost use Rattle.mt_runs.specs.Datagrams.{behind_answer, datagram_of, ending, session_named};
 ghost use Rattle.mt_runs.specs.Whole.{SessionTalk as ToldTalk, Whole as Told, fabric_over};
-ghost use Rattle.mt_plain.specs.Plan.{IsDone, IsPlainPlanned};
+ghost use Rattle.mt_interactions.specs.Plan.{IsDone, IsInteractionPlanned};
 ghost use Rattle.mt_talk.specs.Hearing.{fresh_as, said_by};
 ghost use Rattle.mt_talk.specs.Talks.{IsTalkOf, Talk as Written};
-ghost use Rattle.mt_whole.specs.Plan.{IsAnswered, IsHeard, IsWholePlan, answer_as, given_to, told_fresh};
+ghost use Rattle.mt_whole.specs.Plan.{IsAnswered, IsHeard, IsPlan, answer_as, given_to, told_fresh};
 ghost use Rattle.mt_whole.specs.Talks.{IsTalkAt, IsWholeOf};
 
 use crate::outcome::WholeOutcome;
@@ -17,9 +17,9 @@ use crate::sending::one_sent;
 use crate::talks::{SessionTalk, talk_of};
 use crate::whole::Whole;
 use mt_frame::{ProtocolHeader, read_message};
+use mt_interactions::{InteractionOutcome, asked};
 use mt_model::{ExactCopy, Payloads, SentList, Verdicts};
 use mt_outside::Peer;
-use mt_plain::{PlainOutcome, asked};
 use mt_session::Opened;
 use mt_talk::{Heard, Key, Talk};
 use mt_tlv::Bytes;
@@ -41,9 +41,9 @@ pub(crate) fn planned_datagram<V: Verdicts>(
     bytes: &Bytes,
     verdicts: &V,
 ) -> Result<WholeOutcome, AllocError>
-    ensures planned { IfOk result (λ outcome. IsPlainPlanned whole.now.plain.state whole.now.plain.ledger outcome.plain) }
+    ensures planned { IfOk result (λ outcome. IsInteractionPlanned whole.now.interactions.state whole.now.interactions.ledger outcome.interactions) }
     ensures plan { let given = given_to whole.now (V.roots verdicts.now) (V.csrs verdicts.now) (V.joins verdicts.now) in
-        (w : Told) → IsWholeOf whole.now w → IfOk result (IsWholePlan given w (Datagram ms from bytes.now)) }
+        (w : Told) → IsWholeOf whole.now w → IfOk result (IsPlan given w (Datagram ms from bytes.now)) }
 {
     let Some(id) = session_named(bytes.as_slice()) else {
         return quiet(whole, ms, verdicts);
@@ -78,24 +78,24 @@ fn planned_heard<V: Verdicts>(
     verdicts: &V,
 ) -> Result<WholeOutcome, AllocError>
     requires { length bytes.now < 2 ^ 16 }
-    ensures planned { IfOk result (λ outcome. IsPlainPlanned whole.now.plain.state whole.now.plain.ledger outcome.plain) }
+    ensures planned { IfOk result (λ outcome. IsInteractionPlanned whole.now.interactions.state whole.now.interactions.ledger outcome.interactions) }
     ensures heard { let given = given_to whole.now (V.roots verdicts.now) (V.csrs verdicts.now) (V.joins verdicts.now) in
-        (t : ToldTalk) → IsTalkAt talk.now t → IfOk result (IsHeard given whole.now.plain.state whole.now.plain.ledger ms from bytes.now t) }
+        (t : ToldTalk) → IsTalkAt talk.now t → IfOk result (IsHeard given whole.now.interactions.state whole.now.interactions.ledger ms from bytes.now t) }
 {
     let id = talk.id;
-    let live = whole.plain.actor(id).is_some();
+    let live = whole.interactions.actor(id).is_some();
     let mut talk = talk.talk.copy()?;
     let mut datagram = bytes.copy()?.into_vec();
     let hearing = talk.hear(live, from, &mut datagram)?;
     let fresh = fresh_of(whole.alloc, &hearing.fresh)?;
-    let (answer, plain) = answered(whole, id, hearing.heard, ms, verdicts)?;
+    let (answer, interactions) = answered(whole, id, hearing.heard, ms, verdicts)?;
     let peer = talk.latest();
     let datagram = datagram_of(&mut talk, answer, ms)?;
     let sent = one_sent(whole.alloc, ms, id, peer, datagram)?;
     Ok(WholeOutcome {
         sent,
         fresh,
-        plain,
+        interactions,
         talk: Some(SessionTalk { id, talk }),
     })
 }
@@ -122,12 +122,12 @@ pub(crate) fn answered<V: Verdicts>(
     heard: Heard,
     ms: u64,
     verdicts: &V,
-) -> Result<(Option<Answering>, PlainOutcome), AllocError>
+) -> Result<(Option<Answering>, InteractionOutcome), AllocError>
     ensures { let given = given_to whole.now (V.roots verdicts.now) (V.csrs verdicts.now) (V.joins verdicts.now) in
-        IfOk result (IsAnswered given whole.now.plain.state whole.now.plain.ledger id ms (said_by heard.entry)) }
+        IfOk result (IsAnswered given whole.now.interactions.state whole.now.interactions.ledger id ms (said_by heard.entry)) }
 {
     match heard {
-        Heard::Nothing => Ok((None, whole.plain.pass(ms, verdicts)?)),
+        Heard::Nothing => Ok((None, whole.interactions.pass(ms, verdicts)?)),
         Heard::Asks {
             key,
             acknowledge,
@@ -136,33 +136,46 @@ pub(crate) fn answered<V: Verdicts>(
             timed,
         } => {
             let asked = asked(whole.alloc, opcode, payload)?;
-            let (payloads, plain) = whole.plain.plan_over(id, &asked, timed, ms, verdicts)?;
-            Ok((Some(answering_with(key, acknowledge, payloads)), plain))
+            let (payloads, interactions) = whole
+                .interactions
+                .plan_over(id, &asked, timed, ms, verdicts)?;
+            Ok((
+                Some(answering_with(key, acknowledge, payloads)),
+                interactions,
+            ))
         },
         Heard::Confirms {
             key,
             acknowledge,
             subscription,
         } => {
-            let (payloads, plain) = whole.plain.plan_confirm(id, subscription, ms, verdicts)?;
-            Ok((Some(answering_with(key, acknowledge, payloads)), plain))
+            let (payloads, interactions) = whole
+                .interactions
+                .plan_confirm(id, subscription, ms, verdicts)?;
+            Ok((
+                Some(answering_with(key, acknowledge, payloads)),
+                interactions,
+            ))
         },
         Heard::Ends {
             key,
             acknowledge,
             subscription,
         } => {
-            let plain = ended(whole, id, subscription, ms, verdicts)?;
+            let interactions = ended(whole, id, subscription, ms, verdicts)?;
             let none = Payloads::new(whole.alloc);
-            Ok((Some(answering_with(key, acknowledge, none)), plain))
+            Ok((Some(answering_with(key, acknowledge, none)), interactions))
         },
         Heard::Answers {
             key,
             acknowledge,
             payloads,
         } => {
-            let plain = whole.plain.pass(ms, verdicts)?;
-            Ok((Some(answering_with(key, acknowledge, payloads)), plain))
+            let interactions = whole.interactions.pass(ms, verdicts)?;
+            Ok((
+                Some(answering_with(key, acknowledge, payloads)),
+                interactions,
+            ))
         },
     }
 }
@@ -184,16 +197,16 @@ fn ended<V: Verdicts>(
     subscription: Option<u32>,
     ms: u64,
     verdicts: &V,
-) -> Result<PlainOutcome, AllocError>
+) -> Result<InteractionOutcome, AllocError>
     ensures { let given = given_to whole.now (V.roots verdicts.now) (V.csrs verdicts.now) (V.joins verdicts.now) in
-        IfOk result (IsDone given whole.now.plain.state whole.now.plain.ledger (ending (fabric_over whole.now.plain.state.node id) subscription) ms) }
+        IfOk result (IsDone given whole.now.interactions.state whole.now.interactions.ledger (ending (fabric_over whole.now.interactions.state.node id) subscription) ms) }
 {
     match subscription {
         Some(subscription) => {
             let ids = vec![in whole.alloc; subscription]?;
-            whole.plain.plan_ends(id, ids, ms, verdicts)
+            whole.interactions.plan_ends(id, ids, ms, verdicts)
         },
-        None => whole.plain.pass(ms, verdicts),
+        None => whole.interactions.pass(ms, verdicts),
     }
 }
 

@@ -19,12 +19,12 @@ ghost use Rattle.mt_whole.specs.Talks.{IsTalkAt, IsWholeOf};
 use crate::datagrams::{Answering, answered, session_named};
 use crate::talks::{SessionTalk, talk_of};
 use crate::whole::Whole;
+use mt_marks::{Arrived, Happening, Happenings, Note};
 use mt_model::{Event, ExactCopy, Payloads, Verdicts};
 use mt_outside::Peer;
 use mt_session::Opened;
 use mt_talk::{SealFault, Talk};
 use mt_tlv::Bytes;
-use mt_marks::{Arrived, Happening, Happenings, Note};
 use std::alloc::{AllocError, Global};
 
 impl Whole {
@@ -80,9 +80,9 @@ fn noted_heard<V: Verdicts>(
 ) -> Result<Note, AllocError>
     requires { length bytes.now < 2 ^ 16 }
     ensures { let given = given_to whole.now (V.roots verdicts.now) (V.csrs verdicts.now) (V.joins verdicts.now) in
-        (t : ToldTalk) → IsTalkAt talk.now t → IfOk result (λ note. IsNoteOf (Some note) t (talked given whole.now.plain.state.node whole.now.plain.ledger ms from bytes.now t)) }
+        (t : ToldTalk) → IsTalkAt talk.now t → IfOk result (λ note. IsNoteOf (Some note) t (talked given whole.now.interactions.state.node whole.now.interactions.ledger ms from bytes.now t)) }
 {
-    let live = whole.plain.actor(talk.id).is_some();
+    let live = whole.interactions.actor(talk.id).is_some();
     let mut heard = talk.talk.copy()?;
     let mut datagram = bytes.copy()?.into_vec();
     let hearing = heard.hear(live, from, &mut datagram)?;
@@ -141,7 +141,9 @@ fn noted_report<V: Verdicts>(
     ensures { let given = given_to whole.now (V.roots verdicts.now) (V.csrs verdicts.now) (V.joins verdicts.now) in
         (w : Told) → IsWholeOf whole.now w → IfOk result (λ note. noted_if note w.talks ≡ talks_behind given w (Report ms fabric subscription)) }
 {
-    let (over, _) = whole.plain.plan_report(fabric, subscription, ms, verdicts)?;
+    let (over, _) = whole
+        .interactions
+        .plan_report(fabric, subscription, ms, verdicts)?;
     let Some((session, payloads)) = over else {
         return Ok(None);
     };
@@ -187,9 +189,9 @@ fn noted_resend(whole: &Whole, ms: u64, session: u16) -> Result<Option<Note>, Al
 }
 
 fn noted_again(whole: &Whole, ms: u64, talk: &SessionTalk) -> Result<Option<Note>, AllocError>
-    ensures { (t : ToldTalk) → IsTalkAt talk.now t → IfOk result (λ note. IsNoteOf note t (resent_talk whole.now.plain.state.node ms t)) }
+    ensures { (t : ToldTalk) → IsTalkAt talk.now t → IfOk result (λ note. IsNoteOf note t (resent_talk whole.now.interactions.state.node ms t)) }
 {
-    if whole.plain.actor(talk.id).is_none() {
+    if whole.interactions.actor(talk.id).is_none() {
         return Ok(None);
     }
     Ok(Some(note_of(whole.alloc, talk, Happening::Resent { now: ms })?))

@@ -4,8 +4,8 @@ ghost use Rattle.std.specs.Prelude.{◌≡◌};
 
 use crate::talks::SessionTalk;
 use mt_frame::ProtocolHeader;
+use mt_interactions::InteractionOutcome;
 use mt_model::SentList;
-use mt_plain::PlainOutcome;
 use mt_tlv::Bytes;
 
 /// What a planned event sends, and what it makes of the whole.
@@ -16,7 +16,7 @@ pub struct WholeOutcome {
     /// The counter, the header and the payload of the message that the event brings to its session, live or not, where
     /// it brings one.
     pub fresh: Option<(u32, ProtocolHeader, Bytes)>,
-    pub(crate) plain: PlainOutcome,
+    pub(crate) interactions: InteractionOutcome,
     // the talk that is another behind the event, where one is
     pub(crate) talk: Option<SessionTalk>,
 }
@@ -24,8 +24,8 @@ pub struct WholeOutcome {
 impl WholeOutcome {
     /// The sessions that end with it.
     pub fn closed(&self) -> &[u16]
-        ensures { result.now ≡ self.now.plain.node.closed }
+        ensures { result.now ≡ self.now.interactions.node.closed }
     {
-        self.plain.closed()
+        self.interactions.closed()
     }
 }

@@ -3,16 +3,16 @@
 ghost use Rattle.std.specs.Prelude.{◌≡◌, IfOk};
 ghost use Rattle.mt_model.specs.declared.texts.recording.Event.TheVariants.{Report};
 ghost use Rattle.mt_runs.specs.Whole.{SessionTalk as ToldTalk, Whole as Told};
-ghost use Rattle.mt_plain.specs.Plan.{IsPlainPlanned};
-ghost use Rattle.mt_whole.specs.Plan.{IsToldOver, IsWholePlan, given_to};
+ghost use Rattle.mt_interactions.specs.Plan.{IsInteractionPlanned};
+ghost use Rattle.mt_whole.specs.Plan.{IsToldOver, IsPlan, given_to};
 ghost use Rattle.mt_whole.specs.Talks.{IsTalkAt, IsWholeOf};
 
 use crate::outcome::WholeOutcome;
 use crate::sending::one_sent;
 use crate::talks::{SessionTalk, talk_of};
 use crate::whole::Whole;
+use mt_interactions::InteractionOutcome;
 use mt_model::{ExactCopy, Payloads, Verdicts};
-use mt_plain::PlainOutcome;
 use std::alloc::AllocError;
 
 /// Plans a step in which a subscription is reported to, where that is due: a plain actor at once, and others over their
@@ -24,17 +24,19 @@ pub(crate) fn planned_report<V: Verdicts>(
     subscription: u32,
     verdicts: &V,
 ) -> Result<WholeOutcome, AllocError>
-    ensures planned { IfOk result (λ outcome. IsPlainPlanned whole.now.plain.state whole.now.plain.ledger outcome.plain) }
+    ensures planned { IfOk result (λ outcome. IsInteractionPlanned whole.now.interactions.state whole.now.interactions.ledger outcome.interactions) }
     ensures plan { let given = given_to whole.now (V.roots verdicts.now) (V.csrs verdicts.now) (V.joins verdicts.now) in
-        (w : Told) → IsWholeOf whole.now w → IfOk result (IsWholePlan given w (Report ms fabric subscription)) }
+        (w : Told) → IsWholeOf whole.now w → IfOk result (IsPlan given w (Report ms fabric subscription)) }
 {
-    let (over, plain) = whole.plain.plan_report(fabric, subscription, ms, verdicts)?;
+    let (over, interactions) = whole
+        .interactions
+        .plan_report(fabric, subscription, ms, verdicts)?;
     let Some((session, payloads)) = over else {
-        return Ok(whole.plainly(plain));
+        return Ok(whole.plainly(interactions));
     };
     match talk_of(&whole.talks, session) {
-        Some(talk) => told_over(whole, ms, subscription, talk, payloads, plain),
-        None => Ok(whole.plainly(plain)),
+        Some(talk) => told_over(whole, ms, subscription, talk, payloads, interactions),
+        None => Ok(whole.plainly(interactions)),
     }
 }
 
@@ -45,9 +47,9 @@ fn told_over(
     subscription: u32,
     talk: &SessionTalk,
     payloads: Payloads,
-    plain: PlainOutcome,
+    interactions: InteractionOutcome,
 ) -> Result<WholeOutcome, AllocError>
-    ensures plain { IfOk result (λ outcome. outcome.plain ≡ plain) }
+    ensures interactions { IfOk result (λ outcome. outcome.interactions ≡ interactions) }
     ensures over { (t : ToldTalk) → IsTalkAt talk.now t → IfOk result (IsToldOver ms subscription payloads t) }
 {
     let id = talk.id;
@@ -57,7 +59,7 @@ fn told_over(
     Ok(WholeOutcome {
         sent,
         fresh: None,
-        plain,
+        interactions,
         talk: Some(SessionTalk { id, talk }),
     })
 }

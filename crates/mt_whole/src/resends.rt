@@ -3,8 +3,8 @@
 ghost use Rattle.std.specs.Prelude.{IfOk};
 ghost use Rattle.mt_model.specs.declared.texts.recording.Event.TheVariants.{Resend};
 ghost use Rattle.mt_runs.specs.Whole.{SessionTalk as ToldTalk, Whole as Told};
-ghost use Rattle.mt_plain.specs.Plan.{IsPlainPlanned};
-ghost use Rattle.mt_whole.specs.Plan.{IsAgain, IsQuiet, IsWholePlan, given_to};
+ghost use Rattle.mt_interactions.specs.Plan.{IsInteractionPlanned};
+ghost use Rattle.mt_whole.specs.Plan.{IsAgain, IsQuiet, IsPlan, given_to};
 ghost use Rattle.mt_whole.specs.Talks.{IsTalkAt, IsWholeOf};
 
 use crate::outcome::WholeOutcome;
@@ -21,9 +21,9 @@ pub(crate) fn planned_resend<V: Verdicts>(
     session: u16,
     verdicts: &V,
 ) -> Result<WholeOutcome, AllocError>
-    ensures planned { IfOk result (λ outcome. IsPlainPlanned whole.now.plain.state whole.now.plain.ledger outcome.plain) }
+    ensures planned { IfOk result (λ outcome. IsInteractionPlanned whole.now.interactions.state whole.now.interactions.ledger outcome.interactions) }
     ensures plan { let given = given_to whole.now (V.roots verdicts.now) (V.csrs verdicts.now) (V.joins verdicts.now) in
-        (w : Told) → IsWholeOf whole.now w → IfOk result (IsWholePlan given w (Resend ms session)) }
+        (w : Told) → IsWholeOf whole.now w → IfOk result (IsPlan given w (Resend ms session)) }
 {
     match talk_of(&whole.talks, session) {
         Some(talk) => planned_again(whole, ms, talk, verdicts),
@@ -38,12 +38,12 @@ pub(crate) fn quiet<V: Verdicts>(
     verdicts: &V,
 ) -> Result<WholeOutcome, AllocError>
     ensures { let given = given_to whole.now (V.roots verdicts.now) (V.csrs verdicts.now) (V.joins verdicts.now) in
-        IfOk result (IsQuiet given whole.now.plain.state whole.now.plain.ledger ms) }
+        IfOk result (IsQuiet given whole.now.interactions.state whole.now.interactions.ledger ms) }
 {
     Ok(WholeOutcome {
         sent: SentList::new(whole.alloc),
         fresh: None,
-        plain: whole.plain.pass(ms, verdicts)?,
+        interactions: whole.interactions.pass(ms, verdicts)?,
         talk: None,
     })
 }
@@ -55,12 +55,12 @@ fn planned_again<V: Verdicts>(
     talk: &SessionTalk,
     verdicts: &V,
 ) -> Result<WholeOutcome, AllocError>
-    ensures planned { IfOk result (λ outcome. IsPlainPlanned whole.now.plain.state whole.now.plain.ledger outcome.plain) }
+    ensures planned { IfOk result (λ outcome. IsInteractionPlanned whole.now.interactions.state whole.now.interactions.ledger outcome.interactions) }
     ensures again { let given = given_to whole.now (V.roots verdicts.now) (V.csrs verdicts.now) (V.joins verdicts.now) in
-        (t : ToldTalk) → IsTalkAt talk.now t → IfOk result (IsAgain given whole.now.plain.state whole.now.plain.ledger ms t) }
+        (t : ToldTalk) → IsTalkAt talk.now t → IfOk result (IsAgain given whole.now.interactions.state whole.now.interactions.ledger ms t) }
 {
     let id = talk.id;
-    if whole.plain.actor(id).is_none() {
+    if whole.interactions.actor(id).is_none() {
         return quiet(whole, ms, verdicts);
     }
     let mut talk = talk.talk.copy()?;
@@ -68,7 +68,9 @@ fn planned_again<V: Verdicts>(
     Ok(WholeOutcome {
         sent: all_sent(whole.alloc, ms, id, talk.latest(), datagrams.into_vec())?,
         fresh: None,
-        plain: whole.plain.plan_ends(id, ends.into_vec(), ms, verdicts)?,
+        interactions: whole
+            .interactions
+            .plan_ends(id, ends.into_vec(), ms, verdicts)?,
         talk: Some(SessionTalk { id, talk }),
     })
 }

@@ -17,10 +17,11 @@ ghost use Rattle.mt_whole.specs.Talks.{IsWholeOf};
 use crate::datagrams::session_named;
 use crate::standing::are_standings_same;
 use crate::whole::Whole;
-use mt_marks::{Mark, public_mark};
+use mt_interactions::Interactions;
+use mt_marks::{
+    Mark, are_deadlines_same, are_events_same, are_subscriptions_same, is_own_same, public_mark,
+};
 use mt_model::{Event, NodeSession};
-use mt_marks::{are_deadlines_same, are_events_same, are_subscriptions_same, is_own_same};
-use mt_plain::Plain;
 use std::alloc::AllocError;
 
 impl Whole {
@@ -32,14 +33,14 @@ impl Whole {
         if !self.sees(fabric, event) {
             return Ok(None);
         }
-        let plain = &self.plain;
+        let interactions = &self.interactions;
         let mark = public_mark(
             self.alloc,
             fabric,
             event,
-            plain.state(),
-            plain.rings(),
-            plain.numbers(),
+            interactions.state(),
+            interactions.rings(),
+            interactions.numbers(),
         )?;
         Ok(Some(mark))
     }
@@ -58,12 +59,12 @@ impl Whole {
     /// The fabric for which an event acts, 0 where it acts for none: that for which the session is live that it names; a report step
     /// names its fabric.
     pub fn acts_for(&self, event: &Event) -> u8
-        ensures { result ≡ fabric_of self.now.plain.state.node event.now }
+        ensures { result ≡ fabric_of self.now.interactions.state.node event.now }
     {
         match event {
             Event::Ask { fabric, .. } => {
                 if *fabric == 0 {
-                    return self.plain.state().plain.unwrap_or(0);
+                    return self.interactions.state().plain.unwrap_or(0);
                 }
                 *fabric
             },
@@ -79,9 +80,9 @@ impl Whole {
 
     /// Whether a fabric is in the table.
     pub fn has(&self, fabric: u8) -> bool
-        ensures { result ≡ is_member fabric self.now.plain.state.node }
+        ensures { result ≡ is_member fabric self.now.interactions.state.node }
     {
-        self.plain
+        self.interactions
             .state()
             .fabrics
             .as_slice()
@@ -91,16 +92,16 @@ impl Whole {
 
     /// The sessions of this boot.
     pub fn sessions(&self) -> &[NodeSession]
-        ensures { result.now ≡ self.now.plain.state.node.sessions }
+        ensures { result.now ≡ self.now.interactions.state.node.sessions }
     {
-        self.plain.state().sessions.as_slice()
+        self.interactions.state().sessions.as_slice()
     }
 
     /// Whether the fabric's own part is the same in two wholes, all that is said over its sessions left aside. It takes no memory.
     pub fn has_same_own(&self, other: &Whole, fabric: u8) -> bool
-        ensures { IsTrue result ↔ ((own_of_whole fabric self.now.plain.state ≡ own_of_whole fabric other.now.plain.state) × (own_ledger fabric self.now.plain.ledger ≡ own_ledger fabric other.now.plain.ledger)) }
+        ensures { IsTrue result ↔ ((own_of_whole fabric self.now.interactions.state ≡ own_of_whole fabric other.now.interactions.state) × (own_ledger fabric self.now.interactions.ledger ≡ own_ledger fabric other.now.interactions.ledger)) }
     {
-        is_plain_same(fabric, &self.plain, &other.plain)
+        is_plain_same(fabric, &self.interactions, &other.interactions)
     }
 
     /// Whether the fabric's own part is the same in two wholes, all that was said over its sessions left aside but for what
@@ -108,7 +109,7 @@ impl Whole {
     pub fn alike(&self, other: &Whole, fabric: u8) -> bool
         ensures { (w v : Told) → IsWholeOf self.now w → IsWholeOf other.now v → IsTrue result ↔ (own_standing fabric w ≡ own_standing fabric v) }
     {
-        if is_plain_same(fabric, &self.plain, &other.plain) {
+        if is_plain_same(fabric, &self.interactions, &other.interactions) {
             return are_standings_same(fabric, self, other);
         }
         false
@@ -116,13 +117,13 @@ impl Whole {
 }
 
 // Whether what is the fabric's own of the node, and of what it remembers, is the same in both.
-fn is_plain_same(fabric: u8, one: &Plain, other: &Plain) -> bool
+fn is_plain_same(fabric: u8, one: &Interactions, other: &Interactions) -> bool
     ensures { IsTrue result ↔ ((own_of_whole fabric one.now.state ≡ own_of_whole fabric other.now.state) × (own_ledger fabric one.now.ledger ≡ own_ledger fabric other.now.ledger)) }
 {
     are_parts_same(fabric, one, other)
 }
 
-fn are_parts_same(fabric: u8, one: &Plain, other: &Plain) -> bool
+fn are_parts_same(fabric: u8, one: &Interactions, other: &Interactions) -> bool
     ensures { IsTrue result ↔ ((own fabric one.now.state.node ≡ own fabric other.now.state.node)
         × (filter (is_deadline_in fabric) one.now.state.deadlines ≡ filter (is_deadline_in fabric) other.now.state.deadlines)
         × (own_of fabric one.now.ledger.history.rings ≡ own_of fabric other.now.ledger.history.rings)

@@ -5,8 +5,8 @@ ghost use Rattle.mt_whole.specs.Seeing.{is_live_for, standing_in, standings_in, 
 
 use crate::talks::SessionTalk;
 use crate::whole::Whole;
-use mt_model::NodeSession;
 use mt_marks::are_exchanges_same;
+use mt_model::NodeSession;
 use mt_subs::is_live_as;
 
 /// Whether what stands over a fabric's live sessions is the same in two wholes.

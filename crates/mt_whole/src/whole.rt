@@ -3,10 +3,10 @@
 ghost use Rattle.std.specs.Prelude.{◌≡◌, IfOk, option_copied};
 ghost use Rattle.mt_machine.specs.Environment.{Environment};
 ghost use Rattle.mt_model.specs.declared.texts.recording.Event.{Event as Line};
-ghost use Rattle.mt_plain.specs.Plan.{IsPlainPlanned};
+ghost use Rattle.mt_interactions.specs.Plan.{IsInteractionPlanned};
 ghost use Rattle.mt_runs.specs.Lines.{next};
 ghost use Rattle.mt_runs.specs.Whole.{Whole as Told, fabric_live};
-ghost use Rattle.mt_whole.specs.Plan.{IsPlainly, IsPlanIf, IsPlannedIf, IsStarted, IsWholePlan, given_to};
+ghost use Rattle.mt_whole.specs.Plan.{IsPlainly, IsPlanIf, IsPlannedIf, IsStarted, IsPlan, given_to};
 ghost use Rattle.mt_whole.specs.Talks.{IsWholeOf};
 
 use crate::datagrams::planned_datagram;
@@ -14,8 +14,8 @@ use crate::outcome::WholeOutcome;
 use crate::reports::planned_report;
 use crate::resends::planned_resend;
 use crate::talks::{SessionTalk, begun, let_go, put_if_any};
+use mt_interactions::{InteractionOutcome, Interactions};
 use mt_model::{Armed, Config, Event, SentList, Verdicts};
-use mt_plain::{Plain, PlainOutcome};
 use std::alloc::{AllocError, Global};
 use std::mem::replace;
 
@@ -23,7 +23,7 @@ use std::mem::replace;
 /// speak of all that was said, which nothing stores: a whole stands for lists of it.
 pub struct Whole {
     pub(crate) alloc: Global,
-    pub(crate) plain: Plain,
+    pub(crate) interactions: Interactions,
     pub(crate) talks: Vec<SessionTalk>,
 }
 
@@ -31,7 +31,7 @@ impl Drop for Whole {
     fn drop(self) {
         let Whole {
             alloc: _,
-            plain: _,
+            interactions: _,
             talks: _,
         } = self;
     }
@@ -45,7 +45,7 @@ impl Whole {
     {
         Ok(Whole {
             alloc,
-            plain: Plain::start(alloc, config)?,
+            interactions: Interactions::start(alloc, config)?,
             talks: begun(alloc, config.sessions.as_slice())?,
         })
     }
@@ -57,7 +57,7 @@ impl Whole {
         event: &Event,
         verdicts: &V,
     ) -> Result<Option<WholeOutcome>, AllocError>
-        ensures planned { IfOk result (IsPlannedIf self.now.plain.state self.now.plain.ledger) }
+        ensures planned { IfOk result (IsPlannedIf self.now.interactions.state self.now.interactions.ledger) }
         ensures plan { let given = given_to self.now (V.roots verdicts.now) (V.csrs verdicts.now) (V.joins verdicts.now) in
             (w : Told) → IsWholeOf self.now w → IfOk result (IsPlanIf given w event.now) }
     {
@@ -70,17 +70,17 @@ impl Whole {
                 opcode,
                 payload,
             } => {
-                let plain = self
-                    .plain
+                let interactions = self
+                    .interactions
                     .plan_line(*ms, *fabric, *node, *cats, *opcode, payload, verdicts)?;
-                Ok(Some(self.plainly(plain)))
+                Ok(Some(self.plainly(interactions)))
             },
             Event::Datagram { ms, peer, bytes } => Ok(Some(planned_datagram(
                 self, *ms, *peer, bytes, verdicts,
             )?)),
             Event::Tick { ms } => {
-                let plain = self.plain.plan_tick(*ms, verdicts)?;
-                Ok(Some(self.plainly(plain)))
+                let interactions = self.interactions.plan_tick(*ms, verdicts)?;
+                Ok(Some(self.plainly(interactions)))
             },
             Event::Report {
                 ms,
@@ -95,48 +95,48 @@ impl Whole {
     }
 
     // The outcome of what is of no session.
-    pub(crate) fn plainly(&self, plain: PlainOutcome) -> WholeOutcome
-        ensures { IsPlainly plain result }
+    pub(crate) fn plainly(&self, interactions: InteractionOutcome) -> WholeOutcome
+        ensures { IsPlainly interactions result }
     {
-        let mut plain = plain;
+        let mut interactions = interactions;
         WholeOutcome {
-            sent: replace(&mut plain.sent, SentList::new(self.alloc)),
+            sent: replace(&mut interactions.sent, SentList::new(self.alloc)),
             fresh: None,
-            plain,
+            interactions,
             talk: None,
         }
     }
 
     /// The fail-safe, None exactly where nobody has armed it.
     pub fn armed(&self) -> Option<&Armed>
-        ensures { option_copied result ≡ self.now.plain.state.node.armed }
+        ensures { option_copied result ≡ self.now.interactions.state.node.armed }
     {
-        self.plain.armed()
+        self.interactions.armed()
     }
 
     /// The fabric for which the session is live, 0 on PASE without one; None exactly where it is not live.
     pub fn live(&self, session: u16) -> Option<u8>
-        ensures { result ≡ fabric_live self.now.plain.state.node session }
+        ensures { result ≡ fabric_live self.now.interactions.state.node session }
     {
-        let actor = self.plain.actor(session)?;
+        let actor = self.interactions.actor(session)?;
         Some(actor.fabric)
     }
 
     /// Makes of the whole what a planned event makes of it. Sessions that end let go of their exchanges. It takes no
     /// memory, and cannot fail.
     pub fn apply(&mut self, outcome: WholeOutcome)
-        requires { IsPlainPlanned self.old.plain.state self.old.plain.ledger outcome.plain }
-        ensures config { self.new.plain.config ≡ self.old.plain.config }
-        ensures stands { (given : Environment) (w : Told) (event : Line) → IsWholeOf self.old w → IsWholePlan given w event outcome → IsWholeOf self.new (next given w event) }
+        requires { IsInteractionPlanned self.old.interactions.state self.old.interactions.ledger outcome.interactions }
+        ensures config { self.new.interactions.config ≡ self.old.interactions.config }
+        ensures stands { (given : Environment) (w : Told) (event : Line) → IsWholeOf self.old w → IsPlan given w event outcome → IsWholeOf self.new (next given w event) }
     {
         let WholeOutcome {
             sent: _,
             fresh: _,
-            plain,
+            interactions,
             talk,
         } = outcome;
         put_if_any(&mut self.talks, talk);
-        let_go(&mut self.talks, plain.closed());
-        self.plain.apply(plain);
+        let_go(&mut self.talks, interactions.closed());
+        self.interactions.apply(interactions);
     }
 }

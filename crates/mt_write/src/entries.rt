@@ -10,10 +10,10 @@ ghost use Rattle.mt_meta.specs.Targets.{target_in};
 ghost use Rattle.mt_write.specs.Entries.{kept_entry, valid_entry};
 
 use mt_acl::valid;
-use mt_rules::{each, mode_in, privilege_in};
 use mt_meta::clusters::access_control::{SUBJECTS, TARGETS};
 use mt_meta::target_of;
 use mt_model::{AclEntry, Subjects, Targets, field, structure_of, unsigned_of};
+use mt_rules::{each, mode_in, privilege_in};
 use mt_tlv::{Tag, Value};
 use std::alloc::{AllocError, Global};
 

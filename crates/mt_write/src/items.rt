@@ -17,7 +17,7 @@ use mt_tlv::{Members, Tag, Value, values_are_trees};
 use std::alloc::{AllocError, Global};
 
 /// What the items of a list are kept as.
-pub(crate) trait Kept: Sized {
+pub(crate) trait ListItem: Sized {
     /// What an item is kept as, by the fields of its kind and the writer's fabric; None where it
     /// breaks a rule.
     ghost kept_as: { List Field → ℕ → Tree → Option Self };
@@ -32,7 +32,7 @@ pub(crate) trait Kept: Sized {
         ensures { IfOk result (λ kept. kept ≡ kept_as fields.now fabric (tree item.now)) };
 }
 
-impl Kept for Value {
+impl ListItem for Value {
     ghost kept_as = { kept_item };
 
     fn keep(
@@ -45,7 +45,7 @@ impl Kept for Value {
     }
 }
 
-impl Kept for AclEntry {
+impl ListItem for AclEntry {
     ghost kept_as = { λ _. kept_entry };
 
     fn keep(
@@ -132,7 +132,7 @@ fn is_fabric_index(form: Form) -> bool
 
 /// The new items of a list in which there is room for so many: one that is appended, or those of an
 /// array. The types of all are asked before the limits of any.
-pub(crate) fn new_items<T: Kept + Drop>(
+pub(crate) fn new_items<T: ListItem + Drop>(
     alloc: Global,
     fields: &[Field],
     fabric: u8,
@@ -158,7 +158,7 @@ pub(crate) fn is_append(index: Index) -> bool
 }
 
 #[tactic(auto, unfolding(crate::specs::Items::kept_each))]
-fn appended<T: Kept + Drop>(
+fn appended<T: ListItem + Drop>(
     alloc: Global,
     fields: &[Field],
     fabric: u8,
@@ -180,7 +180,7 @@ fn appended<T: Kept + Drop>(
     }
 }
 
-fn replaced<T: Kept + Drop>(
+fn replaced<T: ListItem + Drop>(
     alloc: Global,
     fields: &[Field],
     fabric: u8,
@@ -195,7 +195,7 @@ fn replaced<T: Kept + Drop>(
     keep_each(alloc, fields, fabric, room, items)
 }
 
-fn keep_each<T: Kept + Drop>(
+fn keep_each<T: ListItem + Drop>(
     alloc: Global,
     fields: &[Field],
     fabric: u8,

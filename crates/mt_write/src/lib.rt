@@ -20,6 +20,6 @@ mod writing;
 
 pub use latest::{latest_entries, latest_row};
 pub use laws::{
-    write_denials_are_exact, nobody_writes_scoped, writes_keep_forms, writes_touch_their_own,
+    nobody_writes_scoped, write_denials_are_exact, writes_keep_forms, writes_touch_their_own,
 };
 pub use writing::{Change, Written, write};

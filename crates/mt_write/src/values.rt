@@ -11,7 +11,7 @@ ghost use Rattle.mt_write.specs.Items.{kept_item};
 ghost use Rattle.mt_write.specs.Latest.{entries_now, rows_now};
 ghost use Rattle.mt_write.specs.Writing.{array_of, array_with, behind, elements_in, list_with, members_of, new_rows, new_value, own_values, rows_with, staying, with_items};
 
-use crate::items::{Kept, is_append, new_items};
+use crate::items::{ListItem, is_append, new_items};
 use crate::latest::{latest_entries, latest_row};
 use mt_meta::{Form, Meta, Takes, fields_of, has_type, is_within, takes};
 use mt_model::{
@@ -146,7 +146,7 @@ fn rows_with(
 }
 
 /// These items and the new ones behind them.
-pub(crate) fn list_with<T: Kept + Drop>(
+pub(crate) fn list_with<T: ListItem + Drop>(
     alloc: Global,
     meta: &Meta,
     fabric: u8,

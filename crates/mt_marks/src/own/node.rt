@@ -9,9 +9,9 @@ ghost use Rattle.mt_model.specs.rows.Seen.{own_entries};
 ghost use Rattle.mt_model.specs.declared.node.state.NodeSession.{NodeSession};
 ghost use Rattle.mt_subs.specs.Leaving.{is_live_as};
 
+use crate::laws::rows_stand_at_stored_places;
 use crate::own::owned::are_own_same;
 use crate::own::rows::are_rows_same;
-use crate::laws::rows_stand_at_stored_places;
 use mt_model::{AclEntries, Armed, Credentials, Fabrics, NodeSessions, NodeState};
 use mt_same::Same;
 

@@ -7,8 +7,8 @@ ghost use Rattle.mt_model.specs.rows.Order.{are_ascending};
 ghost use Rattle.mt_model.specs.rows.Stored.{is_stored_place};
 ghost use Rattle.mt_model.specs.declared.rows.place.Row.{Row};
 
-use crate::own::owned::are_own_same;
 use crate::laws::rows_stand_at_stored_places;
+use crate::own::owned::are_own_same;
 use mt_model::{StoredRows, stored_places};
 
 /// Whether the rows of a fabric are the same. They are gone over place by place, so all of them must stand at stored places.

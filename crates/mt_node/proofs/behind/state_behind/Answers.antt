@@ -8,7 +8,7 @@ use Rattle.mt_machine.specs.Laws.{AllStayValid, TimesStayValid}
 use Rattle.mt_machine.specs.State.{IsValid}
 use Rattle.mt_machine.specs.Step.{at_time}
 use Rattle.mt_machine.specs.Taking.{may_take_all}
-use Rattle.mt_node.specs.Kept.{Kept}
+use Rattle.mt_node.specs.Configured.{ConfiguredNode}
 use Rattle.mt_node.proofs.Counts.{newest_up_to, settled_is}
 use Rattle.mt_node.proofs.behind.state_behind.Goals as goal
 
@@ -22,7 +22,7 @@ pub settle-requires-clause-stand : goal.settle-requires-clause-stand
 settle-requires-clause-stand c =
     let s = c.args.node.now.state in
     let t = c.make_all.new.state in
-    let there : c.node.inside.state ≡ s = ap (λ (kept : Kept). kept.state) c.node.view_is in
+    let there : c.node.inside.state ≡ s = ap (λ (kept : ConfiguredNode). kept.state) c.node.view_is in
     let valid : IsValid t = made_valid c.states_are_valid.ensures.times c.steps_leave_states_valid.ensures.all c.args.asking c.args.steps c.args.now s c.in_ok-behind.behind t
     (subst IsValid there c.node.invariant) c.requires (c.in_ok-behind.ensures ∙ there) c.in_ok-make_all.ensures in
     valid.changes_stand
@@ -31,7 +31,7 @@ pub settle-requires-clause-newest : goal.settle-requires-clause-newest
 settle-requires-clause-newest c =
     let s = c.args.node.now.state in
     let t = c.make_all.new.state in
-    let there : c.node.inside.state ≡ s = ap (λ (kept : Kept). kept.state) c.node.view_is in
+    let there : c.node.inside.state ≡ s = ap (λ (kept : ConfiguredNode). kept.state) c.node.view_is in
     let valid : IsValid t = made_valid c.states_are_valid.ensures.times c.steps_leave_states_valid.ensures.all c.args.asking c.args.steps c.args.now s c.in_ok-behind.behind t
     (subst IsValid there c.node.invariant) c.requires (c.in_ok-behind.ensures ∙ there) c.in_ok-make_all.ensures in
     newest_up_to t valid
@@ -41,7 +41,7 @@ returns-clause-made c =
     let s = c.args.node.now.state in
     let now = c.args.now in
     let t = c.make_all.new.state in
-    let there : c.node.inside.state ≡ s = ap (λ (kept : Kept). kept.state) c.node.view_is in
+    let there : c.node.inside.state ≡ s = ap (λ (kept : ConfiguredNode). kept.state) c.node.view_is in
     let copied : c.in_ok-behind.behind ≡ s = c.in_ok-behind.ensures ∙ there in
     let made : t ≡ after_all c.args.asking c.args.steps (at_time now s) = c.in_ok-make_all.ensures ∙ ap (λ (x : NodeState). after_all c.args.asking c.args.steps (at_time now x)) copied in
     let places : c.as_slice.result.now ≡ differing (at_time now s) t = c.as_slice.ensures ∙ c.in_ok-places.ensures in

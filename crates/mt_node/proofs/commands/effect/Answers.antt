@@ -4,7 +4,7 @@ use Rattle.mt_meta.specs.declared.meta.CommandMeta.{CommandMeta}
 use Rattle.mt_model.specs.declared.messages.status.Status.{Status}
 use Rattle.mt_machine.specs.Commands.{unless_refused}
 use Rattle.mt_machine.specs.Observation.{observation}
-use Rattle.mt_node.specs.Kept.{given_to}
+use Rattle.mt_node.specs.Configured.{given_to}
 use Rattle.mt_node.proofs.commands.effect.Goals as goal
 
 pub returns-in-Ok : goal.returns-in-Ok

@@ -5,7 +5,7 @@ use Rattle.mt_model.specs.rows.Setting.{is_at}
 use Rattle.mt_model.specs.declared.node.action.Effect.{Effect}
 use Rattle.mt_model.specs.declared.rows.place.Row.{Row}
 use Rattle.mt_machine.specs.State.{IsValid}
-use Rattle.mt_node.specs.Kept.{Kept}
+use Rattle.mt_node.specs.Configured.{ConfiguredNode}
 use Rattle.mt_node.proofs.Observed.{invoked_observed}
 use Rattle.mt_node.proofs.commands.particular.Goals as goal
 
@@ -14,6 +14,6 @@ returns c =
     let s = c.args.node.now.state in
     let actor = c.args.asking.now in
     let command = c.args.command.now in
-    let valid : IsValid s = subst (λ (kept : Kept). IsValid kept.state) c.node.view_is c.node.invariant in
+    let valid : IsValid s = subst (λ (kept : ConfiguredNode). IsValid kept.state) c.node.view_is c.node.invariant in
     let same = ap (λ (rows : List Row). invoked (λ place. filter (is_at place 0) rows) actor command) c.view.ensures.rows ∙ invoked_observed c.rows_stand_in_order.ensures s valid actor command in
     subst (λ (wanted : Effect). IfOk c.invoke.result (λ effect. effect ≡ wanted)) same c.invoke.ensures

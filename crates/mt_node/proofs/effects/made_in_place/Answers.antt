@@ -8,7 +8,7 @@ use Rattle.mt_model.specs.declared.tables.access.Actor.{Actor}
 use Rattle.mt_machine.specs.Changes.{changed_at, differing}
 use Rattle.mt_machine.specs.Effects.{after_all, events_in, is_setting_step}
 use Rattle.mt_machine.specs.Step.{at_time}
-use Rattle.mt_node.specs.Kept.{Kept}
+use Rattle.mt_node.specs.Configured.{ConfiguredNode}
 use Rattle.mt_node.specs.Plan.{HaveRoom, entries_in}
 use Rattle.mt_node.proofs.Applied.{needed_at_most}
 use Rattle.mt_node.proofs.effects.made_in_place.Goals as goal
@@ -20,7 +20,7 @@ returns c =
     let steps = c.args.answered.steps in
     let timed = at_time c.args.now s in
     let same : c.as_slice-steps.result.now ≡ steps = c.as_slice-steps.ensures in
-    let there : c.node.inside.state ≡ s = ap (λ (kept : Kept). kept.state) c.node.view_is in
+    let there : c.node.inside.state ≡ s = ap (λ (kept : ConfiguredNode). kept.state) c.node.view_is in
     let entries : c.in-Some.entries ≡ length s.entries + sum_by entries_in steps = c.in-Some.ensures ∙ (λ i. length (there i).entries + sum_by entries_in (same i)) in
     let session = option_and_then (λ (actor : Actor). actor.session) asking in
     record {

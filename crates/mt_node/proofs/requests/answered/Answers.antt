@@ -2,7 +2,7 @@ use Rattle.std.proofs.Common.{refl, []}
 use Rattle.mt_model.specs.declared.messages.message.Request.TheVariants as requests
 use Rattle.mt_machine.specs.Observation.{observation}
 use Rattle.mt_machine.specs.Step.{invoke_reply, invoke_steps, read_reply, write_reply, write_steps}
-use Rattle.mt_node.specs.Kept.{given_to}
+use Rattle.mt_node.specs.Configured.{given_to}
 use Rattle.mt_node.proofs.Plans.{answer_of}
 use Rattle.mt_node.proofs.requests.answered.Goals as goal
 

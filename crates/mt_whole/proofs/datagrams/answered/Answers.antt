@@ -6,7 +6,7 @@ use Rattle.mt_talk.specs.declared.hearing.Heard.{Heard}
 use Rattle.mt_machine.specs.Lines.{action_of}
 use Rattle.mt_ledger.specs.Behind.{acts}
 use Rattle.mt_runs.specs.Datagrams.{actor_on, payloads_over}
-use Rattle.mt_plain.specs.Plan.{IsDone}
+use Rattle.mt_interactions.specs.Plan.{IsDone}
 use Rattle.mt_whole.specs.Plan.{IsAnswered, given_to}
 use Rattle.mt_whole.proofs.Planned.{answered_with, answering}
 use Rattle.mt_whole.proofs.datagrams.answered.Goals as goal
@@ -17,7 +17,7 @@ returns-in_ok-pass-in-Nothing g c =
     let whole = c.args.whole.now in
     let given = given_to whole (g.V.Verdicts.roots verdicts) (g.V.Verdicts.csrs verdicts) (g.V.Verdicts.joins verdicts) in
     let plan = c.in_ok-pass-in-Nothing.ensures.plan in
-    subst (λ (heard : Heard). IsAnswered given whole.plain.state whole.plain.ledger c.args.id c.args.ms (said_by heard) (None, c.in_ok-pass-in-Nothing.field-0)) (sym c.in-Nothing.is)
+    subst (λ (heard : Heard). IsAnswered given whole.interactions.state whole.interactions.ledger c.args.id c.args.ms (said_by heard) (None, c.in_ok-pass-in-Nothing.field-0)) (sym c.in-Nothing.is)
     (record { answer = refl; state = plan.state; ledger = plan.ledger; planned = plan.planned })
 
 pub returns-in_ok-payloads-in-Asks : goal.returns-in_ok-payloads-in-Asks
@@ -26,20 +26,20 @@ returns-in_ok-payloads-in-Asks g c =
     let whole = c.args.whole.now in
     let given = given_to whole (g.V.Verdicts.roots verdicts) (g.V.Verdicts.csrs verdicts) (g.V.Verdicts.joins verdicts) in
     let ms = c.args.ms in
-    let s = whole.plain.state in
-    let l = whole.plain.ledger in
+    let s = whole.interactions.state in
+    let l = whole.interactions.ledger in
     let id = c.args.id in
     let key = c.in-Asks.key in
     let acknowledge = c.in-Asks.acknowledge in
     let timed = c.in-Asks.timed in
-    let plain = c.in_ok-payloads-in-Asks.plain in
+    let interactions = c.in_ok-payloads-in-Asks.interactions in
     let payloads = c.in_ok-payloads-in-Asks.payloads in
     let asked = c.in_ok-asked-in-Asks.ensures.asks in
     let made = c.in_ok-payloads-in-Asks.ensures in
-    subst (λ (heard : Heard). IsAnswered given s l id ms (said_by heard) (Some c.answering_with.result, plain)) (sym c.in-Asks.is)
-    (answered_with given s l id ms (asks key acknowledge c.in-Asks.opcode c.in-Asks.payload.now timed) key acknowledge payloads c.answering_with.result plain c.answering_with.ensures
+    subst (λ (heard : Heard). IsAnswered given s l id ms (said_by heard) (Some c.answering_with.result, interactions)) (sym c.in-Asks.is)
+    (answered_with given s l id ms (asks key acknowledge c.in-Asks.opcode c.in-Asks.payload.now timed) key acknowledge payloads c.answering_with.result interactions c.answering_with.ensures
     (ap (answering key acknowledge) (made.payloads ∙ ap (payloads_over given s.node l id timed ms) asked))
-    (subst (λ (x : Result Request ImFault). IsDone given s l (acts (action_of (actor_on id) timed x)) ms plain) asked made.outcome))
+    (subst (λ (x : Result Request ImFault). IsDone given s l (acts (action_of (actor_on id) timed x)) ms interactions) asked made.outcome))
 
 pub returns-in_ok-payloads-in-Confirms : goal.returns-in_ok-payloads-in-Confirms
 returns-in_ok-payloads-in-Confirms g c =
@@ -47,45 +47,45 @@ returns-in_ok-payloads-in-Confirms g c =
     let whole = c.args.whole.now in
     let given = given_to whole (g.V.Verdicts.roots verdicts) (g.V.Verdicts.csrs verdicts) (g.V.Verdicts.joins verdicts) in
     let ms = c.args.ms in
-    let s = whole.plain.state in
-    let l = whole.plain.ledger in
+    let s = whole.interactions.state in
+    let l = whole.interactions.ledger in
     let id = c.args.id in
     let key = c.in-Confirms.key in
     let acknowledge = c.in-Confirms.acknowledge in
-    let plain = c.in_ok-payloads-in-Confirms.plain in
+    let interactions = c.in_ok-payloads-in-Confirms.interactions in
     let made = c.in_ok-payloads-in-Confirms.ensures in
-    subst (λ (heard : Heard). IsAnswered given s l id ms (said_by heard) (Some c.answering_with-in-Confirms.result, plain)) (sym c.in-Confirms.is)
-    (answered_with given s l id ms (confirms key acknowledge c.in-Confirms.subscription) key acknowledge c.in_ok-payloads-in-Confirms.payloads c.answering_with-in-Confirms.result plain c.answering_with-in-Confirms.ensures
+    subst (λ (heard : Heard). IsAnswered given s l id ms (said_by heard) (Some c.answering_with-in-Confirms.result, interactions)) (sym c.in-Confirms.is)
+    (answered_with given s l id ms (confirms key acknowledge c.in-Confirms.subscription) key acknowledge c.in_ok-payloads-in-Confirms.payloads c.answering_with-in-Confirms.result interactions c.answering_with-in-Confirms.ensures
     (ap (answering key acknowledge) made.payloads) made.outcome)
 
-pub returns-in_ok-plain-in-Ends : goal.returns-in_ok-plain-in-Ends
-returns-in_ok-plain-in-Ends g c =
+pub returns-in_ok-interactions-in-Ends : goal.returns-in_ok-interactions-in-Ends
+returns-in_ok-interactions-in-Ends g c =
     let verdicts = c.args.verdicts.now in
     let whole = c.args.whole.now in
     let given = given_to whole (g.V.Verdicts.roots verdicts) (g.V.Verdicts.csrs verdicts) (g.V.Verdicts.joins verdicts) in
     let ms = c.args.ms in
-    let s = whole.plain.state in
-    let l = whole.plain.ledger in
+    let s = whole.interactions.state in
+    let l = whole.interactions.ledger in
     let id = c.args.id in
     let key = c.in-Ends.key in
     let acknowledge = c.in-Ends.acknowledge in
-    let plain = c.in_ok-plain-in-Ends.plain in
-    subst (λ (heard : Heard). IsAnswered given s l id ms (said_by heard) (Some c.answering_with-in-Ends.result, plain)) (sym c.in-Ends.is)
-    (answered_with given s l id ms (ends key acknowledge c.in-Ends.subscription) key acknowledge c.new-none.result c.answering_with-in-Ends.result plain c.answering_with-in-Ends.ensures
-    (ap (answering key acknowledge) c.new-none.ensures) c.in_ok-plain-in-Ends.ensures)
+    let interactions = c.in_ok-interactions-in-Ends.interactions in
+    subst (λ (heard : Heard). IsAnswered given s l id ms (said_by heard) (Some c.answering_with-in-Ends.result, interactions)) (sym c.in-Ends.is)
+    (answered_with given s l id ms (ends key acknowledge c.in-Ends.subscription) key acknowledge c.new-none.result c.answering_with-in-Ends.result interactions c.answering_with-in-Ends.ensures
+    (ap (answering key acknowledge) c.new-none.ensures) c.in_ok-interactions-in-Ends.ensures)
 
-pub returns-in_ok-plain-in-Answers : goal.returns-in_ok-plain-in-Answers
-returns-in_ok-plain-in-Answers g c =
+pub returns-in_ok-interactions-in-Answers : goal.returns-in_ok-interactions-in-Answers
+returns-in_ok-interactions-in-Answers g c =
     let verdicts = c.args.verdicts.now in
     let whole = c.args.whole.now in
     let given = given_to whole (g.V.Verdicts.roots verdicts) (g.V.Verdicts.csrs verdicts) (g.V.Verdicts.joins verdicts) in
     let ms = c.args.ms in
-    let s = whole.plain.state in
-    let l = whole.plain.ledger in
+    let s = whole.interactions.state in
+    let l = whole.interactions.ledger in
     let id = c.args.id in
     let key = c.in-Answers.key in
     let acknowledge = c.in-Answers.acknowledge in
     let payloads = c.in-Answers.payloads in
-    let plain = c.in_ok-plain-in-Answers.plain in
-    subst (λ (heard : Heard). IsAnswered given s l id ms (said_by heard) (Some c.answering_with-in-Answers.result, plain)) (sym c.in-Answers.is)
-    (answered_with given s l id ms (answers key acknowledge payloads) key acknowledge payloads c.answering_with-in-Answers.result plain c.answering_with-in-Answers.ensures refl c.in_ok-plain-in-Answers.ensures.plan)
+    let interactions = c.in_ok-interactions-in-Answers.interactions in
+    subst (λ (heard : Heard). IsAnswered given s l id ms (said_by heard) (Some c.answering_with-in-Answers.result, interactions)) (sym c.in-Answers.is)
+    (answered_with given s l id ms (answers key acknowledge payloads) key acknowledge payloads c.answering_with-in-Answers.result interactions c.answering_with-in-Answers.ensures refl c.in_ok-interactions-in-Answers.ensures.plan)

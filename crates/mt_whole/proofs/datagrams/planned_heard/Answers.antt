@@ -14,8 +14,8 @@ returns-clause-heard g c t at =
     let verdicts = c.args.verdicts.now in
     let whole = c.args.whole.now in
     let given = given_to whole (g.V.Verdicts.roots verdicts) (g.V.Verdicts.csrs verdicts) (g.V.Verdicts.joins verdicts) in
-    let s = whole.plain.state in
-    let l = whole.plain.ledger in
+    let s = whole.interactions.state in
+    let l = whole.interactions.ledger in
     let ms = c.args.ms in
     let from = c.args.from in
     let bytes = c.args.bytes.now in
@@ -30,9 +30,9 @@ returns-clause-heard g c t at =
     let stands : IsTalkOf c.hear.new.self row (heard s.node from bytes t) =
     subst (λ (d : List ℕ). IsTalkOf c.hear.new.self row (after_datagram row (is_live s.node row.session) from d t.talk)) read_as
     (subst (λ (b : Bool). IsTalkOf c.hear.new.self row (after_datagram row b from c.deref_mut.result.now t.talk)) live (c.in_ok-hearing.ensures.stands row t.talk copied)) in
-    let answers : IsAnswered given s l row.session ms (said_to s.node bytes t) (c.in_ok-answer.answer, c.in_ok-answer.plain) =
-    subst (λ (n : ℕ). IsAnswered given s l n ms (said_to s.node bytes t) (c.in_ok-answer.answer, c.in_ok-answer.plain)) at.id
-    (subst (λ (x : Said). IsAnswered given s l c.args.talk.now.id ms x (c.in_ok-answer.answer, c.in_ok-answer.plain)) says c.in_ok-answer.ensures) in
+    let answers : IsAnswered given s l row.session ms (said_to s.node bytes t) (c.in_ok-answer.answer, c.in_ok-answer.interactions) =
+    subst (λ (n : ℕ). IsAnswered given s l n ms (said_to s.node bytes t) (c.in_ok-answer.answer, c.in_ok-answer.interactions)) at.id
+    (subst (λ (x : Said). IsAnswered given s l c.args.talk.now.id ms x (c.in_ok-answer.answer, c.in_ok-answer.interactions)) says c.in_ok-answer.ensures) in
     let answer : answer_as c.in_ok-answer.answer ≡ its_answer given s.node l ms bytes t = answers.answer in
     record {
       sent = c.in_ok-sent.ensures

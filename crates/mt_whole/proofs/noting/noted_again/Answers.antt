@@ -7,14 +7,14 @@ use Rattle.mt_whole.proofs.noting.noted_again.Goals as goal
 
 pub returns-then-is_none : goal.returns-then-is_none
 returns-then-is_none c t at =
-    let s = c.args.whole.now.plain.state in
+    let s = c.args.whole.now.interactions.state in
     let off : is_live s.node t.row.session ≡ false =
     ap (λ (n : ℕ). is_some (session_actor s.node n)) (sym at.id) ∙ ap is_some (sym c.actor.ensures) ∙ c.is_none.ensures ∙ ap not c.if-is_none.true in
     ap (λ (b : Bool). if b then after_resend c.args.ms t.talk else t.talk) off
 
 pub returns : goal.returns
 returns c t at =
-    let s = c.args.whole.now.plain.state in
+    let s = c.args.whole.now.interactions.state in
     let on : is_live s.node t.row.session ≡ true =
     ap (λ (n : ℕ). is_some (session_actor s.node n)) (sym at.id) ∙ ap is_some (sym c.actor.ensures) ∙ c.is_none.ensures ∙ ap not c.if-is_none.false in
     subst (λ (b : Bool). IsNoteOf (Some c.in_ok-note_of.field-0) t (if b then after_resend c.args.ms t.talk else t.talk)) (sym on) (c.in_ok-note_of.ensures t at)

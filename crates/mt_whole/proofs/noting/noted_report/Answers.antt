@@ -8,7 +8,7 @@ use Rattle.mt_talk.specs.Talks.{after_report}
 use Rattle.mt_runs.specs.Lines.{talks_behind}
 use Rattle.mt_model.specs.declared.messages.message.Payload.{Payload}
 use Rattle.mt_model.specs.declared.texts.recording.Event.TheVariants.{Report}
-use Rattle.mt_plain.specs.Reporting.{reported_over}
+use Rattle.mt_interactions.specs.Reporting.{reported_over}
 use Rattle.mt_marks.specs.Noted.{noted_if}
 use Rattle.mt_marks.specs.declared.happening.Note.{Note}
 use Rattle.mt_whole.specs.Noting.{IsNoteOf}
@@ -29,7 +29,7 @@ returns-in_default g c w is =
     let verdicts = c.args.verdicts.now in
     let whole = c.args.whole.now in
     let given = given_to whole (g.V.Verdicts.roots verdicts) (g.V.Verdicts.csrs verdicts) (g.V.Verdicts.joins verdicts) in
-    let due = due_as whole.plain.state w.state whole.plain.ledger w.ledger c.args.ms c.args.fabric c.args.subscription None is.state is.ledger (sym c.in_ok-over.ensures.over ∙ c.in_default.is) in
+    let due = due_as whole.interactions.state w.state whole.interactions.ledger w.ledger c.args.ms c.args.fabric c.args.subscription None is.state is.ledger (sym c.in_ok-over.ensures.over ∙ c.in_default.is) in
     none_reported given w c.args.ms c.args.fabric c.args.subscription due
 
 pub returns-in-Some-talk_of : goal.returns-in-Some-talk_of
@@ -42,7 +42,7 @@ returns-in-Some-talk_of g c w is =
     let id = c.args.subscription in
     let session = c.in-Some.session in
     let payloads = c.in-Some.payloads in
-    let due = due_as whole.plain.state w.state whole.plain.ledger w.ledger ms fabric id (Some (session, payloads)) is.state is.ledger (sym c.in_ok-over.ensures.over ∙ c.in-Some.is) in
+    let due = due_as whole.interactions.state w.state whole.interactions.ledger w.ledger ms fabric id (Some (session, payloads)) is.state is.ledger (sym c.in_ok-over.ensures.over ∙ c.in-Some.is) in
     let talk = c.in-Some-talk_of.talk.now in
     let looked : Some talk ≡ find (is_code_of session) whole.talks.items = ap option_copied (sym c.in-Some-talk_of.is) ∙ c.talk_of.ensures ∙ ap (find (is_code_of session)) c.deref.ensures.value in
     let found = one_found session (Some talk) whole.talks.items w.talks looked is.talks in
@@ -59,6 +59,6 @@ returns-in-None g c w is =
     let id = c.args.subscription in
     let session = c.in-Some.session in
     let payloads = c.in-Some.payloads in
-    let due = due_as whole.plain.state w.state whole.plain.ledger w.ledger ms fabric id (Some (session, payloads)) is.state is.ledger (sym c.in_ok-over.ensures.over ∙ c.in-Some.is) in
+    let due = due_as whole.interactions.state w.state whole.interactions.ledger w.ledger ms fabric id (Some (session, payloads)) is.state is.ledger (sym c.in_ok-over.ensures.over ∙ c.in-Some.is) in
     let looked : None ≡ find (is_code_of session) whole.talks.items = ap option_copied (sym c.in-None.is) ∙ c.talk_of.ensures ∙ ap (find (is_code_of session)) c.deref.ensures.value in
     nobody_told given w ms fabric id session payloads due (one_found session None whole.talks.items w.talks looked is.talks)

@@ -20,7 +20,7 @@ returns-in-Some c given w is =
     let ms = c.args.ms in
     let id = c.args.session in
     let found = one_found id (Some c.in-Some.talk.now) whole.talks.items w.talks (ap option_copied (sym c.in-Some.is) ∙ c.talk_of.ensures ∙ ap (find (is_code_of id)) c.deref.ensures.value) is.talks in
-    if_ok c.noted_again.result (λ (note : Option Note). IsNoteOf note found.0 (resent_talk whole.plain.state.node ms found.0)) (λ (note : Option Note). noted_if note w.talks ≡ talks_behind given w (Resend ms id))
+    if_ok c.noted_again.result (λ (note : Option Note). IsNoteOf note found.0 (resent_talk whole.interactions.state.node ms found.0)) (λ (note : Option Note). noted_if note w.talks ≡ talks_behind given w (Resend ms id))
     (λ note noted. noted_over id found.0 w.talks note (resent_talk w.state.node ms) found.1 (subst (λ (s : State). IsNoteOf note found.0 (resent_talk s.node ms found.0)) is.state noted))
     (c.noted_again.ensures found.0 found.2)
 

@@ -4,9 +4,9 @@ use Rattle.std.specs.Option.{option_copied}
 use Rattle.mt_machine.specs.State.{State}
 use Rattle.mt_ledger.specs.Ledger.{Ledger}
 use Rattle.mt_model.specs.declared.texts.recording.Event.TheVariants.{Report}
-use Rattle.mt_plain.specs.Plan.{IsPlainPlanned}
+use Rattle.mt_interactions.specs.Plan.{IsInteractionPlanned}
 use Rattle.mt_whole.specs.declared.outcome.WholeOutcome.{WholeOutcome}
-use Rattle.mt_whole.specs.Plan.{IsToldOver, IsWholePlan, given_to}
+use Rattle.mt_whole.specs.Plan.{IsToldOver, IsPlan, given_to}
 use Rattle.mt_whole.specs.Talks.{is_code_of}
 use Rattle.mt_whole.proofs.Planned.{IsReported, if_ok, if_ok_both, one_found, plainly_planned, reported_as_planned, reported_at_once, reported_to_nobody}
 use Rattle.mt_whole.proofs.reports.planned_report.Goals as goal
@@ -19,15 +19,15 @@ returns-in_default g c =
     let ms = c.args.ms in
     let fabric = c.args.fabric in
     let id = c.args.subscription in
-    let plain = c.in_ok-over.plain in
-    let made : IsReported given whole.plain.state whole.plain.ledger ms fabric id None plain = record {
+    let interactions = c.in_ok-over.interactions in
+    let made : IsReported given whole.interactions.state whole.interactions.ledger ms fabric id None interactions = record {
       due = sym c.in_default.is ∙ c.in_ok-over.ensures.over;
       sent = c.in_ok-over.ensures.sent;
       done = c.in_ok-over.ensures.outcome;
     } in
     record {
-      planned = plainly_planned whole.plain.state whole.plain.ledger plain c.plainly.result c.plainly.ensures made.done.planned;
-      plan = λ w is. reported_at_once given w ms fabric id plain c.plainly.result (subst (λ (x : State × Ledger). IsReported given x.0 x.1 ms fabric id None plain) (λ i. (is.state i, is.ledger i)) made) c.plainly.ensures;
+      planned = plainly_planned whole.interactions.state whole.interactions.ledger interactions c.plainly.result c.plainly.ensures made.done.planned;
+      plan = λ w is. reported_at_once given w ms fabric id interactions c.plainly.result (subst (λ (x : State × Ledger). IsReported given x.0 x.1 ms fabric id None interactions) (λ i. (is.state i, is.ledger i)) made) c.plainly.ensures;
     }
 
 pub returns-in-Some-talk_of : goal.returns-in-Some-talk_of
@@ -35,15 +35,15 @@ returns-in-Some-talk_of g c =
     let verdicts = c.args.verdicts.now in
     let whole = c.args.whole.now in
     let given = given_to whole (g.V.Verdicts.roots verdicts) (g.V.Verdicts.csrs verdicts) (g.V.Verdicts.joins verdicts) in
-    let s = whole.plain.state in
-    let l = whole.plain.ledger in
+    let s = whole.interactions.state in
+    let l = whole.interactions.ledger in
     let ms = c.args.ms in
     let fabric = c.args.fabric in
     let id = c.args.subscription in
-    let plain = c.in_ok-over.plain in
+    let interactions = c.in_ok-over.interactions in
     let session = c.in-Some.session in
     let payloads = c.in-Some.payloads in
-    let made : IsReported given s l ms fabric id (Some (session, payloads)) plain = record {
+    let made : IsReported given s l ms fabric id (Some (session, payloads)) interactions = record {
       due = sym c.in-Some.is ∙ c.in_ok-over.ensures.over;
       sent = c.in_ok-over.ensures.sent;
       done = c.in_ok-over.ensures.outcome;
@@ -51,12 +51,12 @@ returns-in-Some-talk_of g c =
     let talk = c.in-Some-talk_of.talk.now in
     let looked : Some talk ≡ find (is_code_of session) whole.talks.items = ap option_copied (sym c.in-Some-talk_of.is) ∙ c.talk_of.ensures ∙ ap (find (is_code_of session)) c.deref.ensures.value in
     record {
-      planned = if_ok c.told_over.result (λ (outcome : WholeOutcome). outcome.plain ≡ plain) (λ (outcome : WholeOutcome). IsPlainPlanned s l outcome.plain) (λ outcome same. subst (IsPlainPlanned s l) (sym same) made.done.planned) c.told_over.ensures.plain;
+      planned = if_ok c.told_over.result (λ (outcome : WholeOutcome). outcome.interactions ≡ interactions) (λ (outcome : WholeOutcome). IsInteractionPlanned s l outcome.interactions) (λ outcome same. subst (IsInteractionPlanned s l) (sym same) made.done.planned) c.told_over.ensures.interactions;
       plan = λ w is.
           let found = one_found session (Some talk) whole.talks.items w.talks looked is.talks in
-          if_ok_both c.told_over.result (λ (outcome : WholeOutcome). outcome.plain ≡ plain) (IsToldOver ms id payloads found.0) (IsWholePlan given w (Report ms fabric id))
-          (λ outcome same told. reported_as_planned given w ms fabric id session payloads plain found.0 outcome (subst (λ (x : State × Ledger). IsReported given x.0 x.1 ms fabric id (Some (session, payloads)) plain) (λ i. (is.state i, is.ledger i)) made) found.1 same told)
-          c.told_over.ensures.plain (c.told_over.ensures.over found.0 found.2);
+          if_ok_both c.told_over.result (λ (outcome : WholeOutcome). outcome.interactions ≡ interactions) (IsToldOver ms id payloads found.0) (IsPlan given w (Report ms fabric id))
+          (λ outcome same told. reported_as_planned given w ms fabric id session payloads interactions found.0 outcome (subst (λ (x : State × Ledger). IsReported given x.0 x.1 ms fabric id (Some (session, payloads)) interactions) (λ i. (is.state i, is.ledger i)) made) found.1 same told)
+          c.told_over.ensures.interactions (c.told_over.ensures.over found.0 found.2);
     }
 
 pub returns-in-None : goal.returns-in-None
@@ -64,22 +64,22 @@ returns-in-None g c =
     let verdicts = c.args.verdicts.now in
     let whole = c.args.whole.now in
     let given = given_to whole (g.V.Verdicts.roots verdicts) (g.V.Verdicts.csrs verdicts) (g.V.Verdicts.joins verdicts) in
-    let s = whole.plain.state in
-    let l = whole.plain.ledger in
+    let s = whole.interactions.state in
+    let l = whole.interactions.ledger in
     let ms = c.args.ms in
     let fabric = c.args.fabric in
     let id = c.args.subscription in
-    let plain = c.in_ok-over.plain in
+    let interactions = c.in_ok-over.interactions in
     let session = c.in-Some.session in
     let payloads = c.in-Some.payloads in
-    let made : IsReported given s l ms fabric id (Some (session, payloads)) plain = record {
+    let made : IsReported given s l ms fabric id (Some (session, payloads)) interactions = record {
       due = sym c.in-Some.is ∙ c.in_ok-over.ensures.over;
       sent = c.in_ok-over.ensures.sent;
       done = c.in_ok-over.ensures.outcome;
     } in
     let looked : None ≡ find (is_code_of session) whole.talks.items = ap option_copied (sym c.in-None.is) ∙ c.talk_of.ensures ∙ ap (find (is_code_of session)) c.deref.ensures.value in
     record {
-      planned = plainly_planned s l plain c.plainly-in-None.result c.plainly-in-None.ensures made.done.planned;
-      plan = λ w is. reported_to_nobody given w ms fabric id session payloads plain c.plainly-in-None.result (subst (λ (x : State × Ledger). IsReported given x.0 x.1 ms fabric id (Some (session, payloads)) plain) (λ i. (is.state i, is.ledger i)) made)
+      planned = plainly_planned s l interactions c.plainly-in-None.result c.plainly-in-None.ensures made.done.planned;
+      plan = λ w is. reported_to_nobody given w ms fabric id session payloads interactions c.plainly-in-None.result (subst (λ (x : State × Ledger). IsReported given x.0 x.1 ms fabric id (Some (session, payloads)) interactions) (λ i. (is.state i, is.ledger i)) made)
           c.plainly-in-None.ensures (one_found session None whole.talks.items w.talks looked is.talks);
     }

@@ -12,8 +12,8 @@ returns-then-is_none-clause-again g c t at =
     let verdicts = c.args.verdicts.now in
     let whole = c.args.whole.now in
     let given = given_to whole (g.V.Verdicts.roots verdicts) (g.V.Verdicts.csrs verdicts) (g.V.Verdicts.joins verdicts) in
-    let s = whole.plain.state in
-    let l = whole.plain.ledger in
+    let s = whole.interactions.state in
+    let l = whole.interactions.ledger in
     let ms = c.args.ms in
     let off : is_live s.node t.row.session ≡ false =
     ap (λ (n : ℕ). is_some (session_actor s.node n)) (sym at.id) ∙ ap is_some (sym c.actor.ensures) ∙ c.is_none.ensures ∙ ap not c.if-is_none.true in
@@ -24,8 +24,8 @@ returns-clause-again g c t at =
     let verdicts = c.args.verdicts.now in
     let whole = c.args.whole.now in
     let given = given_to whole (g.V.Verdicts.roots verdicts) (g.V.Verdicts.csrs verdicts) (g.V.Verdicts.joins verdicts) in
-    let s = whole.plain.state in
-    let l = whole.plain.ledger in
+    let s = whole.interactions.state in
+    let l = whole.interactions.ledger in
     let ms = c.args.ms in
     let row = t.row in
     let on : is_live s.node row.session ≡ true =
@@ -34,5 +34,5 @@ returns-clause-again g c t at =
     let made = c.in_ok-datagrams.ensures in
     let stands : IsTalkOf c.resend.new.self row (after_resend ms t.talk) = made.stands row t.talk copied in
     again_over given s l ms t c.args.talk.now.id c.latest.result c.into_vec.result.items c.into_vec-2.result.items
-    (record { sent = c.in_ok-all_sent.field-0; fresh = _; plain = c.in_ok-plan_ends.field-0; talk = _ })
+    (record { sent = c.in_ok-all_sent.field-0; fresh = _; interactions = c.in_ok-plan_ends.field-0; talk = _ })
     on at.id c.in_ok-all_sent.ensures (c.latest.ensures ∙ stands.latest) (c.into_vec.ensures ∙ made.datagrams row t.talk copied) refl c.in_ok-plan_ends.ensures (c.into_vec-2.ensures ∙ made.ends row t.talk copied) (at.id, stands)

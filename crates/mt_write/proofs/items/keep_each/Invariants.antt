@@ -6,4 +6,4 @@ use Rattle.mt_write.proofs.items.keep_each.Given as goal
 
 -- what was kept, and what is kept of the items from here on, is what is kept of all
 abbrev pub invariant-loop-item : goal.invariant-loop-item
-invariant-loop-item g l = with_front l.kept (kept_each (g.T.Kept.kept_as l.fields l.fabric) l.left (elements (drop l.item-index l.items))) ≡ kept_each (g.T.Kept.kept_as l.fields l.fabric) l.room (elements l.items)
+invariant-loop-item g l = with_front l.kept (kept_each (g.T.ListItem.kept_as l.fields l.fabric) l.left (elements (drop l.item-index l.items))) ≡ kept_each (g.T.ListItem.kept_as l.fields l.fabric) l.room (elements l.items)

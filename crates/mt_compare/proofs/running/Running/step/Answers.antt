@@ -3,9 +3,9 @@ use Rattle.mt_machine.specs.Environment.{Environment}
 use Rattle.mt_machine.specs.State.{State}
 use Rattle.mt_ledger.specs.Ledger.{Ledger}
 use Rattle.mt_runs.specs.Lines.{talks_behind}
-use Rattle.mt_plain.specs.Plan.{IsPlainPlanned}
+use Rattle.mt_interactions.specs.Plan.{IsInteractionPlanned}
 use Rattle.mt_marks.specs.Noted.{noted_if}
-use Rattle.mt_whole.specs.Plan.{IsPlanIf, IsPlannedIf, IsWholePlan, given_to}
+use Rattle.mt_whole.specs.Plan.{IsPlanIf, IsPlannedIf, IsPlan, given_to}
 use Rattle.mt_compare.proofs.Stepping.{told_behind}
 use Rattle.mt_compare.proofs.running.Running.step.Goals as goal
 
@@ -16,10 +16,10 @@ returns c given w is =
     let outcome = c.in-Some.outcome in
     let mine = given_to self.whole self.verdicts.roots self.verdicts.csrs self.verdicts.joins in
     let both = subst (IsPlanIf mine w event) c.in-Some.is (c.in_ok-outcome.ensures.plan w is.whole) in
-    let plan : IsWholePlan given w event outcome = subst (λ (g : Environment). IsWholePlan g w event outcome) is.by both.1 in
-    let here : IsPlainPlanned self.whole.plain.state self.whole.plain.ledger outcome.plain = subst (IsPlannedIf self.whole.plain.state self.whole.plain.ledger) c.in-Some.is c.in_ok-outcome.ensures.planned in
-    let planned : IsPlainPlanned w.state w.ledger outcome.plain =
-    subst (λ (l : Ledger). IsPlainPlanned w.state l outcome.plain) is.whole.ledger (subst (λ (s : State). IsPlainPlanned s self.whole.plain.ledger outcome.plain) is.whole.state here) in
+    let plan : IsPlan given w event outcome = subst (λ (g : Environment). IsPlan g w event outcome) is.by both.1 in
+    let here : IsInteractionPlanned self.whole.interactions.state self.whole.interactions.ledger outcome.interactions = subst (IsPlannedIf self.whole.interactions.state self.whole.interactions.ledger) c.in-Some.is c.in_ok-outcome.ensures.planned in
+    let planned : IsInteractionPlanned w.state w.ledger outcome.interactions =
+    subst (λ (l : Ledger). IsInteractionPlanned w.state l outcome.plain) is.whole.ledger (subst (λ (s : State). IsInteractionPlanned s self.whole.interactions.ledger outcome.plain) is.whole.state here) in
     let adds : noted_if c.in_ok-note.note w.talks ≡ talks_behind given w event =
     subst (λ (g : Environment). noted_if c.in_ok-note.note w.talks ≡ talks_behind g w event) is.by (c.in_ok-note.ensures w is.whole) in (
       both.0,

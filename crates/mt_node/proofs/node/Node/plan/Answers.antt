@@ -1,5 +1,5 @@
 use Rattle.std.proofs.Common.{sym}
-use Rattle.mt_node.specs.Kept.{given_to}
+use Rattle.mt_node.specs.Configured.{given_to}
 use Rattle.mt_node.proofs.Plans.{nobody_asks}
 use Rattle.mt_node.proofs.node.Node.plan.Goals as goal
 

@@ -5,7 +5,7 @@ use Rattle.mt_model.specs.declared.tables.access.Actor.{Actor}
 use Rattle.mt_machine.specs.State.{IsValid}
 use Rattle.mt_machine.specs.Step.{asked_reply, asked_steps, at_time}
 use Rattle.mt_machine.specs.Taking.{may_take_all}
-use Rattle.mt_node.specs.Kept.{Kept, given_to}
+use Rattle.mt_node.specs.Configured.{ConfiguredNode, given_to}
 use Rattle.mt_node.specs.Plan.{IsMade, IsPlan}
 use Rattle.mt_node.proofs.Plans.{if_ok, plan_of}
 use Rattle.mt_node.proofs.Rules.{leaves_one, stays, taken}
@@ -16,7 +16,7 @@ outcome-requires g c =
     let s = c.args.self.now.state in
     let verdicts = c.args.verdicts.now in
     let given = given_to c.args.self.now (g.V.Verdicts.roots verdicts) (g.V.Verdicts.csrs verdicts) (g.V.Verdicts.joins verdicts) in
-    let valid : IsValid s = subst (λ (kept : Kept). IsValid kept.state) c.self.view_is c.self.invariant in
+    let valid : IsValid s = subst (λ (kept : ConfiguredNode). IsValid kept.state) c.self.view_is c.self.invariant in
     let actor = c.args.actor.now in
     let request = c.args.request.now in
     let all = taken given s valid actor request c.args.timed c.args.now c.rules_hold_where_asked.ensures c.states_are_valid.ensures.takes in
@@ -28,7 +28,7 @@ returns g c =
     let s = c.args.self.now.state in
     let verdicts = c.args.verdicts.now in
     let given = given_to c.args.self.now (g.V.Verdicts.roots verdicts) (g.V.Verdicts.csrs verdicts) (g.V.Verdicts.joins verdicts) in
-    let valid : IsValid s = subst (λ (kept : Kept). IsValid kept.state) c.self.view_is c.self.invariant in
+    let valid : IsValid s = subst (λ (kept : ConfiguredNode). IsValid kept.state) c.self.view_is c.self.invariant in
     let actor = c.args.actor.now in
     let asking = c.args.asking.now in
     let request = c.args.request.now in

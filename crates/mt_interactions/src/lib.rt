@@ -1,0 +1,38 @@
+//! The node, and around it what belongs to plain actors, who have no session. A line is planned, which changes nothing
+//! and takes all the memory, and then applied, which takes none. What is asked over a session is planned here too.
+//!
+//! - `plain`: the node with its plain actors, how it starts, plans and applies;
+//! - `outcome`: what comes of a line;
+//! - `lines`: a line of a plain actor, from its payload to what is sent;
+//! - `sessions`: what is asked over a session;
+//! - `ticks`: a time step;
+//! - `history`: what the node remembers of events;
+//! - `reporting`: the events among what is replied;
+//! - `wishes`: what a request subscribes to;
+//! - `subscribing`: what a subscription is answered;
+//! - `reports`: what a report step tells;
+//! - `telling`: the attributes and events that a subscriber is told;
+//! - `behind`: what is made of the subscriptions;
+//! - `deadlines`: until when the next requests of plain actors must come;
+//! - `sending`: the messages of a reply;
+//! - `seeing`: what it is, lent to whoever compares.
+#![tactic(auto)]
+
+mod behind;
+mod deadlines;
+mod history;
+mod interactions;
+mod lines;
+mod outcome;
+mod reporting;
+mod reports;
+mod seeing;
+mod sending;
+mod sessions;
+mod subscribing;
+mod telling;
+mod ticks;
+mod wishes;
+
+pub use interactions::{Interactions, asked};
+pub use outcome::InteractionOutcome;

@@ -1,0 +1,29 @@
+-- What contracts see of a node.
+use Rattle.std.specs.Prelude.{List}
+use Rattle.mt_model.specs.texts.Contents.{Contents, contents_of}
+use Rattle.mt_model.specs.declared.texts.config.Config.{Config}
+use Rattle.mt_model.specs.declared.node.state.NodeState.{NodeState}
+use Rattle.mt_model.specs.declared.texts.config.CsrRow.{CsrRow}
+use Rattle.mt_model.specs.declared.texts.config.JoinRow.{JoinRow}
+use Rattle.mt_model.specs.declared.texts.config.RootRow.{RootRow}
+use Rattle.mt_opcreds.specs.Judged.{judged_by}
+use Rattle.mt_machine.specs.Environment.{Environment}
+use Rattle.mt_machine.specs.Opened.{opened}
+
+-- Its state, and the configuration with which it was started. The configuration has all keys, and so it is no part of
+-- the state, of which others observe what is public.
+pub record ConfiguredNode : Type 0 where
+  pub state : NodeState
+  pub config : Contents
+
+-- a new node
+abbrev pub started : Config → ConfiguredNode
+started config = record { state = opened config; config = contents_of config }
+
+-- what is given to it, where these are the rows of the verdicts
+abbrev pub given_to : ConfiguredNode → List RootRow → List CsrRow → List JoinRow → Environment
+given_to kept roots csrs joins = record { judged = judged_by roots csrs joins; reachable = kept.config.reachable }
+
+-- the same node in another state
+abbrev pub in_state : NodeState → ConfiguredNode → ConfiguredNode
+in_state state kept = record kept { state = state }
