@@ -1,7 +1,6 @@
 //! The top calls: what the program does, from the words of the command line to the bytes on its
 //! output and its exit status.
 //!
-//! - `playing`: a node that plays events, and what is sent for each;
 //! - `replaying`: a recording, with a configuration in hand;
 //! - `comparing`: two recordings, compared by what a fabric sees of them;
 //! - `soaking`: a long input made from a number, and the summary of what is sent for it;
@@ -11,7 +10,6 @@
 
 mod comparing;
 mod isolation;
-mod playing;
 mod progress;
 mod replaying;
 mod running;

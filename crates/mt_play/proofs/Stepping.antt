@@ -11,7 +11,7 @@ use Rattle.mt_whole.specs.Laws.{TalksLetGoWhatCloses}
 use Rattle.mt_whole.specs.Plan.{IsPlan}
 use Rattle.mt_whole.specs.declared.outcome.WholeOutcome.{WholeOutcome}
 
-module _ (law : TalksLetGoWhatCloses) (given : Environment) (w : Whole) (event : Event) (outcome : WholeOutcome) (planned : IsInteractionPlanned w.state w.ledger outcome.plain) (plan : IsPlan given w event outcome) where
+module _ (law : TalksLetGoWhatCloses) (given : Environment) (w : Whole) (event : Event) (outcome : WholeOutcome) (planned : IsInteractionPlanned w.state w.ledger outcome.interactions) (plan : IsPlan given w event outcome) where
   pub told_behind : (note : Option Note) (told said kept : List SessionTalk) (closed : List ℕ) → told ≡ w.talks → noted_if note w.talks ≡ talks_behind given w event
       → said ≡ noted_if note told → closed ≡ outcome.interactions.node.closed → kept ≡ map (without_ended closed) said → kept ≡ (next given w event).talks
   told_behind note told said kept closed is adds noted ends lets =
