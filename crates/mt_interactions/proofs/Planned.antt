@@ -43,7 +43,7 @@ use Rattle.mt_interactions.specs.Recording.{may_record}
 use Rattle.mt_ledger.specs.history.Asking.{events_for, with_events}
 use Rattle.mt_ledger.specs.history.Behind.{history_behind}
 use Rattle.mt_ledger.specs.history.History.{History, recorded_all, without_left}
-use Rattle.mt_runs.specs.Lines.{sent_line}
+use Rattle.mt_runs.specs.Lines.{sent_asked, sent_line}
 use Rattle.mt_machine.specs.Telling.{told_between}
 use Rattle.mt_model.specs.declared.node.action.Action.{Action}
 use Rattle.mt_model.specs.declared.node.action.NodeStep.{NodeStep}
@@ -131,11 +131,10 @@ nobody_changes given s l actor ms (Err fault) deadline none = refl
 pub request_line : (given : Environment) (s : State) (l : Ledger) (ms : ℕ) (actor asking : Actor) (request : Request) (outcome : InteractionOutcome) → asker s.node actor ≡ Some asking
     → IsPlan given s.node (Ask actor request (deadline_of asking s.deadlines)) ms outcome.node
     → outcome.ms ≡ ms → may_record outcome.node.told l.history ≡ true
-    → outcome.sent ≡ sent_both ms asking.fabric (with_wish s.node l (line_wish s asking ms (Ok request)) (replied_plainly s l asking ms request outcome.node.reply)) (line_response s l asking ms (Ok request))
     → applied_subs outcome.subs ms l.subs ≡ behind_wish_if_any s.node l ms (line_wish s asking ms (Ok request))
     → unwrap_or outcome.deadlines s.deadlines ≡ left_without outcome.node.gone (with_deadline asking s.deadlines ms (Ok request))
     → IsLine given s l ms actor (Ok request) outcome
-request_line given s l ms actor asking request outcome asks p time may sends made next =
+request_line given s l ms actor asking request outcome asks p time may made next =
     let until = deadline_of asking s.deadlines in
     let behind : NodeState = after_action given s.node (action_of actor (deadline_for s (asker s.node actor)) (Ok request)) ms in
     let node : applied outcome.node s.node ≡ behind = p.state ∙ ap (λ (a : Option Actor). after_action given s.node (action_of actor (deadline_for s a) (Ok request)) ms) (sym asks) in
@@ -144,33 +143,41 @@ request_line given s l ms actor asking request outcome asks p time may sends mad
     ∙ (λ i. deadlines_of_those_left s.node (node i) (deadlines_after (sym asks i) s.deadlines ms (Ok request))) in
     let subs : applied_subs outcome.subs ms l.subs ≡ behind_wish_if_any s.node l ms (wish_asked (asker s.node actor) until ms request) = made ∙ ap (λ (a : Option Actor). behind_wish_if_any s.node l ms (wish_asked a until ms request)) (sym asks) in
     record {
-      sent = sends
-          ∙ ap (λ (reply : Reply). sent_both ms asking.fabric (with_wish s.node l (line_wish s asking ms (Ok request)) (replied_plainly s l asking ms request reply)) (line_response s l asking ms (Ok request))) p.reply
-          ∙ sym (ap (sent_line given s l actor ms (Ok request)) asks);
       state = λ i. record { node = node i; deadlines = deadlines i };
       ledger = ledger_of given s l (acts (Ask actor request until)) ms outcome time p subs
           ∙ ap (λ (a : Option Actor). ledger_behind given s.node (acts (action_of actor (deadline_for s a) (Ok request))) ms l) (sym asks);
       planned = record { node = (given, (Ask actor request until, (ms, p))); recordable = may };
     }
 
+pub request_sent : (given : Environment) (s : State) (l : Ledger) (ms : ℕ) (actor asking : Actor) (request : Request) (messages : List Sent) (reply : Reply) → asker s.node actor ≡ Some asking
+    → reply ≡ reply_of given s.node (Ask actor request (deadline_of asking s.deadlines)) ms
+    → messages ≡ sent_both ms asking.fabric (with_wish s.node l (line_wish s asking ms (Ok request)) (replied_plainly s l asking ms request reply)) (line_response s l asking ms (Ok request))
+    → messages ≡ sent_asked given s l actor ms (Ok request)
+request_sent given s l ms actor asking request messages reply asks is sends =
+    sends
+    ∙ ap (λ (r : Reply). sent_both ms asking.fabric (with_wish s.node l (line_wish s asking ms (Ok request)) (replied_plainly s l asking ms request r)) (line_response s l asking ms (Ok request))) is
+    ∙ sym (ap (sent_line given s l actor ms (Ok request)) asks)
+
 -- a payload that is no request, of whoever is taken as asking
 pub refused_line : (given : Environment) (s : State) (l : Ledger) (ms : ℕ) (actor asking : Actor) (fault : ImFault) (outcome : InteractionOutcome) → asker s.node actor ≡ Some asking
     → IsPlan given s.node Nothing ms outcome.node
     → outcome.ms ≡ ms → may_record outcome.node.told l.history ≡ true
-    → outcome.sent ≡ sent_as ms asking.fabric (fault_reply fault)
     → applied_subs outcome.subs ms l.subs ≡ l.subs
     → unwrap_or outcome.deadlines s.deadlines ≡ with_deadline asking s.deadlines ms (Err fault)
     → IsLine given s l ms actor (Err fault) outcome
-refused_line given s l ms actor asking fault outcome asks p time may sends made next =
+refused_line given s l ms actor asking fault outcome asks p time may made next =
     let deadlines : unwrap_or outcome.deadlines s.deadlines ≡ deadlines_of_those_left s.node (after_action given s.node Nothing ms) (deadlines_after (asker s.node actor) s.deadlines ms (Err fault)) =
     next ∙ ap (λ (a : Option Actor). deadlines_after a s.deadlines ms (Err fault)) (sym asks)
     ∙ all_left s.node (after_action given s.node Nothing ms) refl (deadlines_after (asker s.node actor) s.deadlines ms (Err fault)) in
     record {
-      sent = sends ∙ sym (append-nil (sent_as ms asking.fabric (fault_reply fault))) ∙ sym (ap (sent_line given s l actor ms (Err fault)) asks);
       state = λ i. record { node = p.state i; deadlines = deadlines i };
       ledger = ledger_of given s l (acts Nothing) ms outcome time p made;
       planned = record { node = (given, (Nothing, (ms, p))); recordable = may };
     }
+
+pub refused_sent : (given : Environment) (s : State) (l : Ledger) (ms : ℕ) (actor asking : Actor) (fault : ImFault) (messages : List Sent) → asker s.node actor ≡ Some asking → messages ≡ sent_as ms asking.fabric (fault_reply fault)
+    → messages ≡ sent_asked given s l actor ms (Err fault)
+refused_sent given s l ms actor asking fault messages asks sends = sends ∙ sym (append-nil (sent_as ms asking.fabric (fault_reply fault))) ∙ sym (ap (sent_line given s l actor ms (Err fault)) asks)
 
 -- what an answer of memory gives, where it gives anything
 pub if_ok : {T E : Type 0} (r : Result T E) (P Q : T → Type 0) → ((x : T) → P x → Q x) → IfOk r P → IfOk r Q
@@ -182,15 +189,17 @@ if_both (Ok x) P Q R follows holds also = follows x holds also
 if_both (Err e) P Q R follows holds also = holds
 
 -- nobody is taken as asking
-pub quiet_line : (given : Environment) (s : State) (l : Ledger) (ms : ℕ) (actor : Actor) (asked : Result Request ImFault) (outcome : InteractionOutcome) → asker s.node actor ≡ None → outcome.sent ≡ [] → IsDone given s l (acts Nothing) ms outcome → IsLine given s l ms actor asked outcome
-quiet_line given s l ms actor asked outcome none sends done =
+pub quiet_line : (given : Environment) (s : State) (l : Ledger) (ms : ℕ) (actor : Actor) (asked : Result Request ImFault) (outcome : InteractionOutcome) → asker s.node actor ≡ None → IsDone given s l (acts Nothing) ms outcome → IsLine given s l ms actor asked outcome
+quiet_line given s l ms actor asked outcome none done =
     let same = nobody_steps given s actor ms asked (deadline_for s (asker s.node actor)) none in
     record {
-      sent = sends ∙ sym (ap (sent_line given s l actor ms asked) none);
       state = done.state ∙ (λ i. record { node = same i; deadlines = deadlines_of_those_left s.node (same i) (deadlines_after (sym none i) s.deadlines ms asked) });
       ledger = done.ledger ∙ nobody_changes given s l actor ms asked (deadline_for s (asker s.node actor)) none;
       planned = done.planned;
     }
+
+pub quiet_sent : (given : Environment) (s : State) (l : Ledger) (ms : ℕ) (actor : Actor) (asked : Result Request ImFault) (messages : List Sent) → asker s.node actor ≡ None → messages ≡ [] → messages ≡ sent_asked given s l actor ms asked
+quiet_sent given s l ms actor asked messages none sends = sends ∙ sym (ap (sent_line given s l actor ms asked) none)
 
 -- what was decoded, but for want of memory
 pub comes_to : (asked read : Result Request ImFault) → Gives (λ x. x) asked read → is_want_of_memory asked ≡ false → read ≡ asked
@@ -220,14 +229,13 @@ left_due : (due : Bool) (armed : Option Armed) (ds : List PlainDeadline) → lef
 left_due true armed ds = left_armed armed ds
 left_due false armed ds = refl
 
-pub tick_of : TakesTheAddedAway → (given : Environment) (s : State) (l : Ledger) (ms : ℕ) (outcome : InteractionOutcome) → IsValid s.node → outcome.sent ≡ [] → outcome.ms ≡ ms → may_record outcome.node.told l.history ≡ true → applied_subs outcome.subs ms l.subs ≡ l.subs → IsPlan given s.node Expire ms outcome.node
+pub tick_of : TakesTheAddedAway → (given : Environment) (s : State) (l : Ledger) (ms : ℕ) (outcome : InteractionOutcome) → IsValid s.node → outcome.ms ≡ ms → may_record outcome.node.told l.history ≡ true → applied_subs outcome.subs ms l.subs ≡ l.subs → IsPlan given s.node Expire ms outcome.node
     → unwrap_or outcome.deadlines s.deadlines ≡ left_without outcome.node.gone s.deadlines → IsTick given s l ms outcome
-tick_of takes given s l ms outcome valid sends time may made plan left =
+tick_of takes given s l ms outcome valid time may made plan left =
     let gone : outcome.node.gone ≡ (if is_due s.node.armed ms then added_in s.node.armed else None) = ap (λ (aside : Aside). aside.gone) plan.aside ∙ takes given s.node ms valid in
     let deadlines : unwrap_or outcome.deadlines s.deadlines ≡ (if is_due s.node.armed ms then deadlines_left s.node.armed s.deadlines else s.deadlines) =
     left ∙ ap (λ (g : Option ℕ). left_without g s.deadlines) gone ∙ left_due (is_due s.node.armed ms) s.node.armed s.deadlines in
     record {
-      sent = sends;
       state = λ i. record { node = plan.state i; deadlines = deadlines i };
       ledger = ledger_of given s l (acts Expire) ms outcome time plan made;
       planned = record { node = (given, (Expire, (ms, plan))); recordable = may };
@@ -236,22 +244,21 @@ tick_of takes given s l ms outcome valid sends time may made plan left =
 -- What no line of a plain actor does.
 
 -- time passes
-pub passes : (given : Environment) (s : State) (l : Ledger) (sent : List Sent) (ms : ℕ) (subs : SubsBehind) (outcome : InteractionOutcome) → outcome.sent ≡ sent → outcome.deadlines ≡ None → outcome.ms ≡ ms → outcome.subs ≡ subs → may_record outcome.node.told l.history ≡ true → IsPlan given s.node Nothing ms outcome.node
-    → IsPassing given s l sent ms subs outcome
-passes given s l sent ms subs outcome sends none time made may plan =
+pub passes : (given : Environment) (s : State) (l : Ledger) (ms : ℕ) (subs : SubsBehind) (outcome : InteractionOutcome) → outcome.deadlines ≡ None → outcome.ms ≡ ms → outcome.subs ≡ subs → may_record outcome.node.told l.history ≡ true → IsPlan given s.node Nothing ms outcome.node
+    → IsPassing given s l ms subs outcome
+passes given s l ms subs outcome none time made may plan =
     let deadlines : unwrap_or outcome.deadlines s.deadlines ≡ deadlines_of_those_left s.node (after_action given s.node Nothing ms) s.deadlines =
     ap (λ (d : Option (List PlainDeadline)). unwrap_or d s.deadlines) none ∙ all_left s.node (after_action given s.node Nothing ms) refl s.deadlines in
     record {
-      sent = sends;
       state = λ i. record { node = plan.state i; deadlines = deadlines i };
       ledger = λ i. record { history = tells given s l.history Nothing ms outcome time plan i; subs = left_in (plan.state i) (applied_subs (made i) (time i) l.subs) };
       planned = record { node = (given, (Nothing, (ms, plan))); recordable = may };
     }
 
 -- what is done where time passes, and this is made of the subscriptions
-pub passing_does : (given : Environment) (s : State) (l : Ledger) (sent : List Sent) (ms : ℕ) (subs : SubsBehind) (activity : Activity) (outcome : InteractionOutcome) → action_in activity ≡ Nothing → applied_subs subs ms l.subs ≡ subs_done s.node l ms activity
-    → IsPassing given s l sent ms subs outcome → IsDone given s l activity ms outcome
-passing_does given s l sent ms subs activity outcome nothing made passing = record {
+pub passing_does : (given : Environment) (s : State) (l : Ledger) (ms : ℕ) (subs : SubsBehind) (activity : Activity) (outcome : InteractionOutcome) → action_in activity ≡ Nothing → applied_subs subs ms l.subs ≡ subs_done s.node l ms activity
+    → IsPassing given s l ms subs outcome → IsDone given s l activity ms outcome
+passing_does given s l ms subs activity outcome nothing made passing = record {
   state = passing.state ∙ ap (λ (a : Action). record { node = after_action given s.node a ms; deadlines = deadlines_of_those_left s.node (after_action given s.node a ms) s.deadlines }) (sym nothing);
   ledger = passing.ledger ∙ (λ i. record { history = history_behind given s.node (sym nothing i) ms l.history; subs = left_in (after_action given s.node (sym nothing i) ms) (made i) });
   planned = passing.planned;

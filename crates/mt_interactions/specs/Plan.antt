@@ -1,13 +1,13 @@
 -- What an outcome stands for.
-use Rattle.std.specs.Prelude.{◌≡◌, ℕ, Bool, true, false, List, [], Option, Some, None, Result, Ok, Err, filter, length, unwrap_or}
+use Rattle.std.specs.Prelude.{◌≡◌, ℕ, Bool, true, false, List, Option, Some, None, Result, Ok, Err, filter, length, unwrap_or}
 use Rattle.mt_im.specs.declared.fault.ImFault.{ImFault}
 use Rattle.mt_im.specs.declared.fault.ImFault.TheVariants as faults
 use Rattle.mt_model.specs.tables.Leaving.{stays}
 use Rattle.mt_model.specs.declared.tables.access.Actor.{Actor}
 use Rattle.mt_model.specs.declared.node.action.PlainDeadline.{PlainDeadline}
 use Rattle.mt_model.specs.declared.messages.message.Request.{Request}
-use Rattle.mt_model.specs.declared.texts.recording.Sent.{Sent}
-use Rattle.mt_node.specs.Plan.{IsPlanned, applied}
+use Rattle.mt_node.specs.Plan as nodes
+use Rattle.mt_node.specs.Plan.{applied}
 use Rattle.mt_model.specs.declared.node.action.Action.TheVariants.{Expire, Nothing}
 use Rattle.mt_subs.specs.Leaving.{left_in}
 use Rattle.mt_machine.specs.Environment.{Environment}
@@ -19,7 +19,7 @@ use Rattle.mt_ledger.specs.history.Behind.{history_behind}
 use Rattle.mt_ledger.specs.history.History.{History, recorded_all, without_left}
 use Rattle.mt_ledger.specs.Behind.{Activity, acts, action_in, ledger_behind}
 use Rattle.mt_ledger.specs.Ledger.{Ledger}
-use Rattle.mt_runs.specs.Lines.{action_asked, sent_asked}
+use Rattle.mt_runs.specs.Lines.{action_asked}
 use Rattle.mt_interactions.specs.Recording.{may_record}
 use Rattle.mt_interactions.specs.Subscribing.{applied_subs}
 use Rattle.mt_interactions.specs.declared.behind.SubsBehind.{SubsBehind}
@@ -56,36 +56,33 @@ applied_ledger outcome s l = record {
 }
 
 -- The outcome was made on this state, where this was the ledger, in which all that it tells can be recorded.
-pub record IsInteractionPlanned (s : State) (l : Ledger) (outcome : InteractionOutcome) : Type 0 where
-  pub node : IsPlanned s.node outcome.node
+pub record IsPlanned (s : State) (l : Ledger) (outcome : InteractionOutcome) : Type 0 where
+  pub node : nodes.IsPlanned s.node outcome.node
   pub recordable : may_record outcome.node.told l.history ≡ true
 
 -- The outcome is that of a line of this actor, whose payload was decoded to this.
 pub record IsLine (given : Environment) (s : State) (l : Ledger) (ms : ℕ) (actor : Actor) (asked : Result Request ImFault) (outcome : InteractionOutcome) : Type 0 where
-  pub sent : outcome.sent ≡ sent_asked given s l actor ms asked
   pub state : applied_state outcome s ≡ next_for given s actor ms asked
   pub ledger : applied_ledger outcome s l ≡ ledger_behind given s.node (acts (action_asked s actor asked)) ms l
-  pub planned : IsInteractionPlanned s l outcome
+  pub planned : IsPlanned s l outcome
 
 -- The outcome is that of a time step.
 pub record IsTick (given : Environment) (s : State) (l : Ledger) (ms : ℕ) (outcome : InteractionOutcome) : Type 0 where
-  pub sent : outcome.sent ≡ []
   pub state : applied_state outcome s ≡ next_tick given s ms
   pub ledger : applied_ledger outcome s l ≡ ledger_behind given s.node (acts Expire) ms l
-  pub planned : IsInteractionPlanned s l outcome
+  pub planned : IsPlanned s l outcome
 
 -- The outcome is that of this, which no line of a plain actor does.
 pub record IsDone (given : Environment) (s : State) (l : Ledger) (activity : Activity) (ms : ℕ) (outcome : InteractionOutcome) : Type 0 where
   pub state : applied_state outcome s ≡ behind_action given s (action_in activity) ms
   pub ledger : applied_ledger outcome s l ≡ ledger_behind given s.node activity ms l
-  pub planned : IsInteractionPlanned s l outcome
+  pub planned : IsPlanned s l outcome
 
--- Time passes, this is sent, and this is made of the subscriptions.
-pub record IsPassing (given : Environment) (s : State) (l : Ledger) (messages : List Sent) (ms : ℕ) (made : SubsBehind) (outcome : InteractionOutcome) : Type 0 where
-  pub sent : outcome.sent ≡ messages
+-- Time passes, and this is made of the subscriptions.
+pub record IsPassing (given : Environment) (s : State) (l : Ledger) (ms : ℕ) (made : SubsBehind) (outcome : InteractionOutcome) : Type 0 where
   pub state : applied_state outcome s ≡ behind_action given s Nothing ms
   pub ledger : applied_ledger outcome s l ≡ record { history = history_behind given s.node Nothing ms l.history; subs = left_in (after_action given s.node Nothing ms) (applied_subs made ms l.subs) }
-  pub planned : IsInteractionPlanned s l outcome
+  pub planned : IsPlanned s l outcome
 
 -- the sessions that end with an outcome are those that are live before it and not behind it
 abbrev pub closed_by : InteractionOutcome → List ℕ

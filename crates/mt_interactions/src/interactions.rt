@@ -4,8 +4,9 @@ ghost use Rattle.std.specs.Prelude.{◌≡◌, IfOk, option_copied};
 ghost use Rattle.mt_machine.specs.Lines.{line_actor};
 ghost use Rattle.mt_im.specs.Limits.{IsWithinLimits};
 ghost use Rattle.mt_im.specs.Reading.{request_in};
+ghost use Rattle.mt_runs.specs.Lines.{sent_asked};
 ghost use Rattle.mt_interactions.specs.Configured.{behind, given_to, started};
-ghost use Rattle.mt_interactions.specs.Plan.{IsLine, IsInteractionPlanned, IsTick, applied_ledger, applied_state, is_want_of_memory};
+ghost use Rattle.mt_interactions.specs.Plan.{IsLine, IsPlanned, IsTick, applied_ledger, applied_state, is_want_of_memory};
 
 use crate::behind::make;
 use crate::history::History;
@@ -13,7 +14,7 @@ use crate::lines::{line_actor, planned_line};
 use crate::outcome::InteractionOutcome;
 use crate::ticks::planned_tick;
 use mt_im::{ImFault, decode};
-use mt_model::{Armed, Config, PlainDeadlines, Request, Verdicts};
+use mt_model::{Armed, Config, PlainDeadlines, Request, SentList, Verdicts};
 use mt_node::Node;
 use mt_subs::Subs;
 use mt_tlv::Bytes;
@@ -71,7 +72,8 @@ impl Interactions {
     }
 
     /// Plans a line of a plain actor of a fabric, with the payload of its message, by the verdicts on certificates that are
-    /// handed in. It changes nothing, and takes all the memory.
+    /// handed in: the messages of its answer, in the order of sending, and what comes of it. It changes nothing, and takes all
+    /// the memory.
     pub fn plan_line<V: Verdicts>(
         &self,
         ms: u64,
@@ -81,15 +83,17 @@ impl Interactions {
         opcode: u8,
         payload: &Bytes,
         verdicts: &V,
-    ) -> Result<InteractionOutcome, AllocError>
-        ensures { let given = given_to self.now (V.roots verdicts.now) (V.csrs verdicts.now) (V.joins verdicts.now) in
-            IfOk result (IsLine given self.now.state self.now.ledger ms (line_actor fabric node cats) (request_in opcode payload.now)) }
+    ) -> Result<(SentList, InteractionOutcome), AllocError>
+        ensures sent { let given = given_to self.now (V.roots verdicts.now) (V.csrs verdicts.now) (V.joins verdicts.now) in
+            IfOk result (λ both. both.0 ≡ sent_asked given self.now.state self.now.ledger (line_actor fabric node cats) ms (request_in opcode payload.now)) }
+        ensures outcome { let given = given_to self.now (V.roots verdicts.now) (V.csrs verdicts.now) (V.joins verdicts.now) in
+            IfOk result (λ both. IsLine given self.now.state self.now.ledger ms (line_actor fabric node cats) (request_in opcode payload.now) both.1) }
     {
         let asked = asked(self.alloc, opcode, payload.as_slice())?;
         planned_line(self, ms, &line_actor(fabric, node, cats), &asked, verdicts)
     }
 
-    /// Plans a time step, which lets the fail-safe expire where it is time.
+    /// Plans a time step, which lets the fail-safe expire where it is time, and sends nothing.
     pub fn plan_tick<V: Verdicts>(
         &self,
         ms: u64,
@@ -111,7 +115,7 @@ impl Interactions {
     /// Makes of it what a planned event makes of it. Subscriptions whose subscriber is not there any more end. It takes no
     /// memory, and cannot fail.
     pub fn apply(&mut self, outcome: InteractionOutcome)
-        requires { IsInteractionPlanned self.old.state self.old.ledger outcome }
+        requires { IsPlanned self.old.state self.old.ledger outcome }
         ensures { self.new ≡ behind (applied_state outcome self.old.state) (applied_ledger outcome self.old.state self.old.ledger) self.old }
     {
         let (ms, node, deadlines, subs) = outcome.into_parts();

@@ -5,6 +5,7 @@ ghost use Rattle.mt_machine.specs.Lines.{deadline_of, fault_reply, line_actor, s
 ghost use Rattle.mt_machine.specs.Step.{asker};
 ghost use Rattle.mt_ledger.specs.Asking.{line_response, line_wish, with_wish};
 ghost use Rattle.mt_ledger.specs.Subscribing.{behind_wish_if_any};
+ghost use Rattle.mt_runs.specs.Lines.{sent_asked};
 ghost use Rattle.mt_im.specs.Limits.{IsWithinLimits};
 ghost use Rattle.mt_interactions.specs.Configured.{given_to};
 ghost use Rattle.mt_interactions.specs.Plan.{IsLine};
@@ -46,21 +47,26 @@ pub(crate) fn line_actor(fabric: u8, node: u64, cats: [u32; 3]) -> Actor
     }
 }
 
-/// Plans a line. What is no request goes the same way as what is one.
+/// Plans a line: its messages, and what comes of it. What is no request goes the same way as what is one.
 pub(crate) fn planned_line<V: Verdicts>(
     interactions: &Interactions,
     ms: u64,
     actor: &Actor,
     asked: &Result<Request, ImFault>,
     verdicts: &V,
-) -> Result<InteractionOutcome, AllocError>
+) -> Result<(SentList, InteractionOutcome), AllocError>
     requires within { IfOk asked.now IsWithinLimits }
-    ensures { let given = given_to interactions.now (V.roots verdicts.now) (V.csrs verdicts.now) (V.joins verdicts.now) in
-        IfOk result (IsLine given interactions.now.state interactions.now.ledger ms actor.now asked.now) }
+    ensures sent { let given = given_to interactions.now (V.roots verdicts.now) (V.csrs verdicts.now) (V.joins verdicts.now) in
+        IfOk result (λ both. both.0 ≡ sent_asked given interactions.now.state interactions.now.ledger actor.now ms asked.now) }
+    ensures outcome { let given = given_to interactions.now (V.roots verdicts.now) (V.csrs verdicts.now) (V.joins verdicts.now) in
+        IfOk result (λ both. IsLine given interactions.now.state interactions.now.ledger ms actor.now asked.now both.1) }
 {
     match interactions.node.asker(actor) {
         Some(asking) => planned_for(interactions, ms, actor, &asking, asked, verdicts),
-        None => interactions.pass(ms, verdicts),
+        None => {
+            let outcome = interactions.pass(ms, verdicts)?;
+            Ok((SentList::new(interactions.alloc), outcome))
+        },
     }
 }
 
@@ -71,11 +77,13 @@ fn planned_for<V: Verdicts>(
     asking: &Actor,
     asked: &Result<Request, ImFault>,
     verdicts: &V,
-) -> Result<InteractionOutcome, AllocError>
+) -> Result<(SentList, InteractionOutcome), AllocError>
     requires asks { asker interactions.now.state.node actor.now ≡ Some asking.now }
     requires within { IfOk asked.now IsWithinLimits }
-    ensures { let given = given_to interactions.now (V.roots verdicts.now) (V.csrs verdicts.now) (V.joins verdicts.now) in
-        IfOk result (IsLine given interactions.now.state interactions.now.ledger ms actor.now asked.now) }
+    ensures sent { let given = given_to interactions.now (V.roots verdicts.now) (V.csrs verdicts.now) (V.joins verdicts.now) in
+        IfOk result (λ both. both.0 ≡ sent_asked given interactions.now.state interactions.now.ledger actor.now ms asked.now) }
+    ensures outcome { let given = given_to interactions.now (V.roots verdicts.now) (V.csrs verdicts.now) (V.joins verdicts.now) in
+        IfOk result (λ both. IsLine given interactions.now.state interactions.now.ledger ms actor.now asked.now both.1) }
 {
     let deadlines = next_deadlines(
         interactions.alloc,
@@ -107,12 +115,14 @@ fn answered<V: Verdicts>(
     request: &Request,
     deadlines: Option<PlainDeadlines>,
     verdicts: &V,
-) -> Result<InteractionOutcome, AllocError>
+) -> Result<(SentList, InteractionOutcome), AllocError>
     requires asks { asker interactions.now.state.node actor.now ≡ Some asking.now }
     requires within { IsWithinLimits request.now }
     requires next { unwrap_or deadlines interactions.now.state.deadlines ≡ with_deadline asking.now interactions.now.state.deadlines ms (Ok request.now) }
-    ensures { let given = given_to interactions.now (V.roots verdicts.now) (V.csrs verdicts.now) (V.joins verdicts.now) in
-        IfOk result (IsLine given interactions.now.state interactions.now.ledger ms actor.now (Ok request.now)) }
+    ensures sent { let given = given_to interactions.now (V.roots verdicts.now) (V.csrs verdicts.now) (V.joins verdicts.now) in
+        IfOk result (λ both. both.0 ≡ sent_asked given interactions.now.state interactions.now.ledger actor.now ms (Ok request.now)) }
+    ensures outcome { let given = given_to interactions.now (V.roots verdicts.now) (V.csrs verdicts.now) (V.joins verdicts.now) in
+        IfOk result (λ both. IsLine given interactions.now.state interactions.now.ledger ms actor.now (Ok request.now) both.1) }
 {
     let timed = deadline_of(interactions.deadlines.as_slice(), asking);
     let node = interactions
@@ -125,7 +135,8 @@ fn answered<V: Verdicts>(
         node.gone,
     )?;
     let (sent, subs) = replied(interactions, ms, asking, request, timed, &node.reply)?;
-    interactions.outcome(sent, ms, node, deadlines, subs)
+    let outcome = interactions.outcome(ms, node, deadlines, subs)?;
+    Ok((sent, outcome))
 }
 
 // The messages of all that is replied, and what is made of the subscriptions.
@@ -191,15 +202,18 @@ fn refused<V: Verdicts>(
     fault: ImFault,
     deadlines: Option<PlainDeadlines>,
     verdicts: &V,
-) -> Result<InteractionOutcome, AllocError>
+) -> Result<(SentList, InteractionOutcome), AllocError>
     requires asks { asker interactions.now.state.node actor.now ≡ Some asking.now }
     requires next { unwrap_or deadlines interactions.now.state.deadlines ≡ with_deadline asking.now interactions.now.state.deadlines ms (Err fault) }
-    ensures { let given = given_to interactions.now (V.roots verdicts.now) (V.csrs verdicts.now) (V.joins verdicts.now) in
-        IfOk result (IsLine given interactions.now.state interactions.now.ledger ms actor.now (Err fault)) }
+    ensures sent { let given = given_to interactions.now (V.roots verdicts.now) (V.csrs verdicts.now) (V.joins verdicts.now) in
+        IfOk result (λ both. both.0 ≡ sent_asked given interactions.now.state interactions.now.ledger actor.now ms (Err fault)) }
+    ensures outcome { let given = given_to interactions.now (V.roots verdicts.now) (V.csrs verdicts.now) (V.joins verdicts.now) in
+        IfOk result (λ both. IsLine given interactions.now.state interactions.now.ledger ms actor.now (Err fault) both.1) }
 {
     let node = interactions.node.plan(&Action::Nothing, ms, verdicts)?;
     let sent = sent_as(interactions.alloc, ms, asking.fabric, &fault_reply(fault))?;
-    interactions.outcome(sent, ms, node, deadlines, SubsBehind::Same)
+    let outcome = interactions.outcome(ms, node, deadlines, SubsBehind::Same)?;
+    Ok((sent, outcome))
 }
 
 /// The reply to a payload that is no request.

@@ -5,14 +5,12 @@ ghost use Rattle.mt_interactions.specs.Recording.{may_record};
 
 use crate::behind::SubsBehind;
 use crate::interactions::Interactions;
-use mt_model::{PlainDeadlines, SentList};
+use mt_model::PlainDeadlines;
 use mt_node::Outcome;
 use std::alloc::AllocError;
 
-/// What a planned event sends, and what it makes of the interactions.
+/// What a planned event makes of the interactions.
 pub struct InteractionOutcome {
-    /// The messages, in the order of sending.
-    pub sent: SentList,
     // the time, in ms
     pub(crate) ms: u64,
     pub(crate) node: Outcome,
@@ -25,7 +23,6 @@ pub struct InteractionOutcome {
 impl Drop for InteractionOutcome {
     fn drop(self) {
         let InteractionOutcome {
-            sent: _,
             ms: _,
             node: _,
             deadlines: _,
@@ -42,13 +39,11 @@ impl InteractionOutcome {
         self.node.closed.as_slice()
     }
 
-    /// What putting it in place needs: the time, in ms, the node's outcome, the deadlines and the subscriptions. The messages are
-    /// let go.
+    /// What putting it in place needs: the time, in ms, the node's outcome, the deadlines and the subscriptions.
     pub(crate) fn into_parts(self) -> (u64, Outcome, Option<PlainDeadlines>, SubsBehind)
         ensures { result ≡ (self.ms, self.node, self.deadlines, self.subs) }
     {
         let InteractionOutcome {
-            sent: _,
             ms,
             node,
             deadlines,
@@ -63,20 +58,18 @@ impl Interactions {
     /// node comes: its numbers would be near their end.
     pub(crate) fn outcome(
         &self,
-        sent: SentList,
         ms: u64,
         node: Outcome,
         deadlines: Option<PlainDeadlines>,
         subs: SubsBehind,
     ) -> Result<InteractionOutcome, AllocError>
-        ensures made { IfOk result (λ outcome. outcome ≡ record { sent = sent; ms = ms; node = node; deadlines = deadlines; subs = subs }) }
+        ensures made { IfOk result (λ outcome. outcome ≡ record { ms = ms; node = node; deadlines = deadlines; subs = subs }) }
         ensures recordable { IfOk result (λ outcome. may_record node.told self.now.ledger.history ≡ true) }
     {
         if !self.history.may_record(node.told.as_slice()) {
             return Err(AllocError);
         }
         Ok(InteractionOutcome {
-            sent,
             ms,
             node,
             deadlines,

@@ -30,23 +30,26 @@ pub(crate) struct DueReport<'a> {
 
 impl Interactions {
     /// Plans a report step to a subscription of a fabric at this time, in ms: over which session which payloads are to be
-    /// reported, where the subscriber has one, and what comes of it. A plain actor is sent its report at once, and confirms it.
-    /// Where nothing is due time passes, and nothing else.
+    /// reported, where the subscriber has one, what is sent to a plain actor, who is told at once and confirms it, and what comes
+    /// of it. Where nothing is due time passes, and nothing else.
     pub fn plan_report<V: Verdicts>(
         &self,
         fabric: u8,
         id: u32,
         ms: u64,
         verdicts: &V,
-    ) -> Result<(Option<(u16, Payloads)>, InteractionOutcome), AllocError>
-        ensures over { IfOk result (λ both. both.0 ≡ reported_over self.now.state.node self.now.ledger.history fabric id (due_now self.now.state.node self.now.ledger ms fabric id)) }
-        ensures sent { IfOk result (λ both. both.1.sent ≡ sent_plainly self.now.state.node self.now.ledger.history ms fabric id (due_now self.now.state.node self.now.ledger ms fabric id)) }
+    ) -> Result<(Option<(u16, Payloads)>, SentList, InteractionOutcome), AllocError>
+        ensures over { IfOk result (λ all. all.0 ≡ reported_over self.now.state.node self.now.ledger.history fabric id (due_now self.now.state.node self.now.ledger ms fabric id)) }
+        ensures sent { IfOk result (λ all. all.1 ≡ sent_plainly self.now.state.node self.now.ledger.history ms fabric id (due_now self.now.state.node self.now.ledger ms fabric id)) }
         ensures outcome { let given = given_to self.now (V.roots verdicts.now) (V.csrs verdicts.now) (V.joins verdicts.now) in
-            IfOk result (λ both. IsDone given self.now.state self.now.ledger (reports fabric id) ms both.1) }
+            IfOk result (λ all. IsDone given self.now.state self.now.ledger (reports fabric id) ms all.2) }
     {
         match due_now(self, fabric, id, ms)? {
             Some(due) => reported(self, fabric, id, &due, ms, verdicts),
-            None => Ok((None, self.pass(ms, verdicts)?)),
+            None => {
+                let outcome = self.pass(ms, verdicts)?;
+                Ok((None, SentList::new(self.alloc), outcome))
+            },
         }
     }
 }
@@ -172,12 +175,12 @@ fn reported<V: Verdicts>(
     due: &DueReport,
     ms: u64,
     verdicts: &V,
-) -> Result<(Option<(u16, Payloads)>, InteractionOutcome), AllocError>
+) -> Result<(Option<(u16, Payloads)>, SentList, InteractionOutcome), AllocError>
     requires { due_now interactions.now.state.node interactions.now.ledger ms fabric id ≡ Some (due_by due.now) }
-    ensures over { IfOk result (λ both. both.0 ≡ reported_over interactions.now.state.node interactions.now.ledger.history fabric id (Some (due_by due.now))) }
-    ensures sent { IfOk result (λ both. both.1.sent ≡ sent_plainly interactions.now.state.node interactions.now.ledger.history ms fabric id (Some (due_by due.now))) }
+    ensures over { IfOk result (λ all. all.0 ≡ reported_over interactions.now.state.node interactions.now.ledger.history fabric id (Some (due_by due.now))) }
+    ensures sent { IfOk result (λ all. all.1 ≡ sent_plainly interactions.now.state.node interactions.now.ledger.history ms fabric id (Some (due_by due.now))) }
     ensures outcome { let given = given_to interactions.now (V.roots verdicts.now) (V.csrs verdicts.now) (V.joins verdicts.now) in
-        IfOk result (λ both. IsDone given interactions.now.state interactions.now.ledger (reports fabric id) ms both.1) }
+        IfOk result (λ all. IsDone given interactions.now.state interactions.now.ledger (reports fabric id) ms all.2) }
 {
     let (report, event) = due_report(interactions, fabric, id, due)?;
     let session = due.kept.sub.actor.session;
@@ -191,13 +194,14 @@ fn reported<V: Verdicts>(
     match session {
         Some(session) => {
             let payloads = chunks(interactions.alloc, &report)?;
+            let outcome = interactions.passing(ms, subs, verdicts)?;
             let none = SentList::new(interactions.alloc);
-            let outcome = interactions.passing(none, ms, subs, verdicts)?;
-            Ok((Some((session, payloads)), outcome))
+            Ok((Some((session, payloads)), none, outcome))
         },
         None => {
             let sent = sent_as(interactions.alloc, ms, fabric, &report)?;
-            Ok((None, interactions.passing(sent, ms, subs, verdicts)?))
+            let outcome = interactions.passing(ms, subs, verdicts)?;
+            Ok((None, sent, outcome))
         },
     }
 }

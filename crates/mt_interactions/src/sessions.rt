@@ -1,6 +1,6 @@
 //! What is asked over a session.
 
-ghost use Rattle.std.specs.Prelude.{◌≡◌, [], Ok, IfOk, map, option_copied};
+ghost use Rattle.std.specs.Prelude.{◌≡◌, Ok, IfOk, map, option_copied};
 ghost use Rattle.mt_machine.specs.Lines.{action_of};
 ghost use Rattle.mt_machine.specs.Step.{session_actor};
 ghost use Rattle.mt_model.specs.declared.messages.message.Payload.{Payload};
@@ -26,7 +26,7 @@ use crate::subscribing;
 use crate::wishes::wish_in_time;
 use mt_im::ImFault;
 use mt_im_out::chunks;
-use mt_model::{Action, Actor, Auth, Payload, Payloads, Reply, Request, SentList, Verdicts};
+use mt_model::{Action, Actor, Auth, Payload, Payloads, Reply, Request, Verdicts};
 use mt_subs::Kept;
 use std::alloc::{AllocError, Global};
 
@@ -85,8 +85,7 @@ impl Interactions {
         let deadlines = left_without(self.alloc, self.deadlines.as_slice(), None, node.gone)?;
         let (payloads, subs) = self.replied_over(&asking, request, timed, ms, &node.reply)?;
         let payloads = dated(payloads, deadline_set(timed, ms, request));
-        let none = SentList::new(self.alloc);
-        Ok((payloads, self.outcome(none, ms, node, deadlines, subs)?))
+        Ok((payloads, self.outcome(ms, node, deadlines, subs)?))
     }
 
     // The payloads of a reply over a session, with the events that the request asks for, and what is made of the
@@ -149,8 +148,7 @@ impl Interactions {
             fabric,
             id: subscription,
         };
-        let none = SentList::new(self.alloc);
-        Ok((payloads, self.passing(none, ms, subs, verdicts)?))
+        Ok((payloads, self.passing(ms, subs, verdicts)?))
     }
 
     /// Plans that subscriptions of the fabric for which a session is live end, at this time in ms.
@@ -165,23 +163,21 @@ impl Interactions {
             IfOk result (IsDone given self.now.state self.now.ledger (ends (fabric_over self.now.state.node session) ids.items) ms) }
     {
         let fabric = self.fabric_over(session);
-        let none = SentList::new(self.alloc);
-        self.passing(none, ms, SubsBehind::Ended { fabric, ids }, verdicts)
+        self.passing(ms, SubsBehind::Ended { fabric, ids }, verdicts)
     }
 
-    // Time passes, this is sent, and this is made of the subscriptions.
+    // Time passes, and this is made of the subscriptions.
     pub(crate) fn passing<V: Verdicts>(
         &self,
-        sent: SentList,
         ms: u64,
         subs: SubsBehind,
         verdicts: &V,
     ) -> Result<InteractionOutcome, AllocError>
         ensures { let given = given_to self.now (V.roots verdicts.now) (V.csrs verdicts.now) (V.joins verdicts.now) in
-            IfOk result (IsPassing given self.now.state self.now.ledger sent ms subs) }
+            IfOk result (IsPassing given self.now.state self.now.ledger ms subs) }
     {
         let node = self.node.plan(&Action::Nothing, ms, verdicts)?;
-        self.outcome(sent, ms, node, None, subs)
+        self.outcome(ms, node, None, subs)
     }
 
     // The fabric for which a session is live, 0 where it is not.
@@ -194,14 +190,12 @@ impl Interactions {
         }
     }
 
-    /// Plans that time passes.
+    /// Plans that time passes, and nothing else.
     pub fn pass<V: Verdicts>(&self, ms: u64, verdicts: &V) -> Result<InteractionOutcome, AllocError>
-        ensures sent { IfOk result (λ outcome. outcome.sent ≡ []) }
-        ensures plan { let given = given_to self.now (V.roots verdicts.now) (V.csrs verdicts.now) (V.joins verdicts.now) in
+        ensures { let given = given_to self.now (V.roots verdicts.now) (V.csrs verdicts.now) (V.joins verdicts.now) in
             IfOk result (IsDone given self.now.state self.now.ledger (acts Action.Nothing) ms) }
     {
-        let none = SentList::new(self.alloc);
-        self.passing(none, ms, SubsBehind::Same, verdicts)
+        self.passing(ms, SubsBehind::Same, verdicts)
     }
 
     /// The actor of a session, None exactly where the session is not live.

@@ -9,7 +9,7 @@ use crate::deadlines::left_without;
 use crate::interactions::Interactions;
 use crate::outcome::InteractionOutcome;
 use mt_machine::ticks_let_the_failsafe_expire;
-use mt_model::{Action, SentList, Verdicts};
+use mt_model::{Action, Verdicts};
 use std::alloc::AllocError;
 
 /// Plans a time step, which lets the fail-safe expire where it is time. It sends nothing; the deadlines of a fabric that
@@ -31,11 +31,5 @@ pub(crate) fn planned_tick<V: Verdicts>(
         None,
         node.gone,
     )?;
-    interactions.outcome(
-        SentList::new(interactions.alloc),
-        ms,
-        node,
-        deadlines,
-        SubsBehind::Same,
-    )
+    interactions.outcome(ms, node, deadlines, SubsBehind::Same)
 }

@@ -1,18 +1,17 @@
 //! A node that plays the lines of a recording.
 
-ghost use Rattle.std.specs.Prelude.{◌≡◌, IfOk, OnErr};
+ghost use Rattle.std.specs.Prelude.{◌≡◌, IfNone, IfOk, IfSome, OnErr, is_some};
 ghost use Rattle.mt_model.specs.declared.texts.recording.Event.{Event as Line};
 ghost use Rattle.mt_model.specs.texts.Contents.{contents_of};
 ghost use Rattle.mt_machine.specs.Environment.{Environment, given_by};
-ghost use Rattle.mt_interactions.specs.Plan.{IsInteractionPlanned};
+ghost use Rattle.mt_runs.specs.Lines.{is_built};
 ghost use Rattle.mt_runs.specs.Whole.{Whole as Told, opened};
-ghost use Rattle.mt_whole.specs.Plan.{IsPlan, IsPlanIf, IsPlannedIf};
-ghost use Rattle.mt_play.specs.Plays.{HasStepped, IsPlaying, StepsTo};
+ghost use Rattle.mt_whole.specs.Plan.{IsPlan, IsPlanned};
+ghost use Rattle.mt_play.specs.Plays.{IsPlaying, StepsTo};
 
 use mt_model::{Config, Event, SentList, TableVerdicts};
 use mt_whole::{Whole, WholeOutcome};
 use std::alloc::{AllocError, Global};
-use std::mem::replace;
 
 /// A node, and the verdicts on certificates by which it plays. Contracts say for which written whole it stands, and what is
 /// given to that.
@@ -44,33 +43,36 @@ impl Playing {
         })
     }
 
-    /// Makes of the node what an event of a recording makes of it, and gives what is sent; None exactly where the event is not
-    /// built. Where memory is wanting the node stays as it is.
+    /// Makes of the node what an event of a recording makes of it, and gives what is sent, None exactly where the event is not
+    /// built. Where it gives none, for that or for want of memory, the node stays as it is.
     pub fn step(&mut self, event: &Event) -> Result<Option<SentList>, AllocError>
-        ensures steps { (given : Environment) (w : Told) → IsPlaying self.old given w → IfOk result (StepsTo given w event.now self.new) }
+        ensures built { IfOk result (λ sent. is_some sent ≡ is_built event.now) }
+        ensures steps { (given : Environment) (w : Told) → IsPlaying self.old given w → IfOk result (λ sent. IfSome sent (StepsTo given w event.now self.new)) }
+        ensures unbuilt { IfOk result (λ sent. IfNone sent (self.new ≡ self.old)) }
         ensures stays { OnErr result (self.new ≡ self.old) }
     {
-        match self.plan(event)? {
-            Some(outcome) => Ok(Some(self.apply(outcome))),
-            None => Ok(None),
-        }
+        let Some(outcome) = self.plan(event)? else {
+            return Ok(None);
+        };
+        Ok(Some(self.apply(outcome)))
     }
 
-    /// Plans an event. It changes nothing, and takes all the memory.
+    /// Plans an event, None exactly where it is not built. It changes nothing, and takes all the memory.
     pub(crate) fn plan(&self, event: &Event) -> Result<Option<WholeOutcome>, AllocError>
-        ensures planned { IfOk result (IsPlannedIf self.now.whole.interactions.state self.now.whole.interactions.ledger) }
-        ensures plan { (given : Environment) (w : Told) → IsPlaying self.now given w → IfOk result (IsPlanIf given w event.now) }
+        ensures built { IfOk result (λ outcome. is_some outcome ≡ is_built event.now) }
+        ensures planned { IfOk result (λ outcome. IfSome outcome (IsPlanned self.now.whole.interactions.state self.now.whole.interactions.ledger)) }
+        ensures plan { (given : Environment) (w : Told) → IsPlaying self.now given w → IfOk result (λ outcome. IfSome outcome (IsPlan given w event.now)) }
     {
         self.whole.plan(event, &self.verdicts)
     }
 
-    /// Makes of the node what a planned event makes of it, and gives what is sent.
+    /// Makes of the node what a planned event makes of it, and gives what is sent. It takes no memory, and cannot fail.
     pub(crate) fn apply(&mut self, outcome: WholeOutcome) -> SentList
-        requires { IsInteractionPlanned self.old.whole.interactions.state self.old.whole.interactions.ledger outcome.interactions }
-        ensures { (given : Environment) (w : Told) (event : Line) → IsPlaying self.old given w → IsPlan given w event outcome → HasStepped given w event self.new result }
+        requires { IsPlanned self.old.whole.interactions.state self.old.whole.interactions.ledger outcome }
+        ensures { (given : Environment) (w : Told) (event : Line) → IsPlaying self.old given w → IsPlan given w event outcome → StepsTo given w event self.new result }
     {
         let mut outcome = outcome;
-        let sent = replace(&mut outcome.sent, SentList::new(self.alloc));
+        let sent = outcome.take_sent(self.alloc);
         self.whole.apply(outcome);
         sent
     }

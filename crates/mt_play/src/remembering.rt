@@ -1,11 +1,12 @@
 //! A node that plays, and all that was said over its sessions.
 
-ghost use Rattle.std.specs.Prelude.{◌≡◌, ◌↔◌, IfOk, IsTrue, OnErr, filter};
+ghost use Rattle.std.specs.Prelude.{◌≡◌, ◌↔◌, IfNone, IfOk, IfSome, IsTrue, OnErr, filter, is_some};
 ghost use Rattle.mt_model.specs.declared.node.state.NodeSession.{NodeSession as Row};
 ghost use Rattle.mt_model.specs.texts.Contents.{contents_of};
 ghost use Rattle.mt_subs.specs.Leaving.{is_live_as as stands_for};
 ghost use Rattle.mt_machine.specs.Environment.{Environment, given_by};
 ghost use Rattle.mt_runs.specs.Isolation.{own_part};
+ghost use Rattle.mt_runs.specs.Lines.{is_built};
 ghost use Rattle.mt_runs.specs.Whole.{Whole as Told, opened};
 ghost use Rattle.mt_play.specs.Remembers.{IsRemembering, RemembersTo};
 
@@ -49,10 +50,13 @@ impl Remembering {
         &self.playing
     }
 
-    /// Makes of the node what an event of a recording makes of it, and gives what is sent; None exactly where the event is not
-    /// built. Where memory is wanting the node stays as it is, but what is remembered may be of no use any more.
+    /// Makes of the node what an event of a recording makes of it, remembers what is said, and gives what is sent, None exactly
+    /// where the event is not built; then all stays. Where memory is wanting the node stays as it is, but what is remembered may
+    /// be of no use any more.
     pub fn step(&mut self, event: &Event) -> Result<Option<SentList>, AllocError>
-        ensures steps { (given : Environment) (w : Told) → IsRemembering self.old given w → IfOk result (RemembersTo given w event.now self.new) }
+        ensures built { IfOk result (λ sent. is_some sent ≡ is_built event.now) }
+        ensures steps { (given : Environment) (w : Told) → IsRemembering self.old given w → IfOk result (λ sent. IfSome sent (RemembersTo given w event.now self.new)) }
+        ensures unbuilt { IfOk result (λ sent. IfNone sent (self.new ≡ self.old)) }
         ensures stays { OnErr result (self.new.playing ≡ self.old.playing) }
     {
         closed_sessions_are_those_that_end();

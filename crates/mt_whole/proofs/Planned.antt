@@ -24,15 +24,16 @@ use Rattle.mt_ledger.specs.Ledger.{Ledger}
 use Rattle.mt_ledger.specs.Reporting.{Due, due_now, due_report}
 use Rattle.mt_runs.specs.Datagrams.{Answer, all_sent, answer_to, datagram_of, activity_said, heard, if_any, its_answer, resent_talk, sent_over, session_named, talked}
 use Rattle.mt_runs.specs.Lines as lines
-use Rattle.mt_runs.specs.Lines.{activity_again, activity_named, ledger_after, next, resent_named, sent_due, sent_named, sent_to, state_behind, talks_behind, talks_due, talks_told, with_next}
+use Rattle.mt_runs.specs.Lines.{activity_again, activity_named, ledger_after, next, resent_named, sent_asked, sent_due, sent_named, sent_to, state_behind, talks_behind, talks_due, talks_told, with_next}
 use Rattle.mt_runs.specs.Whole.{SessionTalk, Whole, fabric_over, is_live, is_talk_of, talk_of, with_talk, without_ended}
 use Rattle.mt_whole.specs.declared.outcome.WholeOutcome.{WholeOutcome}
 use Rattle.mt_whole.specs.declared.talks.SessionTalk as code
-use Rattle.mt_interactions.specs.Plan.{IsDone, IsLine, IsInteractionPlanned, IsTick, applied_ledger, applied_state}
+use Rattle.mt_interactions.specs.Plan as interactions
+use Rattle.mt_interactions.specs.Plan.{IsDone, IsLine, IsTick, applied_ledger, applied_state}
 use Rattle.mt_interactions.specs.Reporting.{payloads_if_session, reported_over, sent_if_plain, sent_plainly}
 use Rattle.mt_interactions.specs.declared.outcome.InteractionOutcome.{InteractionOutcome}
 use Rattle.mt_whole.specs.declared.datagrams.Answering.{Answering}
-use Rattle.mt_whole.specs.Plan.{IsAgain, IsAnswered, IsHeard, IsNewTalk, IsPlainly, IsQuiet, IsTalkBehind, IsToldOver, IsPlan, answer_as, fresh_by_line, fresh_named, told_fresh}
+use Rattle.mt_whole.specs.Plan.{Brings, IsAgain, IsAnswered, IsHeard, IsNewTalk, IsPlainly, IsPlan, IsPlanned, IsQuiet, IsTalkBehind, IsToldOver, answer_as, fresh_by_line, fresh_named, told_fresh}
 use Rattle.mt_whole.specs.Talks.{AreTalks, IsFoundAs, IsTalkAt, is_code_of, put}
 use Rattle.mt_whole.proofs.Listed.{found_as, put_as, some_is, with_same}
 
@@ -69,11 +70,13 @@ pub unheard : (given : Environment) (w : Whole) (ms : ℕ) (from : Peer) (bytes 
     → IsPlan given w (events.Datagram ms from bytes) outcome
 unheard given w ms from bytes outcome none quiet = record {
   sent = quiet.sent ∙ ap (sent_named given w.state.node w.ledger ms from bytes) (sym none);
-  fresh = ap told_fresh quiet.fresh ∙ ap (fresh_named bytes) (sym none);
-  state = quiet.state ∙ ap (λ (o : Option SessionTalk). behind_action given w.state (action_in (activity_named w.state.node bytes o)) ms) (sym none);
-  ledger = quiet.ledger ∙ ap (λ (o : Option SessionTalk). ledger_behind given w.state.node (activity_named w.state.node bytes o) ms w.ledger) (sym none);
-  talks = λ talks are. subst (λ (o : Option code.SessionTalk). AreTalks (put o talks) (with_next (talked given w.state.node w.ledger ms from bytes) (talk_of (session_named bytes) w.talks) w.talks)) (sym quiet.talk)
-      (subst (λ (o : Option SessionTalk). AreTalks talks (with_next (talked given w.state.node w.ledger ms from bytes) o w.talks)) (sym none) are);
+  brings = record {
+    fresh = ap told_fresh quiet.fresh ∙ ap (fresh_named bytes) (sym none);
+    state = quiet.state ∙ ap (λ (o : Option SessionTalk). behind_action given w.state (action_in (activity_named w.state.node bytes o)) ms) (sym none);
+    ledger = quiet.ledger ∙ ap (λ (o : Option SessionTalk). ledger_behind given w.state.node (activity_named w.state.node bytes o) ms w.ledger) (sym none);
+    talks = λ talks are. subst (λ (o : Option code.SessionTalk). AreTalks (put o talks) (with_next (talked given w.state.node w.ledger ms from bytes) (talk_of (session_named bytes) w.talks) w.talks)) (sym quiet.talk)
+        (subst (λ (o : Option SessionTalk). AreTalks talks (with_next (talked given w.state.node w.ledger ms from bytes) o w.talks)) (sym none) are);
+  };
 }
 
 -- A datagram that names a session, by what that hears.
@@ -83,32 +86,38 @@ heard_as_planned given w ms from bytes id t outcome named is hears =
     let at : talk_of (session_named bytes) w.talks ≡ Some t = ap (λ (n : Option ℕ). talk_of n w.talks) named ∙ is in
     record {
       sent = hears.sent ∙ ap (sent_named given w.state.node w.ledger ms from bytes) (sym at);
-      fresh = hears.fresh ∙ ap (fresh_named bytes) (sym at);
-      state = hears.state ∙ ap (λ (o : Option SessionTalk). behind_action given w.state (action_in (activity_named w.state.node bytes o)) ms) (sym at);
-      ledger = hears.ledger ∙ ap (λ (o : Option SessionTalk). ledger_behind given w.state.node (activity_named w.state.node bytes o) ms w.ledger) (sym at);
-      talks = λ talks are. subst (λ (o : Option SessionTalk). AreTalks (put outcome.talk talks) (with_next (talked given w.state.node w.ledger ms from bytes) o w.talks)) (sym at)
-          (replaced id outcome.talk t (talked given w.state.node w.ledger ms from bytes t) talks w.talks is hears.talk are);
+      brings = record {
+        fresh = hears.fresh ∙ ap (fresh_named bytes) (sym at);
+        state = hears.state ∙ ap (λ (o : Option SessionTalk). behind_action given w.state (action_in (activity_named w.state.node bytes o)) ms) (sym at);
+        ledger = hears.ledger ∙ ap (λ (o : Option SessionTalk). ledger_behind given w.state.node (activity_named w.state.node bytes o) ms w.ledger) (sym at);
+        talks = λ talks are. subst (λ (o : Option SessionTalk). AreTalks (put outcome.talk talks) (with_next (talked given w.state.node w.ledger ms from bytes) o w.talks)) (sym at)
+            (replaced id outcome.talk t (talked given w.state.node w.ledger ms from bytes t) talks w.talks is hears.talk are);
+      };
     }
 
 -- A resend that names no session of the boot.
 pub unsent : (given : Environment) (w : Whole) (ms id : ℕ) (outcome : WholeOutcome) → find (is_talk_of id) w.talks ≡ None → IsQuiet given w.state w.ledger ms outcome → IsPlan given w (events.Resend ms id) outcome
 unsent given w ms id outcome none quiet = record {
   sent = quiet.sent ∙ ap (resent_named w.state.node ms) (sym none);
-  fresh = ap told_fresh quiet.fresh;
-  state = quiet.state;
-  ledger = quiet.ledger ∙ ap (λ (o : Option SessionTalk). ledger_behind given w.state.node (activity_again w.state.node ms o) ms w.ledger) (sym none);
-  talks = λ talks are. subst (λ (o : Option code.SessionTalk). AreTalks (put o talks) (with_next (resent_talk w.state.node ms) (talk_of (Some id) w.talks) w.talks)) (sym quiet.talk)
-      (subst (λ (o : Option SessionTalk). AreTalks talks (with_next (resent_talk w.state.node ms) o w.talks)) (sym none) are);
+  brings = record {
+    fresh = ap told_fresh quiet.fresh;
+    state = quiet.state;
+    ledger = quiet.ledger ∙ ap (λ (o : Option SessionTalk). ledger_behind given w.state.node (activity_again w.state.node ms o) ms w.ledger) (sym none);
+    talks = λ talks are. subst (λ (o : Option code.SessionTalk). AreTalks (put o talks) (with_next (resent_talk w.state.node ms) (talk_of (Some id) w.talks) w.talks)) (sym quiet.talk)
+        (subst (λ (o : Option SessionTalk). AreTalks talks (with_next (resent_talk w.state.node ms) o w.talks)) (sym none) are);
+  };
 }
 
 pub again_as_planned : (given : Environment) (w : Whole) (ms id : ℕ) (t : SessionTalk) (outcome : WholeOutcome) → find (is_talk_of id) w.talks ≡ Some t → IsAgain given w.state w.ledger ms t outcome → IsPlan given w (events.Resend ms id) outcome
 again_as_planned given w ms id t outcome is again = record {
   sent = again.sent ∙ ap (resent_named w.state.node ms) (sym is);
-  fresh = ap told_fresh again.fresh;
-  state = again.state;
-  ledger = again.ledger ∙ ap (λ (o : Option SessionTalk). ledger_behind given w.state.node (activity_again w.state.node ms o) ms w.ledger) (sym is);
-  talks = λ talks are. subst (λ (o : Option SessionTalk). AreTalks (put outcome.talk talks) (with_next (resent_talk w.state.node ms) o w.talks)) (sym is)
-      (replaced_or_same id outcome.talk t (resent_talk w.state.node ms t) talks w.talks is again.talk are);
+  brings = record {
+    fresh = ap told_fresh again.fresh;
+    state = again.state;
+    ledger = again.ledger ∙ ap (λ (o : Option SessionTalk). ledger_behind given w.state.node (activity_again w.state.node ms o) ms w.ledger) (sym is);
+    talks = λ talks are. subst (λ (o : Option SessionTalk). AreTalks (put outcome.talk talks) (with_next (resent_talk w.state.node ms) o w.talks)) (sym is)
+        (replaced_or_same id outcome.talk t (resent_talk w.state.node ms t) talks w.talks is again.talk are);
+  };
 }
 
 -- What is sent again.
@@ -178,38 +187,40 @@ sent_as_heard given s l ms from bytes t id peer datagram its there is =
 abbrev pub answering : Key → Option ℕ → List Payload → Option Answer
 answering key acknowledge payloads = Some (record { key = key; acknowledge = acknowledge; payloads = payloads })
 
-pub answered_with : (given : Environment) (s : State) (l : Ledger) (id ms : ℕ) (said : Said) (key : Key) (acknowledge : Option ℕ) (payloads : List Payload) (made : Answering) (interactions : InteractionOutcome)
-    → made ≡ record { key = key; acknowledge = acknowledge; payloads = payloads } → answering key acknowledge payloads ≡ answer_to given s.node l id ms said → IsDone given s l (activity_said s.node id said) ms interactions
-    → IsAnswered given s l id ms said (Some made, interactions)
-answered_with given s l id ms said key acknowledge payloads made interactions is answer done = record {
+pub answered_with : (given : Environment) (s : State) (l : Ledger) (id ms : ℕ) (said : Said) (key : Key) (acknowledge : Option ℕ) (payloads : List Payload) (made : Answering) (outcome : InteractionOutcome)
+    → made ≡ record { key = key; acknowledge = acknowledge; payloads = payloads } → answering key acknowledge payloads ≡ answer_to given s.node l id ms said → IsDone given s l (activity_said s.node id said) ms outcome
+    → IsAnswered given s l id ms said (Some made, outcome)
+answered_with given s l id ms said key acknowledge payloads made outcome is answer done = record {
   answer = ap (λ (x : Answering). answer_as (Some x)) is ∙ answer;
   state = done.state;
   ledger = done.ledger;
   planned = done.planned;
 }
 
+-- It was planned on the state where that was which it brings.
+pub planned_so : (s : State) (l : Ledger) (made : InteractionOutcome) (outcome : WholeOutcome) → outcome.interactions ≡ made → interactions.IsPlanned s l made → IsPlanned s l outcome
+planned_so s l made outcome same planned = subst (interactions.IsPlanned s l) (sym same) planned
+
 -- What is of no session.
 
--- it was planned on the state
-pub plainly_planned : (s : State) (l : Ledger) (interactions : InteractionOutcome) (outcome : WholeOutcome) → IsPlainly interactions outcome → IsInteractionPlanned s l interactions → IsInteractionPlanned s l outcome.interactions
-plainly_planned s l interactions outcome its planned = subst (IsInteractionPlanned s l) (sym its.interactions) (record { node = planned.node; recordable = planned.recordable })
-
-pub plainly_as_planned : (given : Environment) (w : Whole) (event : Event) (interactions : InteractionOutcome) (outcome : WholeOutcome) → IsPlainly interactions outcome → interactions.sent ≡ lines.sent given w event → fresh_by_line w event ≡ None
-    → applied_state interactions w.state ≡ state_behind given w event → applied_ledger interactions w.state w.ledger ≡ ledger_after given w event → talks_behind given w event ≡ w.talks → IsPlan given w event outcome
-plainly_as_planned given w event interactions outcome its sent_same no_fresh state_same ledger_same talks_same = record {
+pub plainly_as_planned : (given : Environment) (w : Whole) (event : Event) (messages : List Sent) (made : InteractionOutcome) (outcome : WholeOutcome) → IsPlainly messages made outcome → messages ≡ lines.sent given w event → fresh_by_line w event ≡ None
+    → applied_state made w.state ≡ state_behind given w event → applied_ledger made w.state w.ledger ≡ ledger_after given w event → talks_behind given w event ≡ w.talks → IsPlan given w event outcome
+plainly_as_planned given w event messages made outcome its sent_same no_fresh state_same ledger_same talks_same = record {
   sent = its.sent ∙ sent_same;
-  fresh = ap told_fresh its.fresh ∙ sym no_fresh;
-  state = ap (λ (p : InteractionOutcome). applied_state p w.state) its.interactions ∙ state_same;
-  ledger = ap (λ (p : InteractionOutcome). applied_ledger p w.state w.ledger) its.interactions ∙ ledger_same;
-  talks = λ talks are. subst (λ (o : Option code.SessionTalk). AreTalks (put o talks) (talks_behind given w event)) (sym its.talk) (subst (λ (ts : List SessionTalk). AreTalks talks ts) (sym talks_same) are);
+  brings = record {
+    fresh = ap told_fresh its.fresh ∙ sym no_fresh;
+    state = ap (λ (p : InteractionOutcome). applied_state p w.state) its.interactions ∙ state_same;
+    ledger = ap (λ (p : InteractionOutcome). applied_ledger p w.state w.ledger) its.interactions ∙ ledger_same;
+    talks = λ talks are. subst (λ (o : Option code.SessionTalk). AreTalks (put o talks) (talks_behind given w event)) (sym its.talk) (subst (λ (ts : List SessionTalk). AreTalks talks ts) (sym talks_same) are);
+  };
 }
 
-pub asked_as_planned : (given : Environment) (w : Whole) (ms fabric node : ℕ) (cats : List ℕ) (opcode : ℕ) (payload : List ℕ) (interactions : InteractionOutcome) (outcome : WholeOutcome) → IsPlainly interactions outcome
-    → IsLine given w.state w.ledger ms (line_actor fabric node cats) (request_in opcode payload) interactions → IsPlan given w (events.Ask ms fabric node cats opcode payload) outcome
-asked_as_planned given w ms fabric node cats opcode payload interactions outcome its line = plainly_as_planned given w (events.Ask ms fabric node cats opcode payload) interactions outcome its line.sent refl line.state line.ledger refl
+pub asked_as_planned : (given : Environment) (w : Whole) (ms fabric node : ℕ) (cats : List ℕ) (opcode : ℕ) (payload : List ℕ) (messages : List Sent) (made : InteractionOutcome) (outcome : WholeOutcome) → IsPlainly messages made outcome
+    → messages ≡ sent_asked given w.state w.ledger (line_actor fabric node cats) ms (request_in opcode payload) → IsLine given w.state w.ledger ms (line_actor fabric node cats) (request_in opcode payload) made → IsPlan given w (events.Ask ms fabric node cats opcode payload) outcome
+asked_as_planned given w ms fabric node cats opcode payload messages made outcome its sends line = plainly_as_planned given w (events.Ask ms fabric node cats opcode payload) messages made outcome its sends refl line.state line.ledger refl
 
-pub tick_as_planned : (given : Environment) (w : Whole) (ms : ℕ) (interactions : InteractionOutcome) (outcome : WholeOutcome) → IsPlainly interactions outcome → IsTick given w.state w.ledger ms interactions → IsPlan given w (events.Tick ms) outcome
-tick_as_planned given w ms interactions outcome its tick = plainly_as_planned given w (events.Tick ms) interactions outcome its tick.sent refl tick.state tick.ledger refl
+pub tick_as_planned : (given : Environment) (w : Whole) (ms : ℕ) (messages : List Sent) (made : InteractionOutcome) (outcome : WholeOutcome) → IsPlainly messages made outcome → messages ≡ [] → IsTick given w.state w.ledger ms made → IsPlan given w (events.Tick ms) outcome
+tick_as_planned given w ms messages made outcome its none tick = plainly_as_planned given w (events.Tick ms) messages made outcome its none refl tick.state tick.ledger refl
 
 -- A report, which is told to a plain actor, or over the session of the subscriber.
 
@@ -272,57 +283,59 @@ due_to_session s l talks ms fabric id None session payloads is = absurd (cc)
 due_to_session s l talks ms fabric id (Some due) session payloads is = to_session ms fabric id (due_report s l.history fabric id due) talks due.kept.sub.actor.session session payloads is
 
 -- what the interactions make of a report step
-pub record IsReported (given : Environment) (s : State) (l : Ledger) (ms fabric id : ℕ) (over : Option (ℕ × List Payload)) (interactions : InteractionOutcome) : Type 0 where
+pub record IsReported (given : Environment) (s : State) (l : Ledger) (ms fabric id : ℕ) (over : Option (ℕ × List Payload)) (messages : List Sent) (outcome : InteractionOutcome) : Type 0 where
   pub due : over ≡ reported_over s.node l.history fabric id (due_now s.node l ms fabric id)
-  pub sent : interactions.sent ≡ sent_plainly s.node l.history ms fabric id (due_now s.node l ms fabric id)
-  pub done : IsDone given s l (reports fabric id) ms interactions
+  pub sent : messages ≡ sent_plainly s.node l.history ms fabric id (due_now s.node l ms fabric id)
+  pub done : IsDone given s l (reports fabric id) ms outcome
 
 -- nothing is told over a session
-pub reported_at_once : (given : Environment) (w : Whole) (ms fabric id : ℕ) (interactions : InteractionOutcome) (outcome : WholeOutcome) → IsReported given w.state w.ledger ms fabric id None interactions → IsPlainly interactions outcome
+pub reported_at_once : (given : Environment) (w : Whole) (ms fabric id : ℕ) (messages : List Sent) (made : InteractionOutcome) (outcome : WholeOutcome) → IsReported given w.state w.ledger ms fabric id None messages made → IsPlainly messages made outcome
     → IsPlan given w (events.Report ms fabric id) outcome
-reported_at_once given w ms fabric id interactions outcome made its =
-    let told = due_to_plain w.state.node w.ledger w.talks ms fabric id (due_now w.state.node w.ledger ms fabric id) (sym made.due) in
-    plainly_as_planned given w (events.Report ms fabric id) interactions outcome its (made.sent ∙ told.sent) refl made.done.state made.done.ledger told.stay
+reported_at_once given w ms fabric id messages made outcome reported its =
+    let told = due_to_plain w.state.node w.ledger w.talks ms fabric id (due_now w.state.node w.ledger ms fabric id) (sym reported.due) in
+    plainly_as_planned given w (events.Report ms fabric id) messages made outcome its (reported.sent ∙ told.sent) refl reported.done.state reported.done.ledger told.stay
 
 -- it is told over a session that is none of the boot: nothing is sent
-pub reported_to_nobody : (given : Environment) (w : Whole) (ms fabric id session : ℕ) (payloads : List Payload) (interactions : InteractionOutcome) (outcome : WholeOutcome) → IsReported given w.state w.ledger ms fabric id (Some (session, payloads)) interactions → IsPlainly interactions outcome
+pub reported_to_nobody : (given : Environment) (w : Whole) (ms fabric id session : ℕ) (payloads : List Payload) (messages : List Sent) (made : InteractionOutcome) (outcome : WholeOutcome) → IsReported given w.state w.ledger ms fabric id (Some (session, payloads)) messages made → IsPlainly messages made outcome
     → find (is_talk_of session) w.talks ≡ None → IsPlan given w (events.Report ms fabric id) outcome
-reported_to_nobody given w ms fabric id session payloads interactions outcome made its none =
-    let told = due_to_session w.state.node w.ledger w.talks ms fabric id (due_now w.state.node w.ledger ms fabric id) session payloads (sym made.due) in
-    plainly_as_planned given w (events.Report ms fabric id) interactions outcome its (made.sent ∙ told.none ∙ ap (told_to ms payloads) (sym none) ∙ sym told.sent) refl made.done.state made.done.ledger
+reported_to_nobody given w ms fabric id session payloads messages made outcome reported its none =
+    let told = due_to_session w.state.node w.ledger w.talks ms fabric id (due_now w.state.node w.ledger ms fabric id) session payloads (sym reported.due) in
+    plainly_as_planned given w (events.Report ms fabric id) messages made outcome its (reported.sent ∙ told.none ∙ ap (told_to ms payloads) (sym none) ∙ sym told.sent) refl reported.done.state reported.done.ledger
     (told.next ∙ ap (λ (o : Option SessionTalk). with_next (talk_told ms id payloads) o w.talks) none)
 
 -- it is told over this session
-pub reported_as_planned : (given : Environment) (w : Whole) (ms fabric id session : ℕ) (payloads : List Payload) (interactions : InteractionOutcome) (t : SessionTalk) (outcome : WholeOutcome)
-    → IsReported given w.state w.ledger ms fabric id (Some (session, payloads)) interactions → find (is_talk_of session) w.talks ≡ Some t → outcome.interactions ≡ interactions → IsToldOver ms id payloads t outcome → IsPlan given w (events.Report ms fabric id) outcome
-reported_as_planned given w ms fabric id session payloads interactions t outcome made is same its =
-    let told = due_to_session w.state.node w.ledger w.talks ms fabric id (due_now w.state.node w.ledger ms fabric id) session payloads (sym made.due) in
+pub reported_as_planned : (given : Environment) (w : Whole) (ms fabric id session : ℕ) (payloads : List Payload) (messages : List Sent) (made : InteractionOutcome) (t : SessionTalk) (outcome : WholeOutcome)
+    → IsReported given w.state w.ledger ms fabric id (Some (session, payloads)) messages made → find (is_talk_of session) w.talks ≡ Some t → outcome.interactions ≡ made → IsToldOver ms id payloads t outcome → IsPlan given w (events.Report ms fabric id) outcome
+reported_as_planned given w ms fabric id session payloads messages made t outcome reported is same its =
+    let told = due_to_session w.state.node w.ledger w.talks ms fabric id (due_now w.state.node w.ledger ms fabric id) session payloads (sym reported.due) in
     record {
       sent = its.sent ∙ ap (told_to ms payloads) (sym is) ∙ sym told.sent;
-      fresh = ap told_fresh its.fresh;
-      state = ap (λ (p : InteractionOutcome). applied_state p w.state) same ∙ made.done.state;
-      ledger = ap (λ (p : InteractionOutcome). applied_ledger p w.state w.ledger) same ∙ made.done.ledger;
-      talks = λ talks are. subst (λ (ts : List SessionTalk). AreTalks (put outcome.talk talks) ts) (sym (told.next ∙ ap (λ (o : Option SessionTalk). with_next (talk_told ms id payloads) o w.talks) is))
-          (replaced session outcome.talk t (talk_told ms id payloads t) talks w.talks is its.talk are);
+      brings = record {
+        fresh = ap told_fresh its.fresh;
+        state = ap (λ (p : InteractionOutcome). applied_state p w.state) same ∙ reported.done.state;
+        ledger = ap (λ (p : InteractionOutcome). applied_ledger p w.state w.ledger) same ∙ reported.done.ledger;
+        talks = λ talks are. subst (λ (ts : List SessionTalk). AreTalks (put outcome.talk talks) ts) (sym (told.next ∙ ap (λ (o : Option SessionTalk). with_next (talk_told ms id payloads) o w.talks) is))
+            (replaced session outcome.talk t (talk_told ms id payloads t) talks w.talks is its.talk are);
+      };
     }
 
 -- The sessions that end with an outcome.
 
-closed_is : (s : State) (l : Ledger) (outcome : InteractionOutcome) → IsInteractionPlanned s l outcome → outcome.node.closed ≡ closed_between s.node.sessions (applied_state outcome s).node.sessions
+closed_is : (s : State) (l : Ledger) (outcome : InteractionOutcome) → interactions.IsPlanned s l outcome → outcome.node.closed ≡ closed_between s.node.sessions (applied_state outcome s).node.sessions
 closed_is s l outcome planned = ap (λ (a : Aside). a.closed) planned.node.1.1.1.aside ∙ ap (λ (n : NodeState). closed_between s.node.sessions n.sessions) (sym planned.node.1.1.1.state)
 
-pub closed_behind : (given : Environment) (w : Whole) (event : Event) (outcome : WholeOutcome) → IsInteractionPlanned w.state w.ledger outcome.interactions → IsPlan given w event outcome
+pub closed_behind : (given : Environment) (w : Whole) (event : Event) (outcome : WholeOutcome) → IsPlanned w.state w.ledger outcome → Brings given w event outcome
     → outcome.interactions.node.closed ≡ closed_between w.state.node.sessions (state_behind given w event).node.sessions
-closed_behind given w event outcome planned plan =
-    closed_is w.state w.ledger outcome.interactions planned ∙ ap (λ (x : State). closed_between w.state.node.sessions x.node.sessions) plan.state
+closed_behind given w event outcome planned brings =
+    closed_is w.state w.ledger outcome.interactions planned ∙ ap (λ (x : State). closed_between w.state.node.sessions x.node.sessions) brings.state
 
 -- The talks behind an event, of which those that end have let go.
-pub talks_applied : (given : Environment) (w : Whole) (event : Event) (s : State) (l : Ledger) (outcome : WholeOutcome) (talks behind : List code.SessionTalk) (closed : List ℕ) → s ≡ w.state → IsInteractionPlanned s l outcome.interactions → IsPlan given w event outcome
+pub talks_applied : (given : Environment) (w : Whole) (event : Event) (s : State) (l : Ledger) (outcome : WholeOutcome) (talks behind : List code.SessionTalk) (closed : List ℕ) → s ≡ w.state → IsPlanned s l outcome → Brings given w event outcome
     → AreTalks talks w.talks → closed ≡ outcome.interactions.node.closed → ((ts : List SessionTalk) → AreTalks (put outcome.talk talks) ts → AreTalks behind (map (without_ended closed) ts)) → AreTalks behind (next given w event).talks
-talks_applied given w event s l outcome talks behind closed same planned plan are ended lets_go =
+talks_applied given w event s l outcome talks behind closed same planned brings are ended lets_go =
     let ended_is : closed ≡ closed_between w.state.node.sessions (state_behind given w event).node.sessions =
     ended
     ∙ closed_is s l outcome.interactions planned
     ∙ ap (λ (x : State). closed_between x.node.sessions (applied_state outcome.interactions x).node.sessions) same
-    ∙ ap (λ (x : State). closed_between w.state.node.sessions x.node.sessions) plan.state in
-    subst (λ (gone : List ℕ). AreTalks behind (map (without_ended gone) (talks_behind given w event))) ended_is (lets_go (talks_behind given w event) (plan.talks talks are))
+    ∙ ap (λ (x : State). closed_between w.state.node.sessions x.node.sessions) brings.state in
+    subst (λ (gone : List ℕ). AreTalks behind (map (without_ended gone) (talks_behind given w event))) ended_is (lets_go (talks_behind given w event) (brings.talks talks are))

@@ -6,19 +6,18 @@ use Rattle.mt_machine.specs.Step.{closed_between}
 use Rattle.mt_runs.specs.Isolation.{own_part}
 use Rattle.mt_runs.specs.Lines.{next, talks_behind}
 use Rattle.mt_runs.specs.Whole.{Whole, without_ended}
-use Rattle.mt_interactions.specs.Plan.{IsInteractionPlanned}
-use Rattle.mt_whole.specs.Plan.{IsPlan}
+use Rattle.mt_whole.specs.Plan.{Brings, IsPlanned}
 use Rattle.mt_whole.specs.Seeing.{own_standing}
 use Rattle.mt_whole.specs.declared.outcome.WholeOutcome.{WholeOutcome}
 
 -- The sessions that end with an outcome are those that end behind the event.
 abbrev pub ClosedAreThoseThatEnd : Type 0
-ClosedAreThoseThatEnd = (given : Environment) (w : Whole) (event : Event) (outcome : WholeOutcome) → IsInteractionPlanned w.state w.ledger outcome.interactions → IsPlan given w event outcome
+ClosedAreThoseThatEnd = (given : Environment) (w : Whole) (event : Event) (outcome : WholeOutcome) → IsPlanned w.state w.ledger outcome → Brings given w event outcome
     → outcome.interactions.node.closed ≡ closed_between w.state.node.sessions (next given w event).state.node.sessions
 
 -- What is said behind the event is what the line adds, of which those that end have let go.
 abbrev pub TalksLetGoWhatCloses : Type 0
-TalksLetGoWhatCloses = (given : Environment) (w : Whole) (event : Event) (outcome : WholeOutcome) → IsInteractionPlanned w.state w.ledger outcome.interactions → IsPlan given w event outcome
+TalksLetGoWhatCloses = (given : Environment) (w : Whole) (event : Event) (outcome : WholeOutcome) → IsPlanned w.state w.ledger outcome → Brings given w event outcome
     → (next given w event).talks ≡ map (without_ended outcome.interactions.node.closed) (talks_behind given w event)
 
 -- Own parts are the same exactly where what stands is, and all that was said over the live sessions.

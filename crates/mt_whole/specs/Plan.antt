@@ -1,10 +1,11 @@
 -- What an outcome stands for.
-use Rattle.std.specs.Prelude.{◌≡◌, ℕ, true, false, List, [], Option, Some, None, ⊤}
+use Rattle.std.specs.Prelude.{◌≡◌, ℕ, List, [], Option, Some, None}
 use Rattle.mt_model.specs.declared.texts.config.RootRow.{RootRow}
 use Rattle.mt_model.specs.declared.texts.config.CsrRow.{CsrRow}
 use Rattle.mt_model.specs.declared.texts.config.JoinRow.{JoinRow}
 use Rattle.mt_model.specs.declared.texts.recording.Event.{Event}
 use Rattle.mt_model.specs.declared.texts.recording.Event.TheVariants as events
+use Rattle.mt_model.specs.declared.texts.recording.Sent.{Sent}
 use Rattle.mt_model.specs.declared.texts.config.Config.{Config}
 use Rattle.mt_model.specs.declared.node.action.Action.TheVariants as actions
 use Rattle.mt_outside.specs.declared.network.Peer.{Peer}
@@ -19,10 +20,11 @@ use Rattle.mt_machine.specs.State.{State}
 use Rattle.mt_runs.specs.Datagrams.{Answer, all_sent, answer_to, activity_resent, activity_said, if_any, resent_over, resent_talk, said_to, sent_over, session_named, talked}
 use Rattle.mt_ledger.specs.Behind.{acts, action_in, ledger_behind}
 use Rattle.mt_ledger.specs.Ledger.{Ledger}
-use Rattle.mt_runs.specs.Lines.{is_built, ledger_after, sent, state_behind, talks_behind}
+use Rattle.mt_runs.specs.Lines.{ledger_after, sent, state_behind, talks_behind}
 use Rattle.mt_runs.specs.Whole.{SessionTalk, Whole, opened, talk_of}
-use Rattle.mt_interactions.specs.Configured as interactions
-use Rattle.mt_interactions.specs.Plan.{IsInteractionPlanned, applied_ledger, applied_state}
+use Rattle.mt_interactions.specs.Configured as configured
+use Rattle.mt_interactions.specs.Plan as interactions
+use Rattle.mt_interactions.specs.Plan.{applied_ledger, applied_state}
 use Rattle.mt_interactions.specs.declared.outcome.InteractionOutcome.{InteractionOutcome}
 use Rattle.mt_whole.specs.declared.datagrams.Answering.{Answering}
 use Rattle.mt_whole.specs.declared.outcome.WholeOutcome.{WholeOutcome}
@@ -32,11 +34,11 @@ use Rattle.mt_whole.specs.Talks.{AreTalks, IsWholeOf, put}
 
 -- what is given to a whole, where these are the rows of the verdicts
 abbrev pub given_to : whole.Whole → List RootRow → List CsrRow → List JoinRow → Environment
-given_to one roots csrs joins = interactions.given_to one.interactions roots csrs joins
+given_to one roots csrs joins = configured.given_to one.interactions roots csrs joins
 
 -- a whole that was started with this configuration
 pub record IsStarted (config : Config) (one : whole.Whole) : Type 0 where
-  pub begun : one.interactions ≡ interactions.started config
+  pub begun : one.interactions ≡ configured.started config
   pub stands : IsWholeOf one (opened config)
 
 -- a message that was let in, as the code tells it
@@ -56,23 +58,21 @@ abbrev pub fresh_by_line : Whole → Event → Option Arrival
 fresh_by_line w (events.Datagram ms from bytes) = fresh_named bytes (talk_of (session_named bytes) w.talks)
 fresh_by_line w event = None
 
--- The outcome is that of this event: what is sent, what it brings, the node and the deadlines, what is said.
-pub record IsPlan (given : Environment) (w : Whole) (event : Event) (outcome : WholeOutcome) : Type 0 where
-  pub sent : outcome.sent ≡ sent given w event
+-- The outcome brings what this event does, but for what is sent: the message to its session, the node and the deadlines, what is said.
+pub record Brings (given : Environment) (w : Whole) (event : Event) (outcome : WholeOutcome) : Type 0 where
   pub fresh : told_fresh outcome.fresh ≡ fresh_by_line w event
   pub state : applied_state outcome.interactions w.state ≡ state_behind given w event
   pub ledger : applied_ledger outcome.interactions w.state w.ledger ≡ ledger_after given w event
   pub talks : (talks : List code.SessionTalk) → AreTalks talks w.talks → AreTalks (put outcome.talk talks) (talks_behind given w event)
 
--- there is an outcome exactly where the event is built
-abbrev pub IsPlanIf : Environment → Whole → Event → Option WholeOutcome → Type 0
-IsPlanIf given w event None = is_built event ≡ false
-IsPlanIf given w event (Some outcome) = (is_built event ≡ true) × IsPlan given w event outcome
+-- The outcome is that of this event: what is sent, and what it brings.
+pub record IsPlan (given : Environment) (w : Whole) (event : Event) (outcome : WholeOutcome) : Type 0 where
+  pub sent : outcome.sent ≡ sent given w event
+  pub brings : Brings given w event outcome
 
--- an outcome was made on this state
-abbrev pub IsPlannedIf : State → Ledger → Option WholeOutcome → Type 0
-IsPlannedIf s l None = ⊤
-IsPlannedIf s l (Some outcome) = IsInteractionPlanned s l outcome.interactions
+-- The outcome was made on this state, where this was the ledger.
+abbrev pub IsPlanned : State → Ledger → WholeOutcome → Type 0
+IsPlanned s l outcome = interactions.IsPlanned s l outcome.interactions
 
 -- What comes over one session.
 
@@ -98,15 +98,15 @@ pub record IsAnswered (given : Environment) (s : State) (l : Ledger) (id ms : �
   pub answer : answer_as both.0 ≡ answer_to given s.node l id ms said
   pub state : applied_state both.1 s ≡ behind_action given s (action_in (activity_said s.node id said)) ms
   pub ledger : applied_ledger both.1 s l ≡ ledger_behind given s.node (activity_said s.node id said) ms l
-  pub planned : IsInteractionPlanned s l both.1
+  pub planned : interactions.IsPlanned s l both.1
 
 -- What is of no session, what passes, and what is sent again.
 
--- what is sent is what the interactions send, and nothing is said
-pub record IsPlainly (made : InteractionOutcome) (outcome : WholeOutcome) : Type 0 where
-  pub sent : outcome.sent ≡ made.sent
+-- these messages are sent, and nothing is said
+pub record IsPlainly (messages : List Sent) (made : InteractionOutcome) (outcome : WholeOutcome) : Type 0 where
+  pub sent : outcome.sent ≡ messages
   pub fresh : outcome.fresh ≡ None
-  pub interactions : outcome.interactions ≡ record made { sent = [] }
+  pub interactions : outcome.interactions ≡ made
   pub talk : outcome.talk ≡ None
 
 -- nothing is sent or said, and time passes
@@ -116,7 +116,7 @@ pub record IsQuiet (given : Environment) (s : State) (l : Ledger) (ms : ℕ) (ou
   pub state : applied_state outcome.interactions s ≡ behind_action given s actions.Nothing ms
   pub ledger : applied_ledger outcome.interactions s l ≡ ledger_behind given s.node (acts actions.Nothing) ms l
   pub talk : outcome.talk ≡ None
-  pub planned : IsInteractionPlanned s l outcome.interactions
+  pub planned : IsPlanned s l outcome
 
 -- the talk that an outcome brings, if any, stands for this; where it brings none it stays
 abbrev pub IsTalkBehind : Option code.SessionTalk → SessionTalk → Talk → Type 0

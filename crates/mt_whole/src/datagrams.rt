@@ -5,10 +5,10 @@ ghost use Rattle.mt_model.specs.declared.texts.recording.Event.TheVariants.{Data
 ghost use Rattle.mt_model.specs.declared.texts.config.SessionRow.{SessionRow};
 ghost use Rattle.mt_runs.specs.Datagrams.{behind_answer, datagram_of, ending, session_named};
 ghost use Rattle.mt_runs.specs.Whole.{SessionTalk as ToldTalk, Whole as Told, fabric_over};
-ghost use Rattle.mt_interactions.specs.Plan.{IsDone, IsInteractionPlanned};
+ghost use Rattle.mt_interactions.specs.Plan.{IsDone};
 ghost use Rattle.mt_talk.specs.Hearing.{fresh_as, said_by};
 ghost use Rattle.mt_talk.specs.Talks.{IsTalkOf, Talk as Written};
-ghost use Rattle.mt_whole.specs.Plan.{IsAnswered, IsHeard, IsPlan, answer_as, given_to, told_fresh};
+ghost use Rattle.mt_whole.specs.Plan.{IsAnswered, IsHeard, IsPlan, IsPlanned, answer_as, given_to, told_fresh};
 ghost use Rattle.mt_whole.specs.Talks.{IsTalkAt, IsWholeOf};
 
 use crate::outcome::WholeOutcome;
@@ -41,7 +41,7 @@ pub(crate) fn planned_datagram<V: Verdicts>(
     bytes: &Bytes,
     verdicts: &V,
 ) -> Result<WholeOutcome, AllocError>
-    ensures planned { IfOk result (λ outcome. IsInteractionPlanned whole.now.interactions.state whole.now.interactions.ledger outcome.interactions) }
+    ensures planned { IfOk result (IsPlanned whole.now.interactions.state whole.now.interactions.ledger) }
     ensures plan { let given = given_to whole.now (V.roots verdicts.now) (V.csrs verdicts.now) (V.joins verdicts.now) in
         (w : Told) → IsWholeOf whole.now w → IfOk result (IsPlan given w (Datagram ms from bytes.now)) }
 {
@@ -78,7 +78,7 @@ fn planned_heard<V: Verdicts>(
     verdicts: &V,
 ) -> Result<WholeOutcome, AllocError>
     requires { length bytes.now < 2 ^ 16 }
-    ensures planned { IfOk result (λ outcome. IsInteractionPlanned whole.now.interactions.state whole.now.interactions.ledger outcome.interactions) }
+    ensures planned { IfOk result (IsPlanned whole.now.interactions.state whole.now.interactions.ledger) }
     ensures heard { let given = given_to whole.now (V.roots verdicts.now) (V.csrs verdicts.now) (V.joins verdicts.now) in
         (t : ToldTalk) → IsTalkAt talk.now t → IfOk result (IsHeard given whole.now.interactions.state whole.now.interactions.ledger ms from bytes.now t) }
 {

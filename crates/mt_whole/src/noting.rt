@@ -141,7 +141,7 @@ fn noted_report<V: Verdicts>(
     ensures { let given = given_to whole.now (V.roots verdicts.now) (V.csrs verdicts.now) (V.joins verdicts.now) in
         (w : Told) → IsWholeOf whole.now w → IfOk result (λ note. noted_if note w.talks ≡ talks_behind given w (Report ms fabric subscription)) }
 {
-    let (over, _) = whole
+    let (over, _, _) = whole
         .interactions
         .plan_report(fabric, subscription, ms, verdicts)?;
     let Some((session, payloads)) = over else {

@@ -3,14 +3,13 @@
 ghost use Rattle.std.specs.Prelude.{◌≡◌, IfOk};
 ghost use Rattle.mt_model.specs.declared.texts.recording.Event.TheVariants.{Report};
 ghost use Rattle.mt_runs.specs.Whole.{SessionTalk as ToldTalk, Whole as Told};
-ghost use Rattle.mt_interactions.specs.Plan.{IsInteractionPlanned};
-ghost use Rattle.mt_whole.specs.Plan.{IsToldOver, IsPlan, given_to};
+ghost use Rattle.mt_whole.specs.Plan.{IsPlan, IsPlanned, IsToldOver, given_to};
 ghost use Rattle.mt_whole.specs.Talks.{IsTalkAt, IsWholeOf};
 
 use crate::outcome::WholeOutcome;
 use crate::sending::one_sent;
 use crate::talks::{SessionTalk, talk_of};
-use crate::whole::Whole;
+use crate::whole::{Whole, plainly};
 use mt_interactions::InteractionOutcome;
 use mt_model::{ExactCopy, Payloads, Verdicts};
 use std::alloc::AllocError;
@@ -24,19 +23,19 @@ pub(crate) fn planned_report<V: Verdicts>(
     subscription: u32,
     verdicts: &V,
 ) -> Result<WholeOutcome, AllocError>
-    ensures planned { IfOk result (λ outcome. IsInteractionPlanned whole.now.interactions.state whole.now.interactions.ledger outcome.interactions) }
+    ensures planned { IfOk result (IsPlanned whole.now.interactions.state whole.now.interactions.ledger) }
     ensures plan { let given = given_to whole.now (V.roots verdicts.now) (V.csrs verdicts.now) (V.joins verdicts.now) in
         (w : Told) → IsWholeOf whole.now w → IfOk result (IsPlan given w (Report ms fabric subscription)) }
 {
-    let (over, interactions) = whole
+    let (over, sent, interactions) = whole
         .interactions
         .plan_report(fabric, subscription, ms, verdicts)?;
     let Some((session, payloads)) = over else {
-        return Ok(whole.plainly(interactions));
+        return Ok(plainly(sent, interactions));
     };
     match talk_of(&whole.talks, session) {
         Some(talk) => told_over(whole, ms, subscription, talk, payloads, interactions),
-        None => Ok(whole.plainly(interactions)),
+        None => Ok(plainly(sent, interactions)),
     }
 }
 

@@ -3,8 +3,7 @@
 ghost use Rattle.std.specs.Prelude.{IfOk};
 ghost use Rattle.mt_model.specs.declared.texts.recording.Event.TheVariants.{Resend};
 ghost use Rattle.mt_runs.specs.Whole.{SessionTalk as ToldTalk, Whole as Told};
-ghost use Rattle.mt_interactions.specs.Plan.{IsInteractionPlanned};
-ghost use Rattle.mt_whole.specs.Plan.{IsAgain, IsQuiet, IsPlan, given_to};
+ghost use Rattle.mt_whole.specs.Plan.{IsAgain, IsPlan, IsPlanned, IsQuiet, given_to};
 ghost use Rattle.mt_whole.specs.Talks.{IsTalkAt, IsWholeOf};
 
 use crate::outcome::WholeOutcome;
@@ -21,7 +20,7 @@ pub(crate) fn planned_resend<V: Verdicts>(
     session: u16,
     verdicts: &V,
 ) -> Result<WholeOutcome, AllocError>
-    ensures planned { IfOk result (λ outcome. IsInteractionPlanned whole.now.interactions.state whole.now.interactions.ledger outcome.interactions) }
+    ensures planned { IfOk result (IsPlanned whole.now.interactions.state whole.now.interactions.ledger) }
     ensures plan { let given = given_to whole.now (V.roots verdicts.now) (V.csrs verdicts.now) (V.joins verdicts.now) in
         (w : Told) → IsWholeOf whole.now w → IfOk result (IsPlan given w (Resend ms session)) }
 {
@@ -55,7 +54,7 @@ fn planned_again<V: Verdicts>(
     talk: &SessionTalk,
     verdicts: &V,
 ) -> Result<WholeOutcome, AllocError>
-    ensures planned { IfOk result (λ outcome. IsInteractionPlanned whole.now.interactions.state whole.now.interactions.ledger outcome.interactions) }
+    ensures planned { IfOk result (IsPlanned whole.now.interactions.state whole.now.interactions.ledger) }
     ensures again { let given = given_to whole.now (V.roots verdicts.now) (V.csrs verdicts.now) (V.joins verdicts.now) in
         (t : ToldTalk) → IsTalkAt talk.now t → IfOk result (IsAgain given whole.now.interactions.state whole.now.interactions.ledger ms t) }
 {

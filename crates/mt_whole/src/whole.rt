@@ -1,12 +1,11 @@
 //! The whole.
 
-ghost use Rattle.std.specs.Prelude.{◌≡◌, IfOk, option_copied};
+ghost use Rattle.std.specs.Prelude.{◌≡◌, IfOk, IfSome, is_some, option_copied};
 ghost use Rattle.mt_machine.specs.Environment.{Environment};
 ghost use Rattle.mt_model.specs.declared.texts.recording.Event.{Event as Line};
-ghost use Rattle.mt_interactions.specs.Plan.{IsInteractionPlanned};
-ghost use Rattle.mt_runs.specs.Lines.{next};
+ghost use Rattle.mt_runs.specs.Lines.{is_built, next};
 ghost use Rattle.mt_runs.specs.Whole.{Whole as Told, fabric_live};
-ghost use Rattle.mt_whole.specs.Plan.{IsPlainly, IsPlanIf, IsPlannedIf, IsStarted, IsPlan, given_to};
+ghost use Rattle.mt_whole.specs.Plan.{Brings, IsPlainly, IsPlan, IsPlanned, IsStarted, given_to};
 ghost use Rattle.mt_whole.specs.Talks.{IsWholeOf};
 
 use crate::datagrams::planned_datagram;
@@ -17,7 +16,6 @@ use crate::talks::{SessionTalk, begun, let_go, put_if_any};
 use mt_interactions::{InteractionOutcome, Interactions};
 use mt_model::{Armed, Config, Event, SentList, Verdicts};
 use std::alloc::{AllocError, Global};
-use std::mem::replace;
 
 /// The node, the deadlines of plain actors, its events and subscriptions, and what is said over each session. Contracts
 /// speak of all that was said, which nothing stores: a whole stands for lists of it.
@@ -57,9 +55,10 @@ impl Whole {
         event: &Event,
         verdicts: &V,
     ) -> Result<Option<WholeOutcome>, AllocError>
-        ensures planned { IfOk result (IsPlannedIf self.now.interactions.state self.now.interactions.ledger) }
+        ensures built { IfOk result (λ outcome. is_some outcome ≡ is_built event.now) }
+        ensures planned { IfOk result (λ outcome. IfSome outcome (IsPlanned self.now.interactions.state self.now.interactions.ledger)) }
         ensures plan { let given = given_to self.now (V.roots verdicts.now) (V.csrs verdicts.now) (V.joins verdicts.now) in
-            (w : Told) → IsWholeOf self.now w → IfOk result (IsPlanIf given w event.now) }
+            (w : Told) → IsWholeOf self.now w → IfOk result (λ outcome. IfSome outcome (IsPlan given w event.now)) }
     {
         match event {
             Event::Ask {
@@ -70,17 +69,18 @@ impl Whole {
                 opcode,
                 payload,
             } => {
-                let interactions = self
+                let (sent, interactions) = self
                     .interactions
                     .plan_line(*ms, *fabric, *node, *cats, *opcode, payload, verdicts)?;
-                Ok(Some(self.plainly(interactions)))
+                Ok(Some(plainly(sent, interactions)))
             },
             Event::Datagram { ms, peer, bytes } => Ok(Some(planned_datagram(
                 self, *ms, *peer, bytes, verdicts,
             )?)),
             Event::Tick { ms } => {
                 let interactions = self.interactions.plan_tick(*ms, verdicts)?;
-                Ok(Some(self.plainly(interactions)))
+                let none = SentList::new(self.alloc);
+                Ok(Some(plainly(none, interactions)))
             },
             Event::Report {
                 ms,
@@ -91,19 +91,6 @@ impl Whole {
                 self, *ms, *session, verdicts,
             )?)),
             Event::Stop { .. } => Ok(None),
-        }
-    }
-
-    // The outcome of what is of no session.
-    pub(crate) fn plainly(&self, interactions: InteractionOutcome) -> WholeOutcome
-        ensures { IsPlainly interactions result }
-    {
-        let mut interactions = interactions;
-        WholeOutcome {
-            sent: replace(&mut interactions.sent, SentList::new(self.alloc)),
-            fresh: None,
-            interactions,
-            talk: None,
         }
     }
 
@@ -125,9 +112,9 @@ impl Whole {
     /// Makes of the whole what a planned event makes of it. Sessions that end let go of their exchanges. It takes no
     /// memory, and cannot fail.
     pub fn apply(&mut self, outcome: WholeOutcome)
-        requires { IsInteractionPlanned self.old.interactions.state self.old.interactions.ledger outcome.interactions }
+        requires { IsPlanned self.old.interactions.state self.old.interactions.ledger outcome }
         ensures config { self.new.interactions.config ≡ self.old.interactions.config }
-        ensures stands { (given : Environment) (w : Told) (event : Line) → IsWholeOf self.old w → IsPlan given w event outcome → IsWholeOf self.new (next given w event) }
+        ensures stands { (given : Environment) (w : Told) (event : Line) → IsWholeOf self.old w → Brings given w event outcome → IsWholeOf self.new (next given w event) }
     {
         let WholeOutcome {
             sent: _,
@@ -138,5 +125,17 @@ impl Whole {
         put_if_any(&mut self.talks, talk);
         let_go(&mut self.talks, interactions.closed());
         self.interactions.apply(interactions);
+    }
+}
+
+/// The outcome of what is of no session: these messages are sent.
+pub(crate) fn plainly(sent: SentList, interactions: InteractionOutcome) -> WholeOutcome
+    ensures { IsPlainly sent interactions result }
+{
+    WholeOutcome {
+        sent,
+        fresh: None,
+        interactions,
+        talk: None,
     }
 }

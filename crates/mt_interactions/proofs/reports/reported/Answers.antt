@@ -19,7 +19,7 @@ returns-in-Some-clause-outcome g c =
     let made = reports_due kept.state.node kept.ledger c.args.ms c.args.fabric c.args.id due change c.in_ok-report.event c.is_none.result c.requires
     (ap (λ (s : NodeState). s.changed) c.state.ensures ∙ ap (λ (k : ConfiguredInteractions). k.state.node.changed) c.interactions.view_is)
     c.in_ok-report.ensures.last (none_is c.is_none.result due.kept.sub.actor.session c.is_none.ensures) in
-    passing_does given kept.state kept.ledger c.new-none.result c.args.ms (Told c.args.fabric c.args.id change c.in_ok-report.event c.is_none.result) (reports c.args.fabric c.args.id) c.in_ok-outcome-in-Some.outcome refl made c.in_ok-outcome-in-Some.ensures
+    passing_does given kept.state kept.ledger c.args.ms (Told c.args.fabric c.args.id change c.in_ok-report.event c.is_none.result) (reports c.args.fabric c.args.id) c.in_ok-outcome-in-Some.outcome refl made c.in_ok-outcome-in-Some.ensures
 
 pub returns-clause-outcome : goal.returns-clause-outcome
 returns-clause-outcome g c =
@@ -31,4 +31,4 @@ returns-clause-outcome g c =
     let made = reports_due kept.state.node kept.ledger c.args.ms c.args.fabric c.args.id due change c.in_ok-report.event c.is_none.result c.requires
     (ap (λ (s : NodeState). s.changed) c.state.ensures ∙ ap (λ (k : ConfiguredInteractions). k.state.node.changed) c.interactions.view_is)
     c.in_ok-report.ensures.last (none_is c.is_none.result due.kept.sub.actor.session c.is_none.ensures) in
-    passing_does given kept.state kept.ledger c.in_ok-sent-in-None.sent c.args.ms (Told c.args.fabric c.args.id change c.in_ok-report.event c.is_none.result) (reports c.args.fabric c.args.id) c.in_ok-passing-in-None.field-0 refl made c.in_ok-passing-in-None.ensures
+    passing_does given kept.state kept.ledger c.args.ms (Told c.args.fabric c.args.id change c.in_ok-report.event c.is_none.result) (reports c.args.fabric c.args.id) c.in_ok-outcome-in-None.outcome refl made c.in_ok-outcome-in-None.ensures

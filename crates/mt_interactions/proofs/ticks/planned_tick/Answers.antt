@@ -22,11 +22,11 @@ returns g c =
     let ds : c.as_slice.result.now ≡ kept.state.deadlines = c.as_slice.ensures ∙ ap (λ (k : ConfiguredInteractions). k.state.deadlines) c.interactions.view_is in
     let given = given_to kept roots csrs rows in
     let ms = c.args.ms in
-    let made : InteractionOutcome = record { sent = c.new.result; ms = ms; node = node; deadlines = c.in_ok-deadlines.deadlines; subs = Same } in
+    let made : InteractionOutcome = record { ms = ms; node = node; deadlines = c.in_ok-deadlines.deadlines; subs = Same } in
     if_both c.outcome.result (λ o. o ≡ made) (λ o. may_record node.told kept.ledger.history ≡ true) (IsTick given kept.state kept.ledger ms)
     (λ o is may. subst (λ (x : InteractionOutcome). IsTick given kept.state kept.ledger ms x) (sym is)
     (tick_of c.ticks_let_the_failsafe_expire.ensures.gone given kept.state kept.ledger ms made
-    (subst (λ (k : ConfiguredInteractions). IsValid k.state.node) c.interactions.view_is c.state_is_valid.ensures) c.new.ensures refl may refl
+    (subst (λ (k : ConfiguredInteractions). IsValid k.state.node) c.interactions.view_is c.state_is_valid.ensures) refl may refl
     (subst (λ (k : ConfiguredInteractions). IsPlan (given_to k roots csrs rows) k.state.node Expire c.args.ms node) c.interactions.view_is c.in_ok-node.ensures)
     (subst (λ (l : List PlainDeadline). unwrap_or c.in_ok-deadlines.deadlines l ≡ left_without node.gone (unwrap_or None l)) ds c.in_ok-deadlines.ensures)))
     c.outcome.ensures.made c.outcome.ensures.recordable

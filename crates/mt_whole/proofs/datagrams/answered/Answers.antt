@@ -16,7 +16,7 @@ returns-in_ok-pass-in-Nothing g c =
     let verdicts = c.args.verdicts.now in
     let whole = c.args.whole.now in
     let given = given_to whole (g.V.Verdicts.roots verdicts) (g.V.Verdicts.csrs verdicts) (g.V.Verdicts.joins verdicts) in
-    let plan = c.in_ok-pass-in-Nothing.ensures.plan in
+    let plan = c.in_ok-pass-in-Nothing.ensures in
     subst (λ (heard : Heard). IsAnswered given whole.interactions.state whole.interactions.ledger c.args.id c.args.ms (said_by heard) (None, c.in_ok-pass-in-Nothing.field-0)) (sym c.in-Nothing.is)
     (record { answer = refl; state = plan.state; ledger = plan.ledger; planned = plan.planned })
 
@@ -88,4 +88,4 @@ returns-in_ok-interactions-in-Answers g c =
     let payloads = c.in-Answers.payloads in
     let interactions = c.in_ok-interactions-in-Answers.interactions in
     subst (λ (heard : Heard). IsAnswered given s l id ms (said_by heard) (Some c.answering_with-in-Answers.result, interactions)) (sym c.in-Answers.is)
-    (answered_with given s l id ms (answers key acknowledge payloads) key acknowledge payloads c.answering_with-in-Answers.result interactions c.answering_with-in-Answers.ensures refl c.in_ok-interactions-in-Answers.ensures.plan)
+    (answered_with given s l id ms (answers key acknowledge payloads) key acknowledge payloads c.answering_with-in-Answers.result interactions c.answering_with-in-Answers.ensures refl c.in_ok-interactions-in-Answers.ensures)

@@ -8,4 +8,4 @@ pub returns-clause-closed : goal.returns-clause-closed
 returns-clause-closed c = closed_behind
 
 pub returns-clause-talks : goal.returns-clause-talks
-returns-clause-talks c given w event outcome planned plan = ap (λ (closed : List ℕ). map (without_ended closed) (talks_behind given w event)) (sym (closed_behind given w event outcome planned plan))
+returns-clause-talks c given w event outcome planned brings = ap (λ (closed : List ℕ). map (without_ended closed) (talks_behind given w event)) (sym (closed_behind given w event outcome planned brings))

@@ -26,7 +26,7 @@ returns-in_default-clause-outcome g c =
     let actor = actor_on c.args.session in
     let none : asker kept.state.node actor ≡ None =
     ap (λ (k : ConfiguredInteractions). asker k.state.node actor) (sym c.self.view_is) ∙ ap (λ (a : Actor). asker c.self.inside.node.state a) (sym c.actor_on-actor.ensures) ∙ sym c.asker.ensures ∙ c.in_default.is in
-    nobody_over given kept.state kept.ledger c.args.ms actor c.args.request.now c.args.timed c.in_ok-pass.field-0 none c.in_ok-pass.ensures.plan
+    nobody_over given kept.state kept.ledger c.args.ms actor c.args.request.now c.args.timed c.in_ok-pass.field-0 none c.in_ok-pass.ensures
 
 pub returns-in_default-clause-payloads : goal.returns-in_default-clause-payloads
 returns-in_default-clause-payloads g c =
@@ -85,6 +85,6 @@ returns-clause-outcome g c =
     let ds : c.as_slice.result.now ≡ kept.state.deadlines = c.as_slice.ensures ∙ ap (λ (k : ConfiguredInteractions). k.state.deadlines) c.self.view_is in
     let left : unwrap_or c.in_ok-deadlines.deadlines kept.state.deadlines ≡ left_without node.gone kept.state.deadlines =
     subst (λ (l : List PlainDeadline). unwrap_or c.in_ok-deadlines.deadlines l ≡ left_without node.gone l) ds c.in_ok-deadlines.ensures in
-    let made : InteractionOutcome = record { sent = c.new-none.result; ms = ms; node = node; deadlines = c.in_ok-deadlines.deadlines; subs = c.in_ok-payloads-2.subs } in
+    let made : InteractionOutcome = record { ms = ms; node = node; deadlines = c.in_ok-deadlines.deadlines; subs = c.in_ok-payloads-2.subs } in
     subst (λ (x : InteractionOutcome). IsDone given kept.state kept.ledger (acts (Ask actor request c.args.timed)) ms x) (sym c.in_ok-outcome.ensures.made)
     (asked_over given kept.state kept.ledger ms actor c.in-Some.asking request c.args.timed made asks refl c.in_ok-outcome.ensures.recordable plan c.in_ok-payloads-2.ensures.subs left)

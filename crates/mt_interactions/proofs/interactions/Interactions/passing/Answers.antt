@@ -17,9 +17,9 @@ returns g c =
     let kept : ConfiguredInteractions = c.args.self.now in
     let given = given_to kept roots csrs rows in
     let node = c.in_ok-node.node in
-    let made : InteractionOutcome = record { sent = c.args.sent; ms = c.args.ms; node = node; deadlines = None; subs = c.args.subs } in
-    if_both c.outcome.result (λ o. o ≡ made) (λ o. may_record node.told kept.ledger.history ≡ true) (IsPassing given kept.state kept.ledger c.args.sent c.args.ms c.args.subs)
-    (λ o is may. subst (λ (x : InteractionOutcome). IsPassing given kept.state kept.ledger c.args.sent c.args.ms c.args.subs x) (sym is)
-    (passes given kept.state kept.ledger c.args.sent c.args.ms c.args.subs made refl refl refl refl may
+    let made : InteractionOutcome = record { ms = c.args.ms; node = node; deadlines = None; subs = c.args.subs } in
+    if_both c.outcome.result (λ o. o ≡ made) (λ o. may_record node.told kept.ledger.history ≡ true) (IsPassing given kept.state kept.ledger c.args.ms c.args.subs)
+    (λ o is may. subst (λ (x : InteractionOutcome). IsPassing given kept.state kept.ledger c.args.ms c.args.subs x) (sym is)
+    (passes given kept.state kept.ledger c.args.ms c.args.subs made refl refl refl may
     (subst (λ (k : ConfiguredInteractions). IsPlan (given_to k roots csrs rows) k.state.node Nothing c.args.ms node) c.self.view_is c.in_ok-node.ensures)))
     c.outcome.ensures.made c.outcome.ensures.recordable
