@@ -1,18 +1,15 @@
 //! What a single field tells.
 
 ghost use Rattle.std.specs.Prelude.{◌≡◌, ◌↔◌, ◌≤◌, ◌*◌, if◌then◌else◌, length, Some, None, IfOk, IfSome};
-ghost use Rattle.mt_model.specs.declared.limits.TheConstants.{LAST_TIME};
 ghost use Rattle.hex.specs.Hex.{decode_of, hex_digit_value};
 ghost use Rattle.mt_files.specs.Field.{bytes_in, digits_from, fate_in, number_between, ok_of, opcode_in, payload_in, peer_in, port_in, up_to};
 
-use mt_model::limits::LAST_TIME;
 use mt_outside::{Fate, Peer};
 use mt_tlv::Bytes;
 use std::alloc::{AllocError, Global};
 
-/// A decimal number of a range.
+/// A number of a range, in decimal digits with no sign and no leading zero; None exactly where the text is none.
 pub fn number(least: u64, most: u64, text: &[u8]) -> Option<u64>
-    requires { most ≤ LAST_TIME }
     ensures value { result ≡ number_between least most text.now }
     ensures within { IfSome result (λ number. number ≤ most) }
 {
@@ -29,7 +26,6 @@ pub fn number(least: u64, most: u64, text: &[u8]) -> Option<u64>
 
 // The number of some digits, up to a limit.
 fn digits(text: &[u8], most: u64) -> Option<u64>
-    requires { most ≤ LAST_TIME }
     ensures value { result ≡ up_to most (digits_from 0 text.now) }
     ensures within { IfSome result (λ number. number ≤ most) }
 {
@@ -38,10 +34,11 @@ fn digits(text: &[u8], most: u64) -> Option<u64>
         if *digit < b'0' || *digit > b'9' {
             return None;
         }
-        number = number * 10 + (*digit - b'0') as u64;
-        if number > most {
+        let next = number as u128 * 10 + (*digit - b'0') as u128;
+        if next > most as u128 {
             return None;
         }
+        number = next as u64;
     }
     Some(number)
 }

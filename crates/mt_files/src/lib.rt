@@ -24,6 +24,7 @@ mod recording;
 mod subject;
 mod writing;
 
+pub use field::number;
 pub use laws::{
     events_have_a_form, lines_are_single, numbers_have_one_spelling, recordings_are_read,
     written_recordings_are_read,

@@ -1,3 +1,3 @@
-pub mod Environment
+pub mod Given
 pub mod Joining
 pub mod Valid

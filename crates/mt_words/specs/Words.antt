@@ -1,11 +1,10 @@
 -- Which words are a command, which of them name its files, and what they ask for.
-use Rattle.std.specs.Prelude.{ℕ, ◌+◌, ◌^◌, ◌-◌, ◌==◌, nat_lt, nat_le, ◌&&◌, not, Bool, false, List, [], ◌∷◌, Option, Some, None, codes, drop, length, map, nat_eq, string_bytes, String, if◌then◌else◌}
-use Rattle.std.specs.Char.{is_ascii_digit}
+use Rattle.std.specs.Prelude.{ℕ, ◌+◌, ◌^◌, ◌-◌, ◌==◌, nat_lt, ◌&&◌, not, Bool, false, List, [], ◌∷◌, Option, Some, None, codes, drop, length, map, nat_eq, string_bytes, String, if◌then◌else◌}
 use Rattle.std.specs.Cmp.Lexicographic.{pointwise}
 use Rattle.std.specs.Global.{Global}
-use Rattle.std.specs.List.{list_all, slice_index_or}
+use Rattle.std.specs.List.{slice_index_or}
 use Rattle.std.specs.Option.{option_and_then, option_map}
-use Rattle.std.specs.Str.Parse.{digits_value}
+use Rattle.mt_files.specs.Field.{number_between}
 use Rattle.mt_words.specs.declared.asked.Asked.{Asked}
 use Rattle.mt_words.specs.declared.asked.Asked.TheVariants as asks
 use Rattle.mt_words.specs.declared.command.Command.{Command}
@@ -82,19 +81,7 @@ abbrev pub files_of : List (List ℕ) → Option Files
 files_of [] = None
 files_of (command ∷ words) = option_and_then (λ command. option_and_then (files_at command) (positional_from 1 words)) (command_of command)
 
--- Numbers.
-
--- decimal digits with no sign and no leading zero
-abbrev pub is_numeral : List ℕ → Bool
-is_numeral [] = false
-is_numeral (digit ∷ []) = is_ascii_digit digit
-is_numeral (first ∷ second ∷ digits) = not (first == 48) && list_all is_ascii_digit (first ∷ second ∷ digits)
-
--- a number of a range
-abbrev pub number_between : ℕ → ℕ → List ℕ → Option ℕ
-number_between least most word =
-    let number = digits_value 10 word in
-    if is_numeral word && (nat_le least number && nat_le number most) then Some number else None
+-- Numbers, in decimal digits with no sign and no leading zero.
 
 -- a number of 64 bits
 abbrev pub begin_of : List ℕ → Option ℕ

@@ -2,14 +2,19 @@
 //! nothing.
 
 ghost use Rattle.std.specs.Prelude.{◌≡◌, ◌↔◌, ◌<◌, ◌≤◌, ◌^◌, ℕ, List, IsSome, Some, decimal};
-ghost use Rattle.mt_words.specs.Words.{asked, files_of, number_between};
+ghost use Rattle.mt_files.specs.Field.{number_between};
+ghost use Rattle.mt_words.specs.Words.{asked, files_of};
+
+use mt_files::numbers_have_one_spelling;
 
 /// A word is a number of a range exactly where that number is written so.
 pub fn numbers_are_as_they_are_written()
     ensures { (least most number : ℕ) (word : List ℕ) → most < 2 ^ 64
         → (number_between least most word ≡ Some number)
         ↔ ((decimal number ≡ word) × (least ≤ number) × (number ≤ most)) }
-{}
+{
+    numbers_have_one_spelling();
+}
 
 /// Words that ask for something name the files of it.
 pub fn words_that_ask_name_files()
