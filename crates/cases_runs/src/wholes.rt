@@ -2,8 +2,8 @@
 
 use cases_page::{Page, byte, word};
 use mt_files::{config as configuration, events};
-use mt_model::{Config, Event, TableVerdicts};
-use mt_whole::Whole;
+use mt_model::{Config, Event};
+use mt_play::Playing;
 use std::alloc::{AllocError, Global};
 use std::{fs, io};
 
@@ -33,8 +33,8 @@ fn told(alloc: Global, config: &Config, words: &[&str]) -> Result<&'static str, 
     })
 }
 
-// The whole behind a recording.
-fn behind(alloc: Global, config: &Config, recording: &str) -> Result<Option<Whole>, AllocError> {
+// The node behind a recording.
+fn behind(alloc: Global, config: &Config, recording: &str) -> Result<Option<Playing>, AllocError> {
     let text = recording.replace(alloc, '/', "\n")?;
     match events(alloc, text.as_bytes()) {
         Ok(events) => played(alloc, config, events.as_slice()),
@@ -42,28 +42,12 @@ fn behind(alloc: Global, config: &Config, recording: &str) -> Result<Option<Whol
     }
 }
 
-fn played(alloc: Global, config: &Config, events: &[Event]) -> Result<Option<Whole>, AllocError> {
-    let verdicts = TableVerdicts::new(config)?;
-    let mut whole = Whole::start(alloc, config)?;
+fn played(alloc: Global, config: &Config, events: &[Event]) -> Result<Option<Playing>, AllocError> {
+    let mut node = Playing::start(alloc, config)?;
     for event in events {
-        if !is_played(&mut whole, event, &verdicts)? {
+        let Some(_) = node.step(event)? else {
             return Ok(None);
-        }
+        };
     }
-    Ok(Some(whole))
-}
-
-// Whether the line is built; then it has happened.
-fn is_played(
-    whole: &mut Whole,
-    event: &Event,
-    verdicts: &TableVerdicts,
-) -> Result<bool, AllocError> {
-    match whole.plan(event, verdicts)? {
-        Some(outcome) => {
-            whole.apply(outcome);
-            Ok(true)
-        }
-        None => Ok(false),
-    }
+    Ok(Some(node))
 }

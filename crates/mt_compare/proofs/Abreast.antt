@@ -9,7 +9,7 @@ use Rattle.mt_marks.specs.declared.difference.Part.{Part}
 use Rattle.mt_marks.specs.declared.difference.Part.TheVariants as parts
 use Rattle.mt_marks.specs.differences.Difference.{Difference, difference_from, differs, or_further, part_between}
 use Rattle.mt_marks.specs.differences.Marked.{marked_at}
-use Rattle.mt_compare.specs.Runs.{IsRunning}
+use Rattle.mt_play.specs.Remembers.{IsRemembering}
 use Rattle.mt_compare.specs.Sides.{GoesTo, left_of, mark_in}
 use Rattle.mt_compare.specs.declared.side.Side.{Side}
 
@@ -17,8 +17,8 @@ use Rattle.mt_compare.specs.declared.side.Side.{Side}
 pub record Abreast (given : Environment) (fabric : ℕ) (w v : Whole) (mine theirs : Side) (one other : Side) (number : ℕ) : Type 0 where
   pub mine_now : Whole
   pub theirs_now : Whole
-  pub mine_stands : IsRunning one.running given mine_now
-  pub theirs_stands : IsRunning other.running given theirs_now
+  pub mine_stands : IsRemembering one.node given mine_now
+  pub theirs_stands : IsRemembering other.node given theirs_now
   pub same : difference_from 1 (left_of given fabric w mine) (left_of given fabric v theirs) ≡ difference_from number (left_of given fabric mine_now one) (left_of given fabric theirs_now other)
 
 module _ (given : Environment) (fabric : ℕ) (w v : Whole) (mine theirs one other : Side) (number : ℕ) (a : Abreast given fabric w v mine theirs one other number) where

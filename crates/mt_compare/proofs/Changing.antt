@@ -3,15 +3,15 @@ use Rattle.std.proofs.Common.{◌≡◌, ℕ, ◌==◌, ◌&&◌, not, Bool, tru
 use Rattle.mt_model.specs.declared.texts.recording.Event.{Event}
 use Rattle.mt_machine.specs.Environment.{Environment}
 use Rattle.mt_machine.specs.State.{is_member}
-use Rattle.mt_machine.specs.State as machine
 use Rattle.mt_runs.specs.Isolation.{own_part}
 use Rattle.mt_runs.specs.Lines.{fabric_of, is_built, next}
 use Rattle.mt_runs.specs.Whole.{Whole}
 use Rattle.mt_runs.specs.Marks.{Mark, born, gone, is_in, is_of}
 use Rattle.mt_marks.specs.differences.Marked.{if_changed}
-use Rattle.mt_compare.specs.Runs.{IsRunning, PassesBuilt, PassesTo, marks_of_change, passed_by}
-use Rattle.mt_compare.specs.declared.running.Passed.{Passed}
-use Rattle.mt_compare.specs.declared.running.Running.{Running}
+use Rattle.mt_play.specs.Remembers.{IsRemembering}
+use Rattle.mt_compare.specs.Passing.{PassesBuilt, PassesTo, marks_of_change, passed_by}
+use Rattle.mt_compare.specs.declared.passing.Passed.{Passed}
+use Rattle.mt_play.specs.declared.remembering.Remembering.{Remembering}
 
 module _ (fabric : ℕ) (behind : Whole) where
   abbrev change : Bool → Bool → Bool → List Mark
@@ -31,7 +31,7 @@ module _ (fabric : ℕ) (behind : Whole) where
       → if_changed fabric w event behind ≡ marks_of_change fabric behind (passed_by was own is)
   changed_by w event was own is before of after = (λ i. change (before i) (of i) (after i)) ∙ by_place was own is
 
-module _ (given : Environment) (fabric : ℕ) (w : Whole) (event : Event) (new : Running) where
+module _ (given : Environment) (fabric : ℕ) (w : Whole) (event : Event) (new : Remembering) where
   passes : (was own is : Bool) → PassesBuilt given fabric w event new (passed_by was own is) → PassesTo given fabric w event new (passed_by was own is)
   passes true true true p = p
   passes true true false p = p
@@ -42,12 +42,10 @@ module _ (given : Environment) (fabric : ℕ) (w : Whole) (event : Event) (new :
   passes false false true p = p
   passes false false false p = p
 
-  pub passes_to : (old : Running) (was is : Bool) (acting : ℕ) (passed : Passed) → IsRunning old given w → is_built event ≡ true → IsRunning new given (next given w event)
-      → was ≡ is_member fabric old.whole.interactions.state.node → acting ≡ fabric_of old.whole.interactions.state.node event → is ≡ is_member fabric new.whole.interactions.state.node
+  pub passes_to : (was is : Bool) (acting : ℕ) (passed : Passed) → is_built event ≡ true → IsRemembering new given (next given w event)
+      → was ≡ is_member fabric w.state.node → acting ≡ fabric_of w.state.node event → is ≡ is_member fabric (next given w event).state.node
       → passed ≡ passed_by was (acting == fabric) is → PassesTo given fabric w event new passed
-  passes_to old was is acting passed stands built now had acts has told =
-      let before : is_in fabric w ≡ was = sym (had ∙ ap (λ (s : machine.State). is_member fabric s.node) stands.whole.state) in
-      let of : is_of fabric w event ≡ (acting == fabric) = sym (ap (λ (n : ℕ). n == fabric) (acts ∙ ap (λ (s : machine.State). fabric_of s.node event) stands.whole.state)) in
-      let after : is_in fabric (next given w event) ≡ is = sym (has ∙ ap (λ (s : machine.State). is_member fabric s.node) now.whole.state) in
+  passes_to was is acting passed built now had acts has told =
+      let of : is_of fabric w event ≡ (acting == fabric) = sym (ap (λ (n : ℕ). n == fabric) acts) in
       subst (PassesTo given fabric w event new) (sym told)
-      (passes was (acting == fabric) is (record { built = built; stands = now; changed = changed_by fabric (next given w event) w event was (acting == fabric) is before of after }))
+      (passes was (acting == fabric) is (record { built = built; stands = now; changed = changed_by fabric (next given w event) w event was (acting == fabric) is (sym had) of (sym has) }))

@@ -8,9 +8,9 @@ use Rattle.mt_runs.specs.Lines.{is_built, next}
 use Rattle.mt_runs.specs.Whole.{Whole}
 use Rattle.mt_runs.specs.Marks.{Mark, if_seen, is_seen, seen}
 use Rattle.mt_marks.specs.differences.Marked.{Marked, all_at, if_changed, marked, marked_at}
-use Rattle.mt_compare.specs.Runs.{IsRunning}
+use Rattle.mt_play.specs.Remembers.{IsRemembering}
 use Rattle.mt_compare.specs.Sides.{GoesTo, HasLooked, HasPassed, Looks, left, left_of, mark_in, unseen}
-use Rattle.mt_compare.specs.declared.running.Running.{Running}
+use Rattle.mt_play.specs.declared.remembering.Remembering.{Remembering}
 use Rattle.mt_compare.specs.declared.side.Side.{Side}
 
 -- Of an event at the head.
@@ -54,7 +54,7 @@ module _ (given : Environment) (fabric : ℕ) (w : Whole) (event : Event) (behin
 -- A side has gone so far: its node stands for a whole, of which the same marks are left.
 pub record Going (given : Environment) (fabric : ℕ) (w : Whole) (old new : Side) : Type 0 where
   pub now : Whole
-  pub stands : IsRunning new.running given now
+  pub stands : IsRemembering new.node given now
   pub left : left_of given fabric w old ≡ left_of given fabric now new
 
 nothing_left : (given : Environment) (fabric : ℕ) (w : Whole) (told : Bool) → left given fabric w told [] ≡ []
@@ -83,7 +83,7 @@ module _ (given : Environment) (fabric : ℕ) (w : Whole) (old here : Side) (go 
         let looks = h.1.1 in record {
           now = go.now;
           event = event.now;
-          stands = subst (λ (r : Running). IsRunning r given go.now) (sym looks.running) go.stands;
+          stands = subst (λ (r : Remembering). IsRemembering r given go.now) (sym looks.node) go.stands;
           at = h.1.3;
           left =
               left_here false h.0
@@ -99,8 +99,8 @@ module _ (given : Environment) (fabric : ℕ) (w : Whole) (old here : Side) (go 
     looked : (told : Side) → HasLooked fabric go.now event here told false → left_of given fabric w old ≡ unseen given fabric go.now (event.now ∷ behind.now)
     looked told h = by_told here.is_seen refl h.1
 
-    pub stands_still : (told : Side) → HasLooked fabric go.now event here told false → IsRunning told.running given go.now
-    stands_still told h = subst (λ (r : Running). IsRunning r given go.now) (sym h.0.running) go.stands
+    pub stands_still : (told : Side) → HasLooked fabric go.now event here told false → IsRemembering told.node given go.now
+    stands_still told h = subst (λ (r : Remembering). IsRemembering r given go.now) (sym h.0.node) go.stands
 
     abbrev behind_it : Whole
     behind_it = next given go.now event.now

@@ -2,6 +2,4 @@ pub mod Abreast
 pub mod Changing
 pub mod Going
 pub mod Looking
-pub mod Owning
 pub mod Parting
-pub mod Stepping

@@ -1,5 +1,5 @@
 pub mod Found
-pub mod Runs
+pub mod Passing
 pub mod Seen
 pub mod Sides
 pub mod Text

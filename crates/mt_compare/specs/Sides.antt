@@ -10,7 +10,7 @@ use Rattle.mt_runs.specs.Whole.{Whole}
 use Rattle.mt_runs.specs.Marks.{Mark, born, gone, is_seen, seen}
 use Rattle.mt_marks.specs.Seen.{seen_in}
 use Rattle.mt_marks.specs.differences.Marked.{Marked, all_at, if_changed, marked}
-use Rattle.mt_compare.specs.Runs.{IsRunning}
+use Rattle.mt_play.specs.Remembers.{IsRemembering}
 use Rattle.mt_compare.specs.declared.side.Here.{Here}
 use Rattle.mt_compare.specs.declared.side.Here.TheVariants as heres
 use Rattle.mt_compare.specs.declared.side.Side.{Side}
@@ -41,7 +41,7 @@ IsAt event at = option_copied at ≡ Some event
 
 -- behind a look at an event
 pub record Looks (old new : Side) : Type 0 where
-  pub running : new.running ≡ old.running
+  pub node : new.node ≡ old.node
   pub rest : new.rest ≡ old.rest
   pub told : new.is_seen ≡ true
 
@@ -61,7 +61,7 @@ MarksHere fabric now event new true marks = (marks ≡ mark_in fabric now new.he
 
 pub record Passes (given : Environment) (fabric : ℕ) (w : Whole) (event : Event) (behind : List Event) (new : Side) (is_marked : Bool) : Type 0 where
   pub built : is_built event ≡ true
-  pub stands : IsRunning new.running given (next given w event)
+  pub stands : IsRemembering new.node given (next given w event)
   pub unseen : new.is_seen ≡ false
   pub rest : new.rest.now ≡ behind
   pub marks : MarksHere fabric (next given w event) event new is_marked (if_changed fabric w event (next given w event))
@@ -69,7 +69,7 @@ pub record Passes (given : Environment) (fabric : ℕ) (w : Whole) (event : Even
 -- an event that is not built ends the run
 pub record Stops (given : Environment) (w : Whole) (event : Event) (new : Side) (is_marked : Bool) : Type 0 where
   pub not_built : is_built event ≡ false
-  pub stands : IsRunning new.running given w
+  pub stands : IsRemembering new.node given w
   pub unmarked : is_marked ≡ false
   pub none : new.rest.now ≡ []
 
@@ -81,7 +81,7 @@ HasPassed given fabric w event behind new is_marked = Passes given fabric w even
 pub record GoesTo (given : Environment) (fabric : ℕ) (w : Whole) (old new : Side) : Type 0 where
   pub now : Whole
   pub event : Event
-  pub stands : IsRunning new.running given now
+  pub stands : IsRemembering new.node given now
   pub at : IsAt event new.event
   pub left : left_of given fabric w old ≡ record { event = event; mark = mark_in fabric now new.here } ∷ left_of given fabric now new
 

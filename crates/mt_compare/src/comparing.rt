@@ -8,7 +8,7 @@ ghost use Rattle.mt_runs.specs.Whole.{Whole as Told, opened};
 ghost use Rattle.mt_marks.specs.differences.Difference.{difference, difference_from};
 ghost use Rattle.mt_marks.specs.differences.Marked.{marked};
 ghost use Rattle.mt_compare.specs.Found.{difference_in};
-ghost use Rattle.mt_compare.specs.Runs.{IsRunning};
+ghost use Rattle.mt_play.specs.Remembers.{IsRemembering};
 ghost use Rattle.mt_compare.specs.Sides.{left_of};
 
 use crate::between::part_between;
@@ -55,27 +55,26 @@ fn compare_with<'a>(
     mine: &mut Side<'a>,
     second: &'a [Event],
 ) -> Result<Option<Difference<'a>>, AllocError>
-    ensures { (w : Told) → IsRunning mine.old.running (given_by (contents_of config.now)) w
+    ensures { (w : Told) → IsRemembering mine.old.node (given_by (contents_of config.now)) w
         → IfOk result (λ found. option_map difference_in found ≡ difference_from 1 (left_of (given_by (contents_of config.now)) fabric w mine.old) (marked (given_by (contents_of config.now)) fabric (opened config.now) second.entry.now)) }
 {
     let mut theirs = Side::start(alloc, config, second)?;
-    first_between(alloc, fabric, mine, &mut theirs)
+    first_between(fabric, mine, &mut theirs)
 }
 
 // The first of the marks that are left that differs.
 fn first_between<'a>(
-    alloc: Global,
     fabric: u8,
     mine: &mut Side<'a>,
     theirs: &mut Side<'a>,
 ) -> Result<Option<Difference<'a>>, AllocError>
-    ensures { (given : Environment) (w v : Told) → IsRunning mine.old.running given w → IsRunning theirs.old.running given v
+    ensures { (given : Environment) (w v : Told) → IsRemembering mine.old.node given w → IsRemembering theirs.old.node given v
         → IfOk result (λ found. option_map difference_in found ≡ difference_from 1 (left_of given fabric w mine.old) (left_of given fabric v theirs.old)) }
 {
     for number in 1..u64::MAX {
         match (mine.next(fabric)?, theirs.next(fabric)?) {
             (true, true) => {
-                if let Some(part) = part_between(alloc, fabric, mine, theirs)? {
+                if let Some(part) = part_between(fabric, mine, theirs)? {
                     return Ok(Some(differs(number, part, mine.event, theirs.event)));
                 }
             }

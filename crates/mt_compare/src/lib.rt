@@ -1,6 +1,6 @@
 //! Two recordings, played over one configuration and compared by what a fabric sees of each: its marks, one after the other.
 //!
-//! - `running`: a node that plays events, and beside it all that is said over its sessions;
+//! - `passing`: what an event makes of a fabric's place in the table;
 //! - `side`: one of the two runs, which goes on from mark to mark;
 //! - `between`: the first part in which two marks differ;
 //! - `comparing`: the first mark that differs;
@@ -9,7 +9,7 @@
 
 mod between;
 mod comparing;
-mod running;
+mod passing;
 mod side;
 mod text;
 

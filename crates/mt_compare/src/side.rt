@@ -4,12 +4,13 @@ ghost use Rattle.std.specs.Prelude.{◌≡◌, ◌≤◌, IfOk, OnOk, false, len
 ghost use Rattle.mt_model.specs.texts.Contents.{contents_of};
 ghost use Rattle.mt_machine.specs.Environment.{Environment, given_by};
 ghost use Rattle.mt_runs.specs.Whole.{Whole as Told, opened};
-ghost use Rattle.mt_compare.specs.Runs.{IsRunning};
+ghost use Rattle.mt_play.specs.Remembers.{IsRemembering};
 ghost use Rattle.mt_compare.specs.Sides.{GoesOn, HasLooked, HasPassed, HasSeen};
 
-use crate::running::{Passed, Running};
+use crate::passing::{Passed, pass};
 use mt_marks::Mark;
 use mt_model::{Config, Event};
+use mt_play::Remembering;
 use std::alloc::{AllocError, Global};
 
 /// A mark, as far as it is not in the node at which it stands.
@@ -26,7 +27,7 @@ pub(crate) enum Here {
 /// A run that goes on from mark to mark.
 #[derive(Drop)]
 pub(crate) struct Side<'a> {
-    pub(crate) running: Running,
+    pub(crate) node: Remembering,
     // the events that the node has not played
     rest: &'a [Event],
     // whether what the fabric sees of the first of them was told
@@ -43,12 +44,12 @@ impl<'a> Side<'a> {
         config: &Config,
         events: &'a [Event],
     ) -> Result<Side<'a>, AllocError>
-        ensures running { IfOk result (λ side. IsRunning side.running (given_by (contents_of config.now)) (opened config.now)) }
+        ensures node { IfOk result (λ side. IsRemembering side.node (given_by (contents_of config.now)) (opened config.now)) }
         ensures events { IfOk result (λ side. side.rest ≡ events.entry) }
         ensures unseen { IfOk result (λ side. side.is_seen ≡ false) }
     {
         Ok(Side {
-            running: Running::start(alloc, config)?,
+            node: Remembering::start(alloc, config)?,
             rest: events,
             is_seen: false,
             here: Here::Leaves,
@@ -58,7 +59,7 @@ impl<'a> Side<'a> {
 
     /// Goes on to the fabric's next mark; false where there is none.
     pub(crate) fn next(&mut self, fabric: u8) -> Result<bool, AllocError>
-        ensures { (given : Environment) (w : Told) → IsRunning self.old.running given w → IfOk result (GoesOn given fabric w self.old self.new) }
+        ensures { (given : Environment) (w : Told) → IsRemembering self.old.node given w → IfOk result (GoesOn given fabric w self.old self.new) }
     {
         'events: while let Some((event, behind)) = self.rest.split_first() {
             if self.look(fabric, event)? {
@@ -74,7 +75,7 @@ impl<'a> Side<'a> {
     // Tells what the fabric sees of an event, where that was not told yet; false where nothing is told.
     fn look(&mut self, fabric: u8, event: &'a Event) -> Result<bool, AllocError>
         ensures rest { OnOk result (self.new.rest ≡ self.old.rest) }
-        ensures looked { (given : Environment) (w : Told) → IsRunning self.old.running given w → IfOk result (HasLooked fabric w event.entry self.old self.new) }
+        ensures looked { (given : Environment) (w : Told) → IsRemembering self.old.node given w → IfOk result (HasLooked fabric w event.entry self.old self.new) }
     {
         if self.is_seen {
             return Ok(false);
@@ -85,9 +86,9 @@ impl<'a> Side<'a> {
     // Tells what the fabric sees of an event; false where it does not see it.
     fn see(&mut self, fabric: u8, event: &'a Event) -> Result<bool, AllocError>
         ensures rest { OnOk result (self.new.rest ≡ self.old.rest) }
-        ensures seen { (given : Environment) (w : Told) → IsRunning self.old.running given w → IfOk result (HasSeen fabric w event.entry self.old self.new) }
+        ensures seen { (given : Environment) (w : Told) → IsRemembering self.old.node given w → IfOk result (HasSeen fabric w event.entry self.old self.new) }
     {
-        let mark = self.running.whole.mark(fabric, event)?;
+        let mark = self.node.playing().mark(fabric, event)?;
         self.is_seen = true;
         let Some(mark) = mark else {
             return Ok(false);
@@ -106,9 +107,9 @@ impl<'a> Side<'a> {
         behind: &'a [Event],
     ) -> Result<bool, AllocError>
         ensures shorter { OnOk result (length self.new.rest.now ≤ length behind.entry.now) }
-        ensures passed { (given : Environment) (w : Told) → IsRunning self.old.running given w → IfOk result (HasPassed given fabric w event.entry behind.entry self.new) }
+        ensures passed { (given : Environment) (w : Told) → IsRemembering self.old.node given w → IfOk result (HasPassed given fabric w event.entry behind.entry self.new) }
     {
-        let passed = self.running.pass(fabric, event)?;
+        let passed = pass(&mut self.node, fabric, event)?;
         self.is_seen = false;
         self.rest = behind;
         match passed {

@@ -3,3 +3,5 @@ pub mod Begun
 pub mod Compared
 pub mod Denials
 pub mod Isolated
+pub mod Runs
+pub mod Tells

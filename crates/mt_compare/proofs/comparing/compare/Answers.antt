@@ -17,4 +17,4 @@ returns c =
     let mine = c.in_ok-mine.ensures in
     subst (λ (ones : List Marked). IfOk c.compare_with.result (λ found. option_map difference_in found ≡ difference_from 1 ones (marked given c.args.fabric begun c.args.second.now)))
     (λ i. left given c.args.fabric begun (mine.unseen i) (mine.events i).now)
-    (c.compare_with.ensures begun mine.running)
+    (c.compare_with.ensures begun mine.node)

@@ -17,4 +17,4 @@ returns c w is =
     let theirs = c.in_ok-theirs.ensures in
     subst (λ (others : List Marked). IfOk c.first_between.result (λ found. option_map difference_in found ≡ difference_from 1 (left_of given c.args.fabric w c.args.mine.now) others))
     (λ i. left given c.args.fabric begun (theirs.unseen i) (theirs.events i).now)
-    (c.first_between.ensures given w begun is theirs.running)
+    (c.first_between.ensures given w begun is theirs.node)

@@ -1,5 +1,5 @@
 use Rattle.std.proofs.Common.{inl, refl, subst}
-use Rattle.mt_compare.specs.Runs.{PassesTo}
+use Rattle.mt_compare.specs.Passing.{PassesTo}
 use Rattle.mt_compare.proofs.side.Side.pass.Goals as goal
 
 pub returns-in-Stays-clause-passed : goal.returns-in-Stays-clause-passed

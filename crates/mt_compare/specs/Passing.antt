@@ -1,4 +1,4 @@
--- For which run a node stands that plays events, and what an event makes of a fabric's place in the table.
+-- What an event makes of a fabric's place in the table.
 use Rattle.std.specs.Prelude.{◌≡◌, ℕ, ◌&&◌, not, Bool, true, false, List, [], ◌∷◌, if◌then◌else◌}
 use Rattle.mt_model.specs.declared.texts.recording.Event.{Event}
 use Rattle.mt_machine.specs.Environment.{Environment}
@@ -7,22 +7,10 @@ use Rattle.mt_runs.specs.Lines.{is_built, next}
 use Rattle.mt_runs.specs.Whole.{Whole}
 use Rattle.mt_runs.specs.Marks.{Mark, born, gone}
 use Rattle.mt_marks.specs.differences.Marked.{if_changed}
-use Rattle.mt_whole.specs.Plan.{given_to}
-use Rattle.mt_whole.specs.Talks.{IsWholeOf}
-use Rattle.mt_compare.specs.declared.running.Passed.{Passed}
-use Rattle.mt_compare.specs.declared.running.Passed.TheVariants as passes
-use Rattle.mt_compare.specs.declared.running.Running.{Running}
-
--- The node stands for this whole, with all that was said, and this is given to it.
-pub record IsRunning (running : Running) (given : Environment) (w : Whole) : Type 0 where
-  pub by : given_to running.whole running.verdicts.roots running.verdicts.csrs running.verdicts.joins ≡ given
-  pub whole : IsWholeOf running.whole w
-  pub told : running.told ≡ w.talks
-
--- behind an event, where that is built; else all stays
-abbrev pub StepsTo : Environment → Whole → Event → Running → Bool → Type 0
-StepsTo given w event new false = (is_built event ≡ false) × IsRunning new given w
-StepsTo given w event new true = (is_built event ≡ true) × IsRunning new given (next given w event)
+use Rattle.mt_play.specs.Remembers.{IsRemembering}
+use Rattle.mt_play.specs.declared.remembering.Remembering.{Remembering}
+use Rattle.mt_compare.specs.declared.passing.Passed.{Passed}
+use Rattle.mt_compare.specs.declared.passing.Passed.TheVariants as passes
 
 -- by whether the fabric was in the table, whether the event is its own, and whether it is in the table behind it
 abbrev pub passed_by : Bool → Bool → Bool → Passed
@@ -36,13 +24,13 @@ marks_of_change fabric behind passes.Enters = born (own_part fabric behind) ∷ 
 marks_of_change fabric behind passes.Leaves = gone ∷ []
 
 -- behind an event that is built, with what changes for the fabric
-pub record PassesBuilt (given : Environment) (fabric : ℕ) (w : Whole) (event : Event) (new : Running) (passed : Passed) : Type 0 where
+pub record PassesBuilt (given : Environment) (fabric : ℕ) (w : Whole) (event : Event) (new : Remembering) (passed : Passed) : Type 0 where
   pub built : is_built event ≡ true
-  pub stands : IsRunning new given (next given w event)
+  pub stands : IsRemembering new given (next given w event)
   pub changed : if_changed fabric w event (next given w event) ≡ marks_of_change fabric (next given w event) passed
 
-abbrev pub PassesTo : Environment → ℕ → Whole → Event → Running → Passed → Type 0
-PassesTo given fabric w event new passes.Unbuilt = (is_built event ≡ false) × IsRunning new given w
+abbrev pub PassesTo : Environment → ℕ → Whole → Event → Remembering → Passed → Type 0
+PassesTo given fabric w event new passes.Unbuilt = (is_built event ≡ false) × IsRemembering new given w
 PassesTo given fabric w event new passes.Stays = PassesBuilt given fabric w event new passes.Stays
 PassesTo given fabric w event new passes.Enters = PassesBuilt given fabric w event new passes.Enters
 PassesTo given fabric w event new passes.Leaves = PassesBuilt given fabric w event new passes.Leaves
