@@ -25,11 +25,11 @@ returns c =
     let session = option_and_then (λ (actor : Actor). actor.session) asking in
     record {
       reply = refl;
-      told = c.told.view_is ∙ c.in_ok-told.ensures ∙ ap events_in same ∙ sym (c.actions_tell_their_own.ensures.setting asking steps s c.args.now c.requires);
+      told = c.in_ok-told.ensures ∙ ap events_in same ∙ sym (c.actions_tell_their_own.ensures.setting asking steps s c.args.now c.requires);
       aside = (λ i. record { session = c.session_of.ensures i; closed = c.new.ensures i; gone = None }) ∙ sym (c.actions_set_values.ensures.nothing_ends session asking steps s c.args.now c.requires);
       state =
           let differ = c.in_ok-places.ensures asking c.args.now (subst (λ (l : List NodeStep). list_all is_setting_step l ≡ true) (sym same) c.requires) in
-          ap (λ (places : List Place). changed_at places timed (after_all asking steps timed)) (c.places.view_is ∙ differ ∙ (λ i. differing timed (after_all asking (same i) timed)));
+          ap (λ (places : List Place). changed_at places timed (after_all asking steps timed)) (differ ∙ (λ i. differing timed (after_all asking (same i) timed)));
       ready = (
         c.requires,
         record {
