@@ -6,7 +6,8 @@
 //! - `reads.txt`, `writes.txt`: the calls of one source, and of one sink;
 //! - `datagrams.txt`: recordings of datagrams, each of which is sent back;
 //! - `compares.txt`: a run of the program that compares two recordings by what one fabric sees of them;
-//! - `alike.txt`: two recordings, and a fabric.
+//! - `alike.txt`: two recordings, and a fabric;
+//! - `lens.txt`: a recording that is shown to people, or a line for which it is none.
 #![tactic(auto)]
 
 mod compares;
@@ -14,6 +15,7 @@ mod datagrams;
 mod narrow;
 mod numbers;
 mod runs;
+mod shown;
 mod streams;
 mod wholes;
 
@@ -25,6 +27,7 @@ fn main(rt: HostRuntime) -> io::Result<()> {
     tell_runs(&rt, &mut page)?;
     tell_streams(&rt, &mut page)?;
     tell_pairs(&rt, &mut page)?;
+    tell_shown(&rt, &mut page)?;
     print!(rt; "{}", page.whole()?)
 }
 
@@ -60,6 +63,14 @@ fn tell_pairs(rt: &HostRuntime, page: &mut Page) -> io::Result<()> {
     let cases = fs::read_to_string(rt, "alike.txt")?;
     for case in cases.as_str().lines() {
         wholes::tell(rt, page, case)?;
+    }
+    Ok(())
+}
+
+fn tell_shown(rt: &HostRuntime, page: &mut Page) -> io::Result<()> {
+    let cases = fs::read_to_string(rt, "lens.txt")?;
+    for case in cases.as_str().lines() {
+        shown::tell(rt, page, case)?;
     }
     Ok(())
 }

@@ -2,14 +2,12 @@
 
 use crate::options::Options;
 use crate::rows::{Row, faulty_row};
-use mt_files::{ConfigField, LineFault, LineKind};
+use mt_files::{ConfigField, LineFault};
+use mt_lens::{Page, show_faulty_line};
 use mt_model::limits::{LINE_BYTES, RECORDING_BYTES};
 use serde_json::Value as Json;
 use std::alloc::{AllocError, AllocFailed, Global};
 use std::{io, str};
-
-/// The most bytes of a faulty line that are shown.
-const SHOWN: usize = 120;
 
 /// Which of the two files it is.
 #[derive(Clone, Copy)]
@@ -30,12 +28,8 @@ pub(crate) enum Fault {
         syntax: Option<String>,
         row: Option<Row>,
     },
-    /// The first line that is wrong, and what of its text is shown.
-    Line {
-        line: u64,
-        kind: LineKind,
-        text: Vec<u8>,
-    },
+    /// The first line that is wrong, with the line, in words.
+    Line(Page),
     /// The first line of a recording that is too long, None where the recording is.
     TooLong(Option<u64>),
     Unwritten,
@@ -61,7 +55,7 @@ impl Fault {
     pub(crate) fn status(&self) -> u8 {
         match self {
             Fault::Configuration { .. } => 3,
-            Fault::Line { .. } => 4,
+            Fault::Line(_) => 4,
             Fault::Unread(_) => 5,
             Fault::Unwritten => 6,
             Fault::Memory => 7,
@@ -90,7 +84,7 @@ impl Fault {
                 tell_configuration(rt, *field, *line)?;
                 tell_cause(rt, syntax, row)
             }
-            Fault::Line { line, kind, text } => tell_line(rt, *line, *kind, text.as_slice()),
+            Fault::Line(words) => tell_line(rt, words),
             Fault::TooLong(Some(line)) => {
                 eprintln!(rt; "Line {line} of the recording has more than 4,096 bytes.")
             }
@@ -147,23 +141,9 @@ fn tell_cause(rt: &HostRuntime, syntax: &Option<String>, row: &Option<Row>) -> i
 }
 
 // What is wrong with a line of a recording, and the line.
-fn tell_line(rt: &HostRuntime, line: u64, kind: LineKind, text: &[u8]) -> io::Result<()> {
-    let wrong = match kind {
-        LineKind::Head => "it is not the head `matter-record 1`",
-        LineKind::Form => {
-            "no line begins with this letter and has this number of fields, one space between two, or a stop has no such fate"
-        }
-        LineKind::Number => {
-            "a decimal field is no number, has a leading zero, or is out of its range"
-        }
-        LineKind::Hex => {
-            "a field in hex has other characters than digits, the wrong number of them or too many, or node and CATs name nobody who can ask"
-        }
-        LineKind::Time => "its time is before that of an earlier line",
-    };
-    let text = String::from_utf8_lossy(rt.alloc(), text)?;
-    eprintln!(rt; "Line {line} of the recording is faulty: {wrong}.")?;
-    eprintln!(rt; "  {text}")
+fn tell_line(rt: &HostRuntime, words: &Page) -> io::Result<()> {
+    let text = String::from_utf8_lossy(rt.alloc(), words.whole()?)?;
+    eprint!(rt; "{text}")
 }
 
 /// What a text comes to that is no configuration.
@@ -236,10 +216,11 @@ pub(crate) fn of_recording(alloc: Global, fault: LineFault, bytes: &[u8]) -> Fau
     match fault {
         LineFault::TooLong => Fault::TooLong(long_line(bytes)),
         LineFault::Memory => Fault::Memory,
-        LineFault::Line { line, kind } => match shown_line(alloc, line, bytes) {
-            Ok(text) => Fault::Line { line, kind, text },
-            Err(_) => Fault::Memory,
-        },
+        LineFault::Line { line, kind } => {
+            let mut words = Page::new(alloc, false);
+            show_faulty_line(&mut words, bytes, line, kind);
+            Fault::Line(words)
+        }
     }
 }
 
@@ -261,23 +242,4 @@ fn long_line(bytes: &[u8]) -> Option<u64> {
         }
     }
     None
-}
-
-// The front of the line of this number, counted from 1.
-fn shown_line(alloc: Global, line: u64, bytes: &[u8]) -> Result<Vec<u8>, AllocError> {
-    let mut text = Vec::new(alloc);
-    let mut number = 1u64;
-    let mut shown = 0usize;
-    for byte in bytes {
-        if *byte == b'\n' {
-            number = number.saturating_add(1);
-        } else if number == line && shown < SHOWN {
-            text.push(*byte)?;
-            shown += 1;
-        } else if number == line && shown == SHOWN {
-            text.extend_from_slice(b"..")?;
-            shown += 1;
-        }
-    }
-    Ok(text)
 }

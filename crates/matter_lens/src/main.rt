@@ -5,11 +5,9 @@
 //! - `options`: the words of the command line;
 //! - `faults`: why a run ended before its end, in words;
 //! - `rows`: which row of a faulty configuration is the first that is wrong;
-//! - `story`: the recording, line by line, with what came of each;
-//! - `datagrams`: what stands in sealed datagrams.
+//! - `story`: the recording, line by line, with what came of each.
 #![tactic(auto)]
 
-mod datagrams;
 mod faults;
 mod options;
 mod rows;

@@ -1,11 +1,10 @@
 -- The outcome of a line, from the plan of the node's action.
 use Rattle.std.proofs.Common.{◌≡◌, ℕ, not, ◌==◌, ◌&&◌, ◌||◌, inl, inr, Bool, true, false, List, [], ◌∷◌, Option, None, Some, Result, Ok, Err, IfOk, filter, refl, sym, ap, ◌∙◌, append-nil, if◌then◌else◌, unwrap_or}
 use Rattle.std.specs.List.{list_any}
-use Rattle.mt_im.specs.Reading.{Gives, request_in}
+use Rattle.mt_im.specs.Reading.{Gives}
 use Rattle.mt_im.specs.declared.fault.ImFault.{ImFault}
 use Rattle.mt_im.specs.declared.fault.ImFault.TheVariants as faults
 use Rattle.mt_model.specs.Optional.{is_that}
-use Rattle.mt_model.specs.messages.Status.{code_of}
 use Rattle.mt_model.specs.tables.Leaving.{stays}
 use Rattle.mt_model.specs.declared.tables.access.Actor.{Actor}
 use Rattle.mt_model.specs.declared.node.action.Action.TheVariants.{Ask, Expire, Nothing}
@@ -13,10 +12,9 @@ use Rattle.mt_model.specs.declared.node.action.PlainDeadline.{PlainDeadline}
 use Rattle.mt_model.specs.declared.messages.message.Reply.{Reply}
 use Rattle.mt_model.specs.declared.messages.message.Reply.TheVariants as replies
 use Rattle.mt_model.specs.declared.messages.message.Request.{Request}
-use Rattle.mt_model.specs.declared.messages.status.Status.TheVariants.{Busy}
-use Rattle.mt_machine.specs.Lines.{action_of, deadline_for, deadline_of, deadlines_after, deadlines_of_those_left, fault_reply, is_deadline_of, is_refused, line_actor, next_for, sent_as, with_deadline, without}
+use Rattle.mt_machine.specs.Lines.{action_of, deadline_for, deadline_of, deadlines_after, deadlines_of_those_left, fault_reply, is_deadline_of, sent_as, with_deadline, without}
 use Rattle.mt_machine.specs.State.{State, is_among}
-use Rattle.mt_machine.specs.Step.{after_action, after_steps, asked_reply, asked_steps, asker, at_time, gone_between, refusal, reply_of}
+use Rattle.mt_machine.specs.Step.{after_action, after_steps, asked_reply, asked_steps, asker, at_time, gone_between, reply_of}
 use Rattle.mt_machine.specs.Rollback.{added_in, deadlines_left, is_due}
 use Rattle.mt_machine.specs.Laws.{TakesTheAddedAway}
 use Rattle.mt_model.specs.declared.tables.network.Armed.{Armed}
@@ -27,14 +25,12 @@ use Rattle.mt_node.specs.Plan.{IsPlan, applied}
 use Rattle.mt_model.specs.declared.node.state.NodeState.{NodeState}
 use Rattle.mt_model.specs.declared.tables.fabric.Fabric.{Fabric}
 use Rattle.std.proofs.lemmas.Bool.{cases_Bool}
-use Rattle.mt_model.specs.declared.texts.recording.Event.TheVariants as events
 use Rattle.mt_interactions.specs.Plan.{IsDone, IsLine, IsPassing, IsTick, applied_history, applied_ledger, is_want_of_memory, left_without}
 use Rattle.mt_interactions.specs.Replying.{replied_plainly, sent_both}
 use Rattle.mt_interactions.specs.Subscribing.{applied_subs}
 use Rattle.mt_interactions.specs.declared.behind.SubsBehind.{SubsBehind}
 use Rattle.mt_model.specs.declared.texts.recording.Sent.{Sent}
 use Rattle.mt_subs.specs.Leaving.{left_in}
-use Rattle.mt_subs.specs.declared.subscription.SubState.{SubState}
 use Rattle.mt_ledger.specs.Asking.{full_reply, line_response, line_wish, with_wish}
 use Rattle.mt_ledger.specs.Behind.{Activity, acts, action_in, ledger_behind, subs_done}
 use Rattle.mt_ledger.specs.Ledger.{Ledger}

@@ -1,7 +1,6 @@
 -- The last event among items, one item after the other, and two changes of one subscription.
-use Rattle.std.proofs.Common.{◌≡◌, ℕ, ◌&&◌, ◌==◌, Bool, true, false, List, [], ◌∷◌, Option, Some, None, refl, ap, sym, ◌∙◌, map, inl, inr, is_none, if◌then◌else◌}
+use Rattle.std.proofs.Common.{◌≡◌, ℕ, List, [], ◌∷◌, Option, Some, None, refl, ap, map, inl, inr, is_none}
 use Rattle.std.proofs.lemmas.Bool.{cases_Bool}
-use Rattle.mt_model.specs.declared.messages.message.Happened.{Happened}
 use Rattle.mt_model.specs.declared.messages.message.Item.{Item}
 use Rattle.mt_model.specs.declared.messages.message.Item.TheVariants as items
 use Rattle.mt_model.specs.declared.tables.access.Actor.{Actor}

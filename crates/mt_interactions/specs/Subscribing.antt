@@ -1,5 +1,5 @@
 -- What a planned line makes of the subscriptions.
-use Rattle.std.specs.Prelude.{ℕ, List, Option, Some, None, Bool, if◌then◌else◌}
+use Rattle.std.specs.Prelude.{ℕ, Option, Some, None, Bool, if◌then◌else◌}
 use Rattle.mt_subs.specs.Leaving.{without_ids}
 use Rattle.mt_subs.specs.Subscriptions.{changed, confirmed, reported}
 use Rattle.mt_subs.specs.declared.subscription.SubState.{SubState}

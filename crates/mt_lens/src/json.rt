@@ -10,7 +10,7 @@ use crate::telling::INTERACTION_MODEL;
 use crate::told::{Content, Expiry, Letter, Message, Told};
 use mt_frame::ProtocolHeader;
 use mt_im::decode;
-use mt_model::{Event, To};
+use mt_model::{Event, Standing, To};
 use mt_outside::Peer;
 
 /// Adds the object of a line and of what was sent for it, with the end of its line. Where there is no memory for that,
@@ -220,11 +220,20 @@ fn put_session(out: &mut Object, letter: &Letter) {
     out.number("counter", heading.counter as u64);
     match &letter.owner {
         Some(owner) => {
-            out.number("fabric", owner.fabric as u64);
+            put_standing(out, owner.standing);
             put_node(out, owner.node);
             out.number("session", owner.session as u64)
         }
         None => out.number("session", heading.session as u64),
+    }
+}
+
+// The fabric for which a session is live, or why it is not.
+fn put_standing(out: &mut Object, standing: Standing) {
+    match standing {
+        Standing::Live(fabric) => out.number("fabric", fabric as u64),
+        Standing::Waits => out.text("standing", "waits"),
+        Standing::Ended => out.text("standing", "ended"),
     }
 }
 

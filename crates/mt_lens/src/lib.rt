@@ -1,16 +1,20 @@
 //! What happened on a node, told to people: a line of a recording and what came of it, in words or as an object of
-//! JSON. What is told is given; nothing here plays a recording or opens a datagram.
+//! JSON. Nothing here plays a recording: what came of a line is given.
 //!
+//! - `teller`: what is to be told of a line; `datagrams`: what stands in sealed datagrams;
 //! - `told`: what is told;
 //! - `page`: text that grows;
 //! - `fronts`: what stands at the front of a payload; `hearing`, `values`: answers and values, as they are read;
 //! - `telling`, `words`, `answers`, `word_values`: lines, requests, answers and values in words;
 //! - `json`, `json_messages`, `json_answers`, `json_values`, `json_objects`: the same as objects of JSON;
 //! - `places`: where a payload's first fault stands;
-//! - `shapes`: what the fields of a value are called.
+//! - `shapes`: what the fields of a value are called;
+//! - `faulty`: a line of a recording that is none, with what is wrong.
 #![tactic(auto)]
 
 mod answers;
+mod datagrams;
+mod faulty;
 mod fronts;
 mod hearing;
 mod json;
@@ -21,13 +25,16 @@ mod json_values;
 mod page;
 mod places;
 mod shapes;
+mod teller;
 mod telling;
 mod told;
 mod values;
 mod word_values;
 mod words;
 
+pub use faulty::show_faulty_line;
 pub use json::show_object;
 pub use page::Page;
+pub use teller::{Line, Teller};
 pub use telling::show_words;
-pub use told::{Content, Expiry, Heading, Letter, Message, Owner, Told};
+pub use told::Told;

@@ -9,7 +9,7 @@ use crate::words::{ITEM, MESSAGE, show_malformed, show_message_name, show_reques
 use mt_frame::ProtocolHeader;
 use mt_im::decode;
 use mt_model::opcode::STATUS_RESPONSE;
-use mt_model::{Event, To};
+use mt_model::{Auth, Event, Standing, To};
 use mt_outside::{Fate, Peer};
 
 /// The protocol of the interaction model, and the one of secure channels with its acknowledgement
@@ -303,13 +303,39 @@ fn show_session(page: &mut Page, letter: &Letter) {
 fn show_owner(page: &mut Page, owner: &Owner) {
     page.text(" on session ");
     page.number(owner.session as u64);
-    if owner.fabric == 0 {
-        return page.text(" of PASE");
+    if owner.auth == Auth::Pase {
+        show_pase(page, owner.fabric())
+    } else {
+        show_peer_node(page, owner.fabric(), owner.node)
     }
-    page.text(" of fabric ");
-    page.number(owner.fabric as u64);
-    page.text(", node ");
-    page.octets(&owner.node.to_be_bytes())
+    match owner.standing {
+        Standing::Live(_) => {}
+        Standing::Waits => page.text(", which waits for its fabric"),
+        Standing::Ended => page.text(", which has ended"),
+    }
+}
+
+// Who asks over a session of PASE, with the fabric that it has joined.
+fn show_pase(page: &mut Page, fabric: Option<u8>) {
+    page.text(" of PASE");
+    if let Some(fabric) = fabric {
+        if fabric != 0 {
+            page.text(" with fabric ");
+            page.number(fabric as u64);
+        }
+    }
+}
+
+// Who asks over a session of CASE, with the fabric for which it is live.
+fn show_peer_node(page: &mut Page, fabric: Option<u8>, node: u64) {
+    page.text(" of ");
+    if let Some(fabric) = fabric {
+        page.text("fabric ");
+        page.number(fabric as u64);
+        page.text(", ");
+    }
+    page.text("node ");
+    page.octets(&node.to_be_bytes())
 }
 
 fn show_header(page: &mut Page, header: &ProtocolHeader) {

@@ -2,7 +2,7 @@
 
 use mt_frame::ProtocolHeader;
 use mt_im::ImFault;
-use mt_model::{Event, Request, Sent};
+use mt_model::{Auth, Event, Request, Sent, Standing};
 
 /// A line of the recording and what came of it.
 #[derive(Drop)]
@@ -62,9 +62,21 @@ pub struct Message<'a> {
 pub struct Owner {
     /// The node's id of the session.
     pub session: u16,
-    /// The peer's fabric; 0 on PASE.
-    pub fabric: u8,
+    pub auth: Auth,
+    /// For which fabric it is live, if it is.
+    pub standing: Standing,
+    /// The peer's node id; 0 over PASE.
     pub node: u64,
+}
+
+impl Owner {
+    /// The fabric for which the session is live, 0 over PASE that has joined none; None where it is not live.
+    pub(crate) fn fabric(&self) -> Option<u8> {
+        match self.standing {
+            Standing::Live(fabric) => Some(fabric),
+            Standing::Waits | Standing::Ended => None,
+        }
+    }
 }
 
 /// What the header of a datagram names.
@@ -80,7 +92,7 @@ pub struct Heading {
 pub struct Letter {
     /// What its header names, where that can be read.
     pub heading: Option<Heading>,
-    /// Whose session that is, None where it is none of the configuration's.
+    /// Whose session that is, None where the node has none of this id.
     pub owner: Option<Owner>,
     /// How many bytes the datagram has.
     pub length: usize,

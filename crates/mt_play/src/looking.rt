@@ -11,7 +11,7 @@ ghost use Rattle.mt_whole.specs.Seeing.{mark_of, own_standing};
 ghost use Rattle.mt_play.specs.Plays.{IsPlaying};
 
 use crate::playing::Playing;
-use mt_model::{Armed, Event};
+use mt_model::{Armed, Event, NodeSession};
 use mt_whole::Mark;
 use std::alloc::AllocError;
 
@@ -43,6 +43,13 @@ impl Playing {
         ensures { (given : Environment) (w : Told) → IsPlaying self.now given w → result ≡ fabric_live w.state.node session }
     {
         self.whole.live(session)
+    }
+
+    /// The sessions of this boot.
+    pub fn sessions(&self) -> &[NodeSession]
+        ensures { (given : Environment) (w : Told) → IsPlaying self.now given w → result.now ≡ w.state.node.sessions }
+    {
+        self.whole.sessions()
     }
 
     /// The fail-safe, None exactly where nobody has armed it.

@@ -58,7 +58,7 @@ impl Playing {
     }
 
     /// Plans an event, None exactly where it is not built. It changes nothing, and takes all the memory.
-    pub(crate) fn plan(&self, event: &Event) -> Result<Option<WholeOutcome>, AllocError>
+    pub fn plan(&self, event: &Event) -> Result<Option<WholeOutcome>, AllocError>
         ensures built { IfOk result (λ outcome. is_some outcome ≡ is_built event.now) }
         ensures planned { IfOk result (λ outcome. IfSome outcome (IsPlanned self.now.whole.interactions.state self.now.whole.interactions.ledger)) }
         ensures plan { (given : Environment) (w : Told) → IsPlaying self.now given w → IfOk result (λ outcome. IfSome outcome (IsPlan given w event.now)) }
@@ -67,7 +67,7 @@ impl Playing {
     }
 
     /// Makes of the node what a planned event makes of it, and gives what is sent. It takes no memory, and cannot fail.
-    pub(crate) fn apply(&mut self, outcome: WholeOutcome) -> SentList
+    pub fn apply(&mut self, outcome: WholeOutcome) -> SentList
         requires { IsPlanned self.old.whole.interactions.state self.old.whole.interactions.ledger outcome }
         ensures { (given : Environment) (w : Told) (event : Line) → IsPlaying self.old given w → IsPlan given w event outcome → StepsTo given w event self.new result }
     {

@@ -75,7 +75,11 @@ impl Remembering {
         ensures { (given to_other : Environment) (w v : Told) → IsRemembering self.now given w → IsRemembering other.now to_other v
             → IfOk result (λ same. IsTrue same ↔ (own_part fabric w ≡ own_part fabric v)) }
     {
-        if !self.playing.whole.has_same_own(&other.playing.whole, fabric) {
+        if !self
+            .playing
+            .whole
+            .has_same_own(&other.playing.whole, fabric)
+        {
             return Ok(false);
         }
         let alloc = self.playing.alloc;

@@ -136,46 +136,37 @@ pub(crate) fn answered<V: Verdicts>(
             timed,
         } => {
             let asked = asked(whole.alloc, opcode, payload)?;
-            let (payloads, interactions) = whole
+            let (payloads, outcome) = whole
                 .interactions
                 .plan_over(id, &asked, timed, ms, verdicts)?;
-            Ok((
-                Some(answering_with(key, acknowledge, payloads)),
-                interactions,
-            ))
+            Ok((Some(answering_with(key, acknowledge, payloads)), outcome))
         },
         Heard::Confirms {
             key,
             acknowledge,
             subscription,
         } => {
-            let (payloads, interactions) = whole
+            let (payloads, outcome) = whole
                 .interactions
                 .plan_confirm(id, subscription, ms, verdicts)?;
-            Ok((
-                Some(answering_with(key, acknowledge, payloads)),
-                interactions,
-            ))
+            Ok((Some(answering_with(key, acknowledge, payloads)), outcome))
         },
         Heard::Ends {
             key,
             acknowledge,
             subscription,
         } => {
-            let interactions = ended(whole, id, subscription, ms, verdicts)?;
+            let outcome = ended(whole, id, subscription, ms, verdicts)?;
             let none = Payloads::new(whole.alloc);
-            Ok((Some(answering_with(key, acknowledge, none)), interactions))
+            Ok((Some(answering_with(key, acknowledge, none)), outcome))
         },
         Heard::Answers {
             key,
             acknowledge,
             payloads,
         } => {
-            let interactions = whole.interactions.pass(ms, verdicts)?;
-            Ok((
-                Some(answering_with(key, acknowledge, payloads)),
-                interactions,
-            ))
+            let outcome = whole.interactions.pass(ms, verdicts)?;
+            Ok((Some(answering_with(key, acknowledge, payloads)), outcome))
         },
     }
 }

@@ -32,14 +32,14 @@ returns-in_ok-payloads-in-Asks g c =
     let key = c.in-Asks.key in
     let acknowledge = c.in-Asks.acknowledge in
     let timed = c.in-Asks.timed in
-    let interactions = c.in_ok-payloads-in-Asks.interactions in
+    let outcome = c.in_ok-payloads-in-Asks.outcome in
     let payloads = c.in_ok-payloads-in-Asks.payloads in
     let asked = c.in_ok-asked-in-Asks.ensures.asks in
     let made = c.in_ok-payloads-in-Asks.ensures in
-    subst (λ (heard : Heard). IsAnswered given s l id ms (said_by heard) (Some c.answering_with.result, interactions)) (sym c.in-Asks.is)
-    (answered_with given s l id ms (asks key acknowledge c.in-Asks.opcode c.in-Asks.payload.now timed) key acknowledge payloads c.answering_with.result interactions c.answering_with.ensures
+    subst (λ (heard : Heard). IsAnswered given s l id ms (said_by heard) (Some c.answering_with.result, outcome)) (sym c.in-Asks.is)
+    (answered_with given s l id ms (asks key acknowledge c.in-Asks.opcode c.in-Asks.payload.now timed) key acknowledge payloads c.answering_with.result outcome c.answering_with.ensures
     (ap (answering key acknowledge) (made.payloads ∙ ap (payloads_over given s.node l id timed ms) asked))
-    (subst (λ (x : Result Request ImFault). IsDone given s l (acts (action_of (actor_on id) timed x)) ms interactions) asked made.outcome))
+    (subst (λ (x : Result Request ImFault). IsDone given s l (acts (action_of (actor_on id) timed x)) ms outcome) asked made.outcome))
 
 pub returns-in_ok-payloads-in-Confirms : goal.returns-in_ok-payloads-in-Confirms
 returns-in_ok-payloads-in-Confirms g c =
@@ -52,14 +52,14 @@ returns-in_ok-payloads-in-Confirms g c =
     let id = c.args.id in
     let key = c.in-Confirms.key in
     let acknowledge = c.in-Confirms.acknowledge in
-    let interactions = c.in_ok-payloads-in-Confirms.interactions in
+    let outcome = c.in_ok-payloads-in-Confirms.outcome in
     let made = c.in_ok-payloads-in-Confirms.ensures in
-    subst (λ (heard : Heard). IsAnswered given s l id ms (said_by heard) (Some c.answering_with-in-Confirms.result, interactions)) (sym c.in-Confirms.is)
-    (answered_with given s l id ms (confirms key acknowledge c.in-Confirms.subscription) key acknowledge c.in_ok-payloads-in-Confirms.payloads c.answering_with-in-Confirms.result interactions c.answering_with-in-Confirms.ensures
+    subst (λ (heard : Heard). IsAnswered given s l id ms (said_by heard) (Some c.answering_with-in-Confirms.result, outcome)) (sym c.in-Confirms.is)
+    (answered_with given s l id ms (confirms key acknowledge c.in-Confirms.subscription) key acknowledge c.in_ok-payloads-in-Confirms.payloads c.answering_with-in-Confirms.result outcome c.answering_with-in-Confirms.ensures
     (ap (answering key acknowledge) made.payloads) made.outcome)
 
-pub returns-in_ok-interactions-in-Ends : goal.returns-in_ok-interactions-in-Ends
-returns-in_ok-interactions-in-Ends g c =
+pub returns-in_ok-outcome-in-Ends : goal.returns-in_ok-outcome-in-Ends
+returns-in_ok-outcome-in-Ends g c =
     let verdicts = c.args.verdicts.now in
     let whole = c.args.whole.now in
     let given = given_to whole (g.V.Verdicts.roots verdicts) (g.V.Verdicts.csrs verdicts) (g.V.Verdicts.joins verdicts) in
@@ -69,13 +69,13 @@ returns-in_ok-interactions-in-Ends g c =
     let id = c.args.id in
     let key = c.in-Ends.key in
     let acknowledge = c.in-Ends.acknowledge in
-    let interactions = c.in_ok-interactions-in-Ends.interactions in
-    subst (λ (heard : Heard). IsAnswered given s l id ms (said_by heard) (Some c.answering_with-in-Ends.result, interactions)) (sym c.in-Ends.is)
-    (answered_with given s l id ms (ends key acknowledge c.in-Ends.subscription) key acknowledge c.new-none.result c.answering_with-in-Ends.result interactions c.answering_with-in-Ends.ensures
-    (ap (answering key acknowledge) c.new-none.ensures) c.in_ok-interactions-in-Ends.ensures)
+    let outcome = c.in_ok-outcome-in-Ends.outcome in
+    subst (λ (heard : Heard). IsAnswered given s l id ms (said_by heard) (Some c.answering_with-in-Ends.result, outcome)) (sym c.in-Ends.is)
+    (answered_with given s l id ms (ends key acknowledge c.in-Ends.subscription) key acknowledge c.new-none.result c.answering_with-in-Ends.result outcome c.answering_with-in-Ends.ensures
+    (ap (answering key acknowledge) c.new-none.ensures) c.in_ok-outcome-in-Ends.ensures)
 
-pub returns-in_ok-interactions-in-Answers : goal.returns-in_ok-interactions-in-Answers
-returns-in_ok-interactions-in-Answers g c =
+pub returns-in_ok-outcome-in-Answers : goal.returns-in_ok-outcome-in-Answers
+returns-in_ok-outcome-in-Answers g c =
     let verdicts = c.args.verdicts.now in
     let whole = c.args.whole.now in
     let given = given_to whole (g.V.Verdicts.roots verdicts) (g.V.Verdicts.csrs verdicts) (g.V.Verdicts.joins verdicts) in
@@ -86,6 +86,6 @@ returns-in_ok-interactions-in-Answers g c =
     let key = c.in-Answers.key in
     let acknowledge = c.in-Answers.acknowledge in
     let payloads = c.in-Answers.payloads in
-    let interactions = c.in_ok-interactions-in-Answers.interactions in
-    subst (λ (heard : Heard). IsAnswered given s l id ms (said_by heard) (Some c.answering_with-in-Answers.result, interactions)) (sym c.in-Answers.is)
-    (answered_with given s l id ms (answers key acknowledge payloads) key acknowledge payloads c.answering_with-in-Answers.result interactions c.answering_with-in-Answers.ensures refl c.in_ok-interactions-in-Answers.ensures)
+    let outcome = c.in_ok-outcome-in-Answers.outcome in
+    subst (λ (heard : Heard). IsAnswered given s l id ms (said_by heard) (Some c.answering_with-in-Answers.result, outcome)) (sym c.in-Answers.is)
+    (answered_with given s l id ms (answers key acknowledge payloads) key acknowledge payloads c.answering_with-in-Answers.result outcome c.answering_with-in-Answers.ensures refl c.in_ok-outcome-in-Answers.ensures)

@@ -1,21 +1,17 @@
-use Rattle.std.proofs.Common.{◌≡◌, ℕ, List, None, Ok, Option, Some, ap, refl, subst, sym, true, unwrap_or, ◌∙◌}
+use Rattle.std.proofs.Common.{◌≡◌, ℕ, List, None, Ok, Option, Some, ap, refl, subst, sym, unwrap_or, ◌∙◌}
 use Rattle.mt_im_out.specs.Chunks.{chunks_of}
-use Rattle.mt_model.specs.declared.messages.message.Payload.{Payload}
 use Rattle.mt_model.specs.declared.messages.message.Reply.{Reply}
-use Rattle.mt_model.specs.declared.node.action.Action.TheVariants.{Ask, Nothing}
+use Rattle.mt_model.specs.declared.node.action.Action.TheVariants.{Ask}
 use Rattle.mt_model.specs.declared.node.action.PlainDeadline.{PlainDeadline}
-use Rattle.mt_model.specs.declared.node.state.NodeState.{NodeState}
 use Rattle.mt_model.specs.declared.tables.access.Actor.{Actor}
-use Rattle.mt_machine.specs.Environment.{Environment}
 use Rattle.mt_machine.specs.Step.{asker}
 use Rattle.mt_ledger.specs.Behind.{acts}
 use Rattle.mt_runs.specs.Datagrams.{actor_on, dated, deadline_set}
 use Rattle.mt_node.specs.Plan.{IsPlan}
 use Rattle.mt_interactions.specs.Configured.{ConfiguredInteractions, given_to}
 use Rattle.mt_interactions.specs.Plan.{IsDone, left_without}
-use Rattle.mt_interactions.specs.Recording.{may_record}
 use Rattle.mt_interactions.specs.declared.outcome.InteractionOutcome.{InteractionOutcome}
-use Rattle.mt_interactions.proofs.Planned.{asked_over, if_ok, nobody_over, nobody_replied, replied}
+use Rattle.mt_interactions.proofs.Planned.{asked_over, nobody_over, nobody_replied, replied}
 use Rattle.mt_interactions.proofs.interactions.Interactions.answer_over.Goals as goal
 
 pub returns-in_default-clause-outcome : goal.returns-in_default-clause-outcome

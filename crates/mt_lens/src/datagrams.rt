@@ -1,29 +1,33 @@
-//! What stands in sealed datagrams, opened with the keys of the configuration's sessions.
+//! What stands in sealed datagrams, opened with the keys that the configuration has for the sessions of the node. Whose a
+//! session is, the node itself says, line by line.
 
 ghost use Rattle.std.specs.Prelude.{◌≡◌, IfOk};
 
+use crate::told::{Content, Heading, Letter, Owner};
 use mt_frame::{FrameFault, read_message};
-use mt_lens::{Content, Heading, Letter, Owner};
-use mt_model::{Auth, Config, ExactCopy, Fabric, SessionRow};
+use mt_model::{Auth, Config, ExactCopy, NodeSession, SessionRow};
 use mt_session::{Dropped, Session};
 use std::alloc::{AllocError, Global};
 
 /// The most bytes that a session opens.
 const OPENED: usize = 65_535;
 
-/// Why a datagram is not opened whose session is not known.
-const NO_SESSION: &str = "no session of the configuration has its id";
+/// The boot that a recording plays: a node begins in its first, and no line that is supported begins another.
+const BOOT: u32 = 1;
 
-/// A session of the configuration, once as the node has it, and once as its peer does.
+/// Why a datagram is not opened whose session is not known.
+const NO_SESSION: &str = "no session of this boot has its id";
+
+/// A session, once as the node has it, and once as its peer does.
 #[derive(Drop)]
 struct Keyed {
-    owner: Owner,
-    peer_session: u16,
+    /// The node's id of it, which no other session of the boot has; two peers may have chosen one id.
+    session: u16,
     received: Session,
     sent: Session,
 }
 
-/// The sessions of a configuration.
+/// The keys of the sessions of the boot that is played.
 pub(crate) struct Sessions {
     alloc: Global,
     sessions: Vec<Keyed>,
@@ -42,54 +46,71 @@ impl Sessions {
     pub(crate) fn of(alloc: Global, config: &Config) -> Result<Sessions, AllocError> {
         let mut sessions = Vec::new(alloc);
         for row in config.sessions.as_slice() {
-            if let Some(keyed) = with_keys(row, fabric_of(row, config.fabrics.as_slice()))? {
+            if let Some(keyed) = with_keys(row)? {
                 sessions.push(keyed)?;
             }
         }
         Ok(Sessions { alloc, sessions })
     }
 
-    /// Whose session it is that the node has under this id.
-    pub(crate) fn owner(&self, session: u16) -> Option<Owner> {
-        for keyed in &self.sessions {
-            if keyed.owner.session == session {
-                return Some(keyed.owner);
-            }
-        }
-        None
-    }
-
-    /// Opens a datagram that the node received.
-    pub(crate) fn open_received(&mut self, datagram: &[u8]) -> Result<Letter, AllocError> {
+    /// Opens a datagram that a node with these sessions receives.
+    pub(crate) fn open_received(
+        &mut self,
+        sessions: &[NodeSession],
+        datagram: &[u8],
+    ) -> Result<Letter, AllocError> {
         let heading = match heading_of(datagram) {
             Ok(heading) => heading,
             Err(fault) => return Ok(unread(datagram.len(), fault)),
         };
+        let owner = owner(sessions, heading.session);
         for i in 0..self.sessions.len() {
             let keyed = &mut self.sessions[i];
-            if keyed.owner.session == heading.session {
+            if keyed.session == heading.session {
                 let content = opened(self.alloc, &mut keyed.received, datagram)?;
-                return Ok(letter(heading, Some(keyed.owner), datagram.len(), content));
+                return Ok(letter(heading, owner, datagram.len(), content));
             }
         }
-        Ok(letter(heading, None, datagram.len(), Content::Closed(NO_SESSION)))
+        Ok(letter(heading, owner, datagram.len(), Content::Closed(NO_SESSION)))
     }
 
-    /// Opens a datagram that the node sent.
-    pub(crate) fn open_sent(&mut self, datagram: &[u8]) -> Result<Letter, AllocError> {
+    /// Opens a datagram that a node with these sessions sends over one of them. The header names that by the peer's id,
+    /// which another session may have too.
+    pub(crate) fn open_sent(
+        &mut self,
+        sessions: &[NodeSession],
+        session: u16,
+        datagram: &[u8],
+    ) -> Result<Letter, AllocError> {
         let heading = match heading_of(datagram) {
             Ok(heading) => heading,
             Err(fault) => return Ok(unread(datagram.len(), fault)),
         };
+        let owner = owner(sessions, session);
         for i in 0..self.sessions.len() {
             let keyed = &mut self.sessions[i];
-            if keyed.peer_session == heading.session {
+            if keyed.session == session {
                 let content = opened(self.alloc, &mut keyed.sent, datagram)?;
-                return Ok(letter(heading, Some(keyed.owner), datagram.len(), content));
+                return Ok(letter(heading, owner, datagram.len(), content));
             }
         }
-        Ok(letter(heading, None, datagram.len(), Content::Closed(NO_SESSION)))
+        Ok(letter(heading, owner, datagram.len(), Content::Closed(NO_SESSION)))
     }
+}
+
+// Whose session it is that a node has under this id.
+fn owner(sessions: &[NodeSession], id: u16) -> Option<Owner> {
+    for session in sessions {
+        if session.session == id {
+            return Some(Owner {
+                session: id,
+                auth: session.auth,
+                standing: session.standing,
+                node: session.peer_node,
+            });
+        }
+    }
+    None
 }
 
 // What the header of a datagram names.
@@ -122,20 +143,18 @@ fn unread(length: usize, fault: FrameFault) -> Letter {
     }
 }
 
-// A session, where it is one of unicast.
-fn with_keys(row: &SessionRow, fabric: u8) -> Result<Option<Keyed>, AllocError> {
+// A session, where it is one of unicast and of the boot that is played.
+fn with_keys(row: &SessionRow) -> Result<Option<Keyed>, AllocError> {
+    if row.boot != BOOT {
+        return Ok(None);
+    }
     if row.session == 0 || row.peer_session == 0 || row.auth == Auth::Group {
         return Ok(None);
     }
     let own = row.copy()?;
     let peer = mirrored(row)?;
     Ok(Some(Keyed {
-        owner: Owner {
-            session: row.session,
-            fabric,
-            node: row.peer_node,
-        },
-        peer_session: row.peer_session,
+        session: row.session,
         received: Session::new(own),
         sent: Session::new(peer),
     }))
@@ -162,16 +181,6 @@ fn mirrored(row: &SessionRow) -> Result<SessionRow, AllocError>
         counter_in: row.counter_out,
         counter_out: row.counter_in,
     })
-}
-
-// The fabric of a session, 0 where it is on none of the configuration's.
-fn fabric_of(row: &SessionRow, fabrics: &[Fabric]) -> u8 {
-    for fabric in fabrics {
-        if fabric.has_identity(row.root_key.as_slice(), row.fabric_id) {
-            return fabric.index;
-        }
-    }
-    0
 }
 
 // What a session lets in of a datagram.

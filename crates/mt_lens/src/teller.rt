@@ -1,0 +1,188 @@
+//! What is to be told of a run, line by line: of all of it, or of what one fabric asked and was sent.
+
+ghost use Rattle.std.specs.Prelude.{◌≡◌, IfOk, IfSome};
+
+use crate::datagrams::Sessions;
+use crate::told::{Expiry, Letter, Message, Told};
+use mt_im::{ImFault, decode};
+use mt_model::{Armed, Config, Event, NodeSession, Request, Sent, To};
+use std::alloc::{AllocError, Global};
+
+/// A line of a recording as a node plays it.
+#[derive(Clone, Copy)]
+pub struct Line<'a> {
+    /// Its number, from 1.
+    pub number: u64,
+    pub event: &'a Event,
+    /// The sessions of the node's boot, as the line begins.
+    pub sessions: &'a [NodeSession],
+    /// The fail-safe as the line begins, None where nobody has armed it.
+    pub armed: Option<&'a Armed>,
+    /// What was sent. None where the node does not support the line yet.
+    pub sent: Option<&'a [Sent]>,
+}
+
+/// What is asked of a run, and what opens its datagrams. It is told of each line once, in their order.
+pub struct Teller {
+    alloc: Global,
+    sessions: Sessions,
+    /// The one fabric that is shown, None where all are.
+    fabric: Option<u8>,
+}
+
+impl Drop for Teller {
+    fn drop(self) {
+        let Teller {
+            alloc: _,
+            sessions: _,
+            fabric: _,
+        } = self;
+    }
+}
+
+impl Teller {
+    /// A teller of a run with this configuration, which tells of the one fabric, or of all where none is given.
+    pub fn new(alloc: Global, config: &Config, fabric: Option<u8>) -> Result<Teller, AllocError>
+        ensures fabric { IfOk result (λ teller. teller.fabric ≡ fabric) }
+    {
+        Ok(Teller {
+            alloc,
+            sessions: Sessions::of(alloc, config)?,
+            fabric,
+        })
+    }
+
+    /// What is to be told of the next line, None where nothing of it is to be shown.
+    pub fn told<'a>(&mut self, line: &Line<'a>) -> Result<Option<Told<'a>>, AllocError>
+        ensures fabric { self.new.fabric ≡ self.old.fabric }
+        ensures line { IfOk result (IfSome (λ told. told.line ≡ line.now.number)) }
+    {
+        let letter = self.letter_of(line)?;
+        let is_wanted = self.fabric.is_none() || self.is_wanted(asker(line.event, &letter));
+        let sent = match line.sent {
+            Some(sent) => Some(self.messages(line.sessions, sent, is_wanted)?),
+            None => None,
+        };
+        if !is_wanted && !has_messages(&sent) {
+            return Ok(None);
+        }
+        Ok(Some(Told {
+            line: line.number,
+            event: line.event,
+            asked: asked(self.alloc, line.event),
+            letter,
+            expiry: expiry(line),
+            sent,
+        }))
+    }
+
+    // What stands in the datagram of a line.
+    fn letter_of(&mut self, line: &Line<'_>) -> Result<Option<Letter>, AllocError>
+        ensures { self.new.fabric ≡ self.old.fabric }
+    {
+        match line.event {
+            Event::Datagram { bytes, .. } => {
+                let letter = self
+                    .sessions
+                    .open_received(line.sessions, bytes.as_slice())?;
+                Ok(Some(letter))
+            }
+            _ => Ok(None),
+        }
+    }
+
+    // The messages that are to be shown: of a line that is wanted all, and those to the wanted fabric. What is asked
+    // over PASE may be answered to the fabric that PASE has joined since.
+    fn messages<'a>(
+        &mut self,
+        sessions: &[NodeSession],
+        sent: &'a [Sent],
+        is_wanted: bool,
+    ) -> Result<Vec<Message<'a>>, AllocError>
+        ensures { self.new.fabric ≡ self.old.fabric }
+    {
+        let mut messages = Vec::new(self.alloc);
+        for message in sent {
+            let letter = match message.to {
+                To::Session { session, .. } => {
+                    let datagram = message.bytes.as_slice();
+                    Some(self.sessions.open_sent(sessions, session, datagram)?)
+                }
+                To::Plain { .. } => None,
+            };
+            if is_wanted || self.is_wanted(receiver(&message.to, &letter)) {
+                messages.push(Message {
+                    sent: message,
+                    letter,
+                })?;
+            }
+        }
+        Ok(messages)
+    }
+
+    // Whether it is the one fabric that is shown.
+    fn is_wanted(&self, fabric: Option<u8>) -> bool {
+        match (self.fabric, fabric) {
+            (Some(wanted), Some(fabric)) => wanted == fabric,
+            _ => false,
+        }
+    }
+}
+
+// What an expiry takes back, where a time step lets the fail-safe expire, which is at its end.
+fn expiry(line: &Line<'_>) -> Option<Expiry> {
+    let Event::Tick { ms } = line.event else {
+        return None;
+    };
+    let armed = line.armed?;
+    if *ms < armed.until {
+        return None;
+    }
+    Some(Expiry {
+        added: armed.added,
+        updated: armed.updated,
+    })
+}
+
+// What a line of a plain actor asks.
+fn asked(alloc: Global, event: &Event) -> Option<Result<Request, ImFault>> {
+    match event {
+        Event::Ask {
+            opcode,
+            payload,
+            ..
+        } => Some(decode(alloc, *opcode, payload.as_slice())),
+        _ => None,
+    }
+}
+
+// Whether anything that was sent is to be shown.
+fn has_messages(sent: &Option<Vec<Message<'_>>>) -> bool {
+    match sent {
+        Some(messages) => !messages.is_empty(),
+        None => false,
+    }
+}
+
+// The fabric that asks in a line, None where no fabric does.
+fn asker(event: &Event, letter: &Option<Letter>) -> Option<u8> {
+    match event {
+        Event::Ask { fabric, .. } | Event::Report { fabric, .. } => Some(*fabric),
+        Event::Datagram { .. } => fabric_of(letter),
+        _ => None,
+    }
+}
+
+// The fabric to which a message goes, None where it goes to none.
+fn receiver(to: &To, letter: &Option<Letter>) -> Option<u8> {
+    match to {
+        To::Plain { fabric, .. } => Some(*fabric),
+        To::Session { .. } => fabric_of(letter),
+    }
+}
+
+// The fabric for which the session of a datagram is live.
+fn fabric_of(letter: &Option<Letter>) -> Option<u8> {
+    let owner = letter.as_ref()?.owner?;
+    owner.fabric()
+}
