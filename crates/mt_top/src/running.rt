@@ -44,7 +44,13 @@ pub fn run<C: Source, A: Source, B: Source, W: Sink>(
         (moment (input (C.left config.old) (C.faults config.old)) (input (A.left first.old) (A.faults first.old)) (input (B.left second.old) (B.faults second.old)) (W.written out.old) (W.faults out.old))
         (moment (input (C.left config.new) (C.faults config.new)) (input (A.left first.new) (A.faults first.new)) (input (B.left second.new) (B.faults second.new)) (W.written out.new) (W.faults out.new)) }
 {
-    run_watched(alloc, words, config, Streams { first, second, out }, &mut Unwatched)
+    run_watched(
+        alloc,
+        words,
+        config,
+        Streams { first, second, out },
+        &mut Unwatched,
+    )
 }
 
 /// The same, with the recordings and the output in one, and tells `progress` how far a soak is.
