@@ -2,7 +2,7 @@
 #![tactic(auto)]
 
 use mt_os::{ReaderSource, TerminalProgress, WriterSink};
-use mt_top::{Progress, Streams, files_of, run_watched};
+use mt_top::{Progress, files_of, run_watched};
 use std::fs::File;
 use std::process::ExitCode;
 use std::rt::Env;
@@ -43,11 +43,9 @@ fn main(rt: HostRuntime) -> ExitCode {
         rt.alloc(),
         &words,
         &mut config,
-        Streams {
-            first: &mut first,
-            second: &mut second,
-            out: &mut out,
-        },
+        &mut first,
+        &mut second,
+        &mut out,
         &mut terminal,
     ))
 }
