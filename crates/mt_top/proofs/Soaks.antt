@@ -1,5 +1,5 @@
 -- Events made from a number, one after the other.
-use Rattle.std.proofs.Common.{◌≡◌, ◌≤◌, ℕ, ◌+◌, Bool, true, cond, leb-true, length, List, [], ◌∷◌, ◌++◌, refl, ap, ◌∙◌}
+use Rattle.std.proofs.Common.{◌≡◌, ◌≤◌, ℕ, ◌+◌, Bool, true, false, cond, leb-true, length, List, [], ◌∷◌, ◌++◌, refl, sym, ap, append_assoc, ◌∙◌}
 use Rattle.std.proofs.lemmas.Bool.{and_parts}
 use Rattle.std.proofs.lemmas.List.{append-nil}
 use Rattle.mt_model.specs.declared.tables.fabric.Fabric.{Fabric}
@@ -12,7 +12,7 @@ use Rattle.mt_soak.specs.Generated.{State, event_of, events_from, is_played}
 use Rattle.mt_soak.specs.Generated as generated
 use Rattle.mt_soak.specs.Summary.{IsTallyOf}
 use Rattle.mt_soak.specs.declared.tally.Tally.{Tally}
-use Rattle.mt_top.specs.Begun.{Begun, Plays, behind, sent_by}
+use Rattle.mt_top.specs.Begun.{Begun, behind, Plays, sent_by, TellsIf}
 use Rattle.mt_play.specs.declared.playing.Playing.{Playing}
 use Rattle.mt_top.proofs.Plays.{sent_of}
 
@@ -41,6 +41,20 @@ soak_step s state left built first =
   where
     if_built : Bool → List Sent
     if_built t = cond t (sent_by s (event_of state) ++ sent_of (behind s (event_of state)) (events_from (generated.behind state) left)) []
+
+-- one event more was told
+pub soak_on : (begun : Begun) (all : List Event) (old new : Playing) (tally after : Tally) (state : State) (left : ℕ) (told : Bool) → is_played (event_of state) ≡ true
+    → events_from state (left + 1) ≡ event_of state ∷ events_from (generated.behind state) left
+    → (h : Soaking begun all old tally state (left + 1)) → TellsIf h.at h.told new after (event_of state) told → Soaking begun all new after (generated.behind state) left
+soak_on begun all old new tally after state left false played first h tells = absurd (let clash : true ≡ false = sym (played_is_built (event_of state) played) ∙ tells in cc)
+soak_on begun all old new tally after state left true played first h tells = record {
+  told = h.told ++ sent_by h.at (event_of state);
+  at = behind h.at (event_of state);
+  stands = tells.2;
+  tallied = tells.1;
+  sent = h.sent ∙ ap (λ (w : List Sent). h.told ++ w) (soak_step h.at state left (played_is_built (event_of state) played) first)
+      ∙ sym (append_assoc h.told (sent_by h.at (event_of state)) (sent_of (behind h.at (event_of state)) (events_from (generated.behind state) left)));
+}
 
 -- no event is left
 pub soak_end : (begun : Begun) (all : List Event) (player : Playing) (tally : Tally) (state : State) (h : Soaking begun all player tally state 0) → sent_of begun all ≡ h.told

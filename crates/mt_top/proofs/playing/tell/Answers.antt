@@ -12,4 +12,4 @@ pub returns : goal.returns
 returns c begun before is tallied =
     let steps = subst (λ (o : Option (List Sent)). IfSome o (StepsTo begun.given begun.whole c.args.event.now c.step.new.self)) c.in-Some.is (c.in_ok-sent.ensures.steps begun.given begun.whole is) in
     let tally = subst (λ (m : List Sent). IsTallyOf c.note.new.self (before ++ m)) (c.as_slice.ensures ∙ steps.sent) (c.in_ok-note.ensures.ok before tallied) in
-    (sym c.in_ok-sent.ensures.built ∙ ap is_some c.in-Some.is, (tally, steps.stands))
+    (sym c.in_ok-sent.ensures.built ∙ ap is_some c.in-Some.is, tally, steps.stands)
