@@ -14,18 +14,18 @@ type FileJournal = Journal<FileDisk, TestForm>;
 
 /// Makes a journal on a new file, changes it, opens it anew twice, and takes the file away again.
 pub(crate) fn play(rt: &HostRuntime, page: &mut Page) -> io::Result<()> {
-    let Some(mut journal) = opened(rt, page)? else {
+    let Some(mut journal) = opened(rt, page) else {
         return Ok(());
     };
     add_done(page, switched(&mut journal, &[0x16, 0x01]));
     add_done(page, appended(&mut journal, &[0x17, 0x02]));
     add_done(page, appended(&mut journal, &[0x17, 0x03, 0x04]));
-    let Some(mut journal) = opened(rt, page)? else {
+    let Some(mut journal) = opened(rt, page) else {
         return Ok(());
     };
     add_done(page, switched(&mut journal, &[0x16, 0x05]));
     add_done(page, appended(&mut journal, &[0x17, 0x06]));
-    if opened(rt, page)?.is_some() {
+    if opened(rt, page).is_some() {
         add_file(rt, page)?;
     }
     remove_file(rt, "journal")?;
@@ -45,10 +45,10 @@ fn add_absent(rt: &HostRuntime, page: &mut Page) {
 }
 
 // A journal on the file, opened anew, and tells its list.
-fn opened(rt: &HostRuntime, page: &mut Page) -> io::Result<Option<FileJournal>> {
+fn opened(rt: &HostRuntime, page: &mut Page) -> Option<FileJournal> {
     let Ok((journal, list)) = Journal::recover(rt.alloc(), FileDisk::open(rt, "journal")) else {
         page.line("no journal");
-        return Ok(None);
+        return None;
     };
     page.add("list");
     for item in &list {
@@ -56,7 +56,7 @@ fn opened(rt: &HostRuntime, page: &mut Page) -> io::Result<Option<FileJournal>> 
         page.add_hex(item.as_slice());
     }
     page.end_line();
-    Ok(Some(journal))
+    Some(journal)
 }
 
 fn add_done(page: &mut Page, outcome: Outcome) {
