@@ -11,7 +11,6 @@
 
 mod comparing;
 mod isolation;
-mod progress;
 mod replaying;
 mod running;
 mod soaking;
@@ -20,7 +19,6 @@ mod streams;
 pub use isolation::{comparisons_are_exact, denials_are_exact, runs_are_isolated};
 pub use mt_soak::Generator;
 pub use mt_words::{BadWords, Files, files_of};
-pub use progress::{Progress, Unwatched};
 pub use replaying::replay_with;
 pub use running::{run, run_watched};
 pub use streams::Streams;

@@ -11,13 +11,12 @@ ghost use Rattle.mt_top.specs.Runs.{IsRun};
 
 use crate::comparing::compare_with;
 use crate::isolation::{comparisons_are_exact, denials_are_exact, runs_are_isolated};
-use crate::progress::{Progress, Unwatched};
 use crate::replaying::replay_with;
 use crate::soaking::soak_with;
 use crate::streams::Streams;
 use mt_endings::{endings_add_up, finish, read_configuration, tell_bad_words, tell_memory};
 use mt_model::Config;
-use mt_outside::{Sink, Source};
+use mt_outside::{Progress, Sink, Source, Unwatched};
 use mt_words::{Asked, WordsFault, asked_of};
 use std::alloc::Global;
 
@@ -44,7 +43,13 @@ pub fn run<C: Source, A: Source, B: Source, W: Sink>(
         (moment (input (C.left config.old) (C.faults config.old)) (input (A.left first.old) (A.faults first.old)) (input (B.left second.old) (B.faults second.old)) (W.written out.old) (W.faults out.old))
         (moment (input (C.left config.new) (C.faults config.new)) (input (A.left first.new) (A.faults first.new)) (input (B.left second.new) (B.faults second.new)) (W.written out.new) (W.faults out.new)) }
 {
-    run_watched(alloc, words, config, Streams { first, second, out }, &mut Unwatched)
+    run_watched(
+        alloc,
+        words,
+        config,
+        Streams { first, second, out },
+        &mut Unwatched,
+    )
 }
 
 /// The same, with the recordings and the output in one, and tells `progress` how far a soak is.
