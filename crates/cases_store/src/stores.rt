@@ -1,4 +1,4 @@
-//! One store or one keeper, call by call. A case is the bytes of a file in hex, `-` for none, or `keeper:2,5` for a keeper
+//! One store or one keeper, call by call. A case is the bytes of a file in hex, `-` for none, behind `5:` if the fifth call of its disk fails, or `keeper:2,5` for a keeper
 //! whose calls 2 and 5 fail, and then what is done, a word each:
 //!
 //! - `k07=3:ab+k08=`: a change that puts three octets ab under the key 07, and takes away what stands under 08;
