@@ -27,7 +27,7 @@ pub struct Teller {
     alloc: Global,
     sessions: Sessions,
     /// The one fabric that is shown, None where all are.
-    fabric: Option<u8>,
+    pub fabric: Option<u8>,
 }
 
 impl Drop for Teller {
@@ -43,7 +43,7 @@ impl Drop for Teller {
 impl Teller {
     /// A teller of a run with this configuration, which tells of the one fabric, or of all where none is given.
     pub fn new(alloc: Global, config: &Config, fabric: Option<u8>) -> Result<Teller, AllocError>
-        ensures fabric { IfOk result (λ teller. teller.fabric ≡ fabric) }
+        ensures wanted { IfOk result (λ teller. teller.fabric ≡ fabric) }
     {
         Ok(Teller {
             alloc,
@@ -54,13 +54,18 @@ impl Teller {
 
     /// What is to be told of the next line, None where nothing of it is to be shown.
     pub fn told<'a>(&mut self, line: &Line<'a>) -> Result<Option<Told<'a>>, AllocError>
-        ensures fabric { self.new.fabric ≡ self.old.fabric }
-        ensures line { IfOk result (IfSome (λ told. told.line ≡ line.now.number)) }
+        ensures wanted { self.new.fabric ≡ self.old.fabric }
+        ensures number { IfOk result (λ told. IfSome told (λ it. it.line ≡ line.now.number)) }
     {
-        let letter = self.letter_of(line)?;
-        let is_wanted = self.fabric.is_none() || self.is_wanted(asker(line.event, &letter));
+        let letter = letter_of(&mut self.sessions, line)?;
+        let is_wanted = is_shown(self.fabric, asker(line.event, &letter));
+        // Of a line that is wanted all messages are: what PASE asks may be answered to the fabric that it has joined.
+        let to = if is_wanted { None } else { self.fabric };
         let sent = match line.sent {
-            Some(sent) => Some(self.messages(line.sessions, sent, is_wanted)?),
+            Some(sent) => {
+                let sessions = &mut self.sessions;
+                Some(messages(self.alloc, sessions, line.sessions, sent, to)?)
+            }
             None => None,
         };
         if !is_wanted && !has_messages(&sent) {
@@ -75,58 +80,49 @@ impl Teller {
             sent,
         }))
     }
+}
 
-    // What stands in the datagram of a line.
-    fn letter_of(&mut self, line: &Line<'_>) -> Result<Option<Letter>, AllocError>
-        ensures { self.new.fabric ≡ self.old.fabric }
-    {
-        match line.event {
-            Event::Datagram { bytes, .. } => {
-                let letter = self
-                    .sessions
-                    .open_received(line.sessions, bytes.as_slice())?;
-                Ok(Some(letter))
+// What stands in the datagram of a line.
+fn letter_of(keys: &mut Sessions, line: &Line<'_>) -> Result<Option<Letter>, AllocError> {
+    match line.event {
+        Event::Datagram { bytes, .. } => {
+            let letter = keys.open_received(line.sessions, bytes.as_slice())?;
+            Ok(Some(letter))
+        }
+        _ => Ok(None),
+    }
+}
+
+// The messages that are to be shown: all, or those to one fabric. Each is opened, since its session is to know of it.
+fn messages<'a>(
+    alloc: Global,
+    keys: &mut Sessions,
+    sessions: &[NodeSession],
+    sent: &'a [Sent],
+    fabric: Option<u8>,
+) -> Result<Vec<Message<'a>>, AllocError> {
+    let mut messages = Vec::new(alloc);
+    for message in sent {
+        let letter = match message.to {
+            To::Session { session, .. } => {
+                let datagram = message.bytes.as_slice();
+                Some(keys.open_sent(sessions, session, datagram)?)
             }
-            _ => Ok(None),
+            To::Plain { .. } => None,
+        };
+        if is_shown(fabric, receiver(&message.to, &letter)) {
+            messages.push(Message {
+                sent: message,
+                letter,
+            })?;
         }
     }
+    Ok(messages)
+}
 
-    // The messages that are to be shown: of a line that is wanted all, and those to the wanted fabric. What is asked
-    // over PASE may be answered to the fabric that PASE has joined since.
-    fn messages<'a>(
-        &mut self,
-        sessions: &[NodeSession],
-        sent: &'a [Sent],
-        is_wanted: bool,
-    ) -> Result<Vec<Message<'a>>, AllocError>
-        ensures { self.new.fabric ≡ self.old.fabric }
-    {
-        let mut messages = Vec::new(self.alloc);
-        for message in sent {
-            let letter = match message.to {
-                To::Session { session, .. } => {
-                    let datagram = message.bytes.as_slice();
-                    Some(self.sessions.open_sent(sessions, session, datagram)?)
-                }
-                To::Plain { .. } => None,
-            };
-            if is_wanted || self.is_wanted(receiver(&message.to, &letter)) {
-                messages.push(Message {
-                    sent: message,
-                    letter,
-                })?;
-            }
-        }
-        Ok(messages)
-    }
-
-    // Whether it is the one fabric that is shown.
-    fn is_wanted(&self, fabric: Option<u8>) -> bool {
-        match (self.fabric, fabric) {
-            (Some(wanted), Some(fabric)) => wanted == fabric,
-            _ => false,
-        }
-    }
+// Whether what is a fabric's is shown where this one is wanted, or all are where none is.
+fn is_shown(wanted: Option<u8>, fabric: Option<u8>) -> bool {
+    wanted.is_none() || wanted == fabric
 }
 
 // What an expiry takes back, where a time step lets the fail-safe expire, which is at its end.
