@@ -24,11 +24,7 @@ pub(crate) enum Passed {
 }
 
 /// Makes of the node what an event makes of it, and tells what that is for a fabric.
-pub(crate) fn pass(
-    node: &mut Remembering,
-    fabric: u8,
-    event: &Event,
-) -> Result<Passed, AllocError>
+pub(crate) fn pass(node: &mut Remembering, fabric: u8, event: &Event) -> Result<Passed, AllocError>
     ensures { (given : Environment) (w : Told) → IsRemembering node.old given w → IfOk result (PassesTo given fabric w event.now node.new) }
 {
     let was = node.playing().has(fabric);
