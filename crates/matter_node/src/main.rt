@@ -2,7 +2,7 @@
 #![tactic(auto)]
 
 use mt_os::{ReaderSource, TerminalProgress, WriterSink};
-use mt_top::{Streams, files_of, run_watched};
+use mt_top::{files_of, run_watched};
 use std::fs::File;
 use std::process::ExitCode;
 use std::rt::Env;
@@ -33,11 +33,9 @@ fn main(rt: HostRuntime) -> ExitCode {
         rt.alloc(),
         &words,
         &mut config,
-        Streams {
-            first: &mut first,
-            second: &mut second,
-            out: &mut out,
-        },
+        &mut first,
+        &mut second,
+        &mut out,
         &mut terminal,
     ))
 }

@@ -23,3 +23,13 @@ is_marked fabric w event found mark is told =
       | inl sees ↦ (sees, some_same (seen_in mark) (seen event (public_part fabric w)) (some ∙ by true sees))
       | inr passes ↦ absurd (let clash : Some (seen_in mark) ≡ None = some ∙ by false passes in cc)
     ]
+
+pub is_unmarked : (fabric : ℕ) (w : Whole) (event : Event) (found : Option code.Mark) → found ≡ None → option_map seen_in found ≡ mark_of fabric w event → is_seen fabric w event ≡ false
+is_unmarked fabric w event found is told =
+    let none : None ≡ mark_of fabric w event = sym (ap (option_map seen_in) is) ∙ told in
+    let by : (b : Bool) → is_seen fabric w event ≡ b → mark_of fabric w event ≡ (if b then Some (seen event (public_part fabric w)) else None) =
+    λ b same. ap (λ t. if t then Some (seen event (public_part fabric w)) else None) same in
+    elim (cases_Bool (is_seen fabric w event)) [
+      | inl sees ↦ absurd (let clash : None ≡ Some (seen event (public_part fabric w)) = none ∙ by true sees in cc)
+      | inr passes ↦ passes
+    ]

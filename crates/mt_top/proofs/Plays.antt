@@ -9,18 +9,10 @@ use Rattle.mt_files.specs.Lines.{ended}
 use Rattle.mt_files.specs.Output.{output_text, sent_line}
 use Rattle.mt_runs.specs.Lines as lines
 use Rattle.mt_runs.specs.Lines.{run}
-use Rattle.mt_play.specs.Plays.{IsPlaying}
+use Rattle.mt_top.specs.Begun.{Begun, Plays, behind, is_built, sent_by}
 use Rattle.mt_play.specs.declared.playing.Playing.{Playing}
-use Rattle.mt_top.specs.Begun.{Begun}
 use Rattle.mt_endings.specs.declared.fault.Fault.TheVariants.{Unbuilt}
 use Rattle.mt_top.specs.Asked.{unbuilt_from}
-
--- what a node sends for an event, and itself behind it
-abbrev pub sent_by : Begun → Event → List Sent
-sent_by begun event = lines.sent begun.given begun.whole event
-
-abbrev pub behind : Begun → Event → Begun
-behind begun event = record begun { whole = lines.next begun.given begun.whole event }
 
 -- what is sent for events, up to the first that is not built
 abbrev pub sent_of : Begun → List Event → List Sent
@@ -35,10 +27,10 @@ pub output-one : (xs : List Sent) (x : Sent) → output_text (xs ++ x ∷ []) �
 output-one xs x = output-append xs (x ∷ []) ∙ ap (λ (w : List ℕ). output_text xs ++ w) (append-nil (ended (sent_line x)))
 
 -- an event that is built
-sent_built : (s : Begun) (event : Event) (events : List Event) → lines.is_built event ≡ true → sent_of s (event ∷ events) ≡ sent_by s event ++ sent_of (behind s event) events
+sent_built : (s : Begun) (event : Event) (events : List Event) → is_built s event ≡ true → sent_of s (event ∷ events) ≡ sent_by s event ++ sent_of (behind s event) events
 sent_built s event events built = ap (λ t. cond t (sent_by s event ++ sent_of (behind s event) events) []) built
 
-sent_unbuilt : (s : Begun) (event : Event) (events : List Event) → lines.is_built event ≡ false → sent_of s (event ∷ events) ≡ []
+sent_unbuilt : (s : Begun) (event : Event) (events : List Event) → is_built s event ≡ false → sent_of s (event ∷ events) ≡ []
 sent_unbuilt s event events not = ap (λ t. cond t (sent_by s event ++ sent_of (behind s event) events) []) not
 
 unbuilt_built : (line : ℕ) (event : Event) (events : List Event) → lines.is_built event ≡ true → unbuilt_from line (event ∷ events) ≡ unbuilt_from (line + 1) events
@@ -51,14 +43,14 @@ unbuilt_here line event events not = ap (λ t. cond t (unbuilt_from (line + 1) e
 pub drop_event : (all : List Event) (i : ℕ) (event : Event) → i < length all → event ≡ get_or all i event → drop i all ≡ event ∷ drop (i + 1) all
 drop_event all i event lt is = drop_more all i event lt ∙ ap (λ e. e ∷ drop (i + 1) all) (sym is)
 
-pub sent-step : (s : Begun) (all : List Event) (i : ℕ) (event : Event) → i < length all → event ≡ get_or all i event → lines.is_built event ≡ true → sent_of s (drop i all) ≡ sent_by s event ++ sent_of (behind s event) (drop (i + 1) all)
+pub sent-step : (s : Begun) (all : List Event) (i : ℕ) (event : Event) → i < length all → event ≡ get_or all i event → is_built s event ≡ true → sent_of s (drop i all) ≡ sent_by s event ++ sent_of (behind s event) (drop (i + 1) all)
 sent-step s all i event lt is built = ap (sent_of s) (drop_event all i event lt is) ∙ sent_built s event (drop (i + 1) all) built
 
 pub unbuilt-step : (line : ℕ) (all : List Event) (i : ℕ) (event : Event) → i < length all → event ≡ get_or all i event → lines.is_built event ≡ true → unbuilt_from line (drop i all) ≡ unbuilt_from (line + 1) (drop (i + 1) all)
 unbuilt-step line all i event lt is built = ap (unbuilt_from line) (drop_event all i event lt is) ∙ unbuilt_built line event (drop (i + 1) all) built
 
 -- the event at this place is not built
-pub sent-stop : (s : Begun) (all : List Event) (i : ℕ) (event : Event) → i < length all → event ≡ get_or all i event → lines.is_built event ≡ false → sent_of s (drop i all) ≡ []
+pub sent-stop : (s : Begun) (all : List Event) (i : ℕ) (event : Event) → i < length all → event ≡ get_or all i event → is_built s event ≡ false → sent_of s (drop i all) ≡ []
 sent-stop s all i event lt is not = ap (sent_of s) (drop_event all i event lt is) ∙ sent_unbuilt s event (drop (i + 1) all) not
 
 pub unbuilt-stop : (line : ℕ) (all : List Event) (i : ℕ) (event : Event) → i < length all → event ≡ get_or all i event → lines.is_built event ≡ false → unbuilt_from line (drop i all) ≡ Some (Unbuilt line)
@@ -102,10 +94,10 @@ took-less laws a b c told more rest all text took is less whole =
     subst (TookLess a c) spelled (laws.less_of_more a c (output_text told ++ text) (output_text rest) (laws.then_less a b c (output_text told) text took less))
 
 -- What was told so far of all events, and for which node the code stands before the rest.
-pub record SoFar (begun : Begun) (node : Playing) (all rest : List Event) (line : ℕ) (before now : Option (List ℕ)) : Type 0 where
+pub record SoFar (begun : Begun) (player : Playing) (all rest : List Event) (line : ℕ) (before now : Option (List ℕ)) : Type 0 where
   pub told : List Sent
   pub at : Begun
-  pub stands : IsPlaying node at.given at.whole
+  pub stands : Plays player at
   pub took : Took before now (output_text told)
   pub sent : sent_of begun all ≡ told ++ sent_of at rest
   pub unbuilt : unbuilt_from 2 all ≡ unbuilt_from line rest

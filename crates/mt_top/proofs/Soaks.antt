@@ -12,10 +12,9 @@ use Rattle.mt_soak.specs.Generated.{State, event_of, events_from, is_played}
 use Rattle.mt_soak.specs.Generated as generated
 use Rattle.mt_soak.specs.Summary.{IsTallyOf}
 use Rattle.mt_soak.specs.declared.tally.Tally.{Tally}
-use Rattle.mt_play.specs.Plays.{IsPlaying}
+use Rattle.mt_top.specs.Begun.{Begun, Plays, behind, sent_by}
 use Rattle.mt_play.specs.declared.playing.Playing.{Playing}
-use Rattle.mt_top.specs.Begun.{Begun}
-use Rattle.mt_top.proofs.Plays.{behind, sent_by, sent_of}
+use Rattle.mt_top.proofs.Plays.{sent_of}
 
 -- what is played is built
 pub played_is_built : (event : Event) → is_played event ≡ true → lines.is_built event ≡ true
@@ -27,10 +26,10 @@ played_is_built (events.Resend ms session) played = refl
 played_is_built (events.Stop calls fate) played = played
 
 -- What was told so far of all events, for which node the code stands, and what is left: so many events from a state on.
-pub record Soaking (begun : Begun) (all : List Event) (node : Playing) (tally : Tally) (state : State) (left : ℕ) : Type 0 where
+pub record Soaking (begun : Begun) (all : List Event) (player : Playing) (tally : Tally) (state : State) (left : ℕ) : Type 0 where
   pub told : List Sent
   pub at : Begun
-  pub stands : IsPlaying node at.given at.whole
+  pub stands : Plays player at
   pub tallied : IsTallyOf tally told
   pub sent : sent_of begun all ≡ told ++ sent_of at (events_from state left)
 
@@ -44,8 +43,8 @@ soak_step s state left built first =
     if_built t = cond t (sent_by s (event_of state) ++ sent_of (behind s (event_of state)) (events_from (generated.behind state) left)) []
 
 -- no event is left
-pub soak_end : (begun : Begun) (all : List Event) (node : Playing) (tally : Tally) (state : State) (h : Soaking begun all node tally state 0) → sent_of begun all ≡ h.told
-soak_end begun all node tally state h = h.sent ∙ append-nil h.told
+pub soak_end : (begun : Begun) (all : List Event) (player : Playing) (tally : Tally) (state : State) (h : Soaking begun all player tally state 0) → sent_of begun all ≡ h.told
+soak_end begun all player tally state h = h.sent ∙ append-nil h.told
 
 -- a configuration has few fabrics
 pub few_fabrics : (fabrics : List Fabric) → are_fabrics fabrics ≡ true → length fabrics ≤ 16

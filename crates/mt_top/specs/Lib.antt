@@ -3,5 +3,3 @@ pub mod Begun
 pub mod Compared
 pub mod Denials
 pub mod Isolated
-pub mod Runs
-pub mod Tells

@@ -1,24 +1,23 @@
 //! The top calls: what the program does, from the words of the command line to the bytes on its
 //! output and its exit status.
 //!
+//! - `playing`: a node that plays events, and what is sent for each;
 //! - `replaying`: a recording, with a configuration in hand;
 //! - `comparing`: two recordings, compared by what a fabric sees of them;
 //! - `soaking`: a long input made from a number, and the summary of what is sent for it;
-//! - `streams`: what a run reads and writes;
 //! - `running`: what the words ask for;
 //! - `isolation`: laws of every run: what each fabric is sent of it is its own matter, denials are exact, and so are comparisons.
 #![tactic(auto)]
 
 mod comparing;
 mod isolation;
+mod playing;
 mod replaying;
 mod running;
 mod soaking;
-mod streams;
 
 pub use isolation::{comparisons_are_exact, denials_are_exact, runs_are_isolated};
 pub use mt_soak::Generator;
 pub use mt_words::{BadWords, Files, files_of};
 pub use replaying::replay_with;
 pub use running::{run, run_watched};
-pub use streams::Streams;

@@ -1,25 +1,23 @@
 //! Replaying a recording, with a configuration in hand.
 
-ghost use Rattle.std.specs.Prelude.{◌≡◌, ◌≢◌, Some, Err, IfErr, IfOk, OnOk};
+ghost use Rattle.std.specs.Prelude.{◌≡◌, ◌≢◌, Some, Err, IfErr, OnOk};
 ghost use Rattle.mt_model.specs.texts.Contents.{contents_of};
 ghost use Rattle.mt_endings.specs.Endings.{in_hand_of};
 ghost use Rattle.mt_endings.specs.Moments.{Input, in_hand, input, moment};
 ghost use Rattle.mt_endings.specs.Parts.{PlayedTo, StopsPlaying};
 ghost use Rattle.mt_endings.specs.Run.{Ends};
-ghost use Rattle.mt_files.specs.Output.{output_text};
-ghost use Rattle.mt_play.specs.Plays.{IsPlaying};
-ghost use Rattle.mt_top.specs.Begun.{Begun, begun_with};
+ghost use Rattle.mt_top.specs.Begun.{Begun, Plays, begun_with};
 ghost use Rattle.mt_top.specs.Denials.{DenialsAreExact};
 ghost use Rattle.mt_top.specs.Isolated.{RunsAreIsolated};
 ghost use Rattle.mt_top.specs.Asked.{played, replayed};
 
 use crate::isolation::{denials_are_exact, runs_are_isolated};
+use crate::playing::step;
 use mt_endings::{Fault, endings_add_up, finish, read_recording, tell_memory};
-use mt_files::write_sent;
-use mt_model::{Config, Events, Sent};
+use mt_model::{Config, Events};
 use mt_outside::{Sink, Source, write_all, writings_add_up};
 use mt_play::Playing;
-use std::alloc::{AllocError, Global};
+use std::alloc::Global;
 
 /// Runs the recording that `first` gives against a configuration, and writes the output lines to
 /// `out`. The answer is the exit status, as `run` has it; it is never 2 or 3.
@@ -38,11 +36,11 @@ pub fn replay_with<A: Source, W: Sink>(
     runs_are_isolated();
     denials_are_exact();
     endings_add_up();
-    let Ok(node) = Playing::start(alloc, config) else {
+    let Ok(player) = Playing::start(alloc, config) else {
         return tell_memory(out);
     };
     match read_recording(alloc, first) {
-        Ok(events) => match play(alloc, node, &events, out) {
+        Ok(events) => match play(alloc, player, &events, out) {
             Ok(()) => 0,
             Err(fault) => finish(alloc, fault, out),
         },
@@ -53,26 +51,23 @@ pub fn replay_with<A: Source, W: Sink>(
 // Writes what the node sends over the events, up to the first that is not built.
 fn play<W: Sink>(
     alloc: Global,
-    mut node: Playing,
+    mut player: Playing,
     events: &Events,
     out: &mut W,
 ) -> Result<(), Fault>
-    ensures ok { (begun : Begun) → IsPlaying node begun.given begun.whole → OnOk result (PlayedTo (played begun events.now) (W.written out.old) (W.written out.new)) }
-    ensures err { (begun : Begun) → IsPlaying node begun.given begun.whole
+    ensures ok { (begun : Begun) → Plays player begun → OnOk result (PlayedTo (played begun events.now) (W.written out.old) (W.written out.new)) }
+    ensures err { (begun : Begun) → Plays player begun
         → IfErr result (λ fault. StopsPlaying fault (played begun events.now) (W.written out.old) (W.written out.new) (W.faults out.old) (W.faults out.new)) }
     ensures calm { result ≢ Err Fault.WriteFault → W.faults out.new ≡ W.faults out.old }
 {
     writings_add_up();
     let mut line = 2u64;
     for event in events.as_slice() {
-        let Ok(answer) = node.step(event) else {
+        let Ok(answer) = step(alloc, &mut player, event) else {
             return Err(Fault::Memory);
         };
-        let Some(sent) = answer else {
+        let Some(text) = answer else {
             return Err(Fault::Unbuilt(line));
-        };
-        let Ok(text) = text_of(alloc, sent.as_slice()) else {
-            return Err(Fault::Memory);
         };
         let Ok(()) = write_all(out, &text) else {
             return Err(Fault::WriteFault);
@@ -80,15 +75,4 @@ fn play<W: Sink>(
         line += 1;
     }
     Ok(())
-}
-
-// A line for each message.
-fn text_of(alloc: Global, sent: &[Sent]) -> Result<Vec<u8>, AllocError>
-    ensures { IfOk result (λ text. text.items ≡ output_text sent.now) }
-{
-    let mut text = Vec::new(alloc);
-    for message in sent {
-        write_sent(message, &mut text)?;
-    }
-    Ok(text)
 }

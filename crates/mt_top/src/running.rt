@@ -6,14 +6,15 @@ ghost use Rattle.mt_endings.specs.Endings.{in_hand_of};
 ghost use Rattle.mt_endings.specs.Moments.{in_hand, input, moment};
 ghost use Rattle.mt_endings.specs.Run.{Ends};
 ghost use Rattle.mt_words.specs.Words.{words_of};
-ghost use Rattle.mt_top.specs.Asked.{comes_to, is_within};
-ghost use Rattle.mt_top.specs.Runs.{IsRun};
+ghost use Rattle.mt_top.specs.Asked.{asked_of, comes_to, is_within};
+ghost use Rattle.mt_top.specs.Compared.{ComparisonsAreExact};
+ghost use Rattle.mt_top.specs.Denials.{DenialsAreExact};
+ghost use Rattle.mt_top.specs.Isolated.{RunsAreIsolated};
 
 use crate::comparing::compare_with;
 use crate::isolation::{comparisons_are_exact, denials_are_exact, runs_are_isolated};
 use crate::replaying::replay_with;
 use crate::soaking::soak_with;
-use crate::streams::Streams;
 use mt_endings::{endings_add_up, finish, read_configuration, tell_bad_words, tell_memory};
 use mt_model::Config;
 use mt_outside::{Progress, Sink, Source, Unwatched};
@@ -39,30 +40,35 @@ pub fn run<C: Source, A: Source, B: Source, W: Sink>(
     second: &mut B,
     out: &mut W,
 ) -> u8
-    ensures { IsRun (words_of words.now) result
+    ensures ends { Ends result (asked_of (words_of words.now))
         (moment (input (C.left config.old) (C.faults config.old)) (input (A.left first.old) (A.faults first.old)) (input (B.left second.old) (B.faults second.old)) (W.written out.old) (W.faults out.old))
         (moment (input (C.left config.new) (C.faults config.new)) (input (A.left first.new) (A.faults first.new)) (input (B.left second.new) (B.faults second.new)) (W.written out.new) (W.faults out.new)) }
+    ensures isolated { RunsAreIsolated }
+    ensures denied { DenialsAreExact }
+    ensures compared { ComparisonsAreExact }
 {
-    run_watched(
-        alloc,
-        words,
-        config,
-        Streams { first, second, out },
-        &mut Unwatched,
-    )
+    runs_are_isolated();
+    denials_are_exact();
+    comparisons_are_exact();
+    run_watched(alloc, words, config, first, second, out, &mut Unwatched)
 }
 
-/// The same, with the recordings and the output in one, and tells `progress` how far a soak is.
+/// The same, and tells `progress` how far a soak is.
 pub fn run_watched<C: Source, A: Source, B: Source, W: Sink, P: Progress>(
     alloc: Global,
     words: &[String],
     config: &mut C,
-    streams: Streams<'_, A, B, W>,
+    first: &mut A,
+    second: &mut B,
+    out: &mut W,
     progress: &mut P,
 ) -> u8
-    ensures { IsRun (words_of words.now) result
-        (moment (input (C.left config.old) (C.faults config.old)) (input (A.left streams.entry.first.now) (A.faults streams.entry.first.now)) (input (B.left streams.entry.second.now) (B.faults streams.entry.second.now)) (W.written streams.entry.out.now) (W.faults streams.entry.out.now))
-        (moment (input (C.left config.new) (C.faults config.new)) (input (A.left streams.exit.0.now) (A.faults streams.exit.0.now)) (input (B.left streams.exit.1.0.now) (B.faults streams.exit.1.0.now)) (W.written streams.exit.1.1.0.now) (W.faults streams.exit.1.1.0.now)) }
+    ensures ends { Ends result (asked_of (words_of words.now))
+        (moment (input (C.left config.old) (C.faults config.old)) (input (A.left first.old) (A.faults first.old)) (input (B.left second.old) (B.faults second.old)) (W.written out.old) (W.faults out.old))
+        (moment (input (C.left config.new) (C.faults config.new)) (input (A.left first.new) (A.faults first.new)) (input (B.left second.new) (B.faults second.new)) (W.written out.new) (W.faults out.new)) }
+    ensures isolated { RunsAreIsolated }
+    ensures denied { DenialsAreExact }
+    ensures compared { ComparisonsAreExact }
 {
     runs_are_isolated();
     denials_are_exact();
@@ -70,12 +76,12 @@ pub fn run_watched<C: Source, A: Source, B: Source, W: Sink, P: Progress>(
     endings_add_up();
     let asked = match asked_of(alloc, words) {
         Ok(asked) => asked,
-        Err(WordsFault::Bad) => return tell_bad_words(streams.out),
-        Err(WordsFault::Memory) => return tell_memory(streams.out),
+        Err(WordsFault::Bad) => return tell_bad_words(out),
+        Err(WordsFault::Memory) => return tell_memory(out),
     };
     match read_configuration(alloc, config) {
-        Ok(config) => carry_out(alloc, asked, &config, streams, progress),
-        Err(fault) => finish(alloc, fault, streams.out),
+        Ok(config) => carry_out(alloc, asked, &config, first, second, out, progress),
+        Err(fault) => finish(alloc, fault, out),
     }
 }
 
@@ -84,15 +90,16 @@ fn carry_out<A: Source, B: Source, W: Sink, P: Progress>(
     alloc: Global,
     asked: Asked,
     config: &Config,
-    streams: Streams<'_, A, B, W>,
+    first: &mut A,
+    second: &mut B,
+    out: &mut W,
     progress: &mut P,
 ) -> u8
     requires { is_within asked ≡ true }
     ensures ends { Ends result (Some (in_hand_of (comes_to asked (contents_of config.now))))
-        (moment in_hand (input (A.left streams.entry.first.now) (A.faults streams.entry.first.now)) (input (B.left streams.entry.second.now) (B.faults streams.entry.second.now)) (W.written streams.entry.out.now) (W.faults streams.entry.out.now))
-        (moment in_hand (input (A.left streams.exit.0.now) (A.faults streams.exit.0.now)) (input (B.left streams.exit.1.0.now) (B.faults streams.exit.1.0.now)) (W.written streams.exit.1.1.0.now) (W.faults streams.exit.1.1.0.now)) }
+        (moment in_hand (input (A.left first.old) (A.faults first.old)) (input (B.left second.old) (B.faults second.old)) (W.written out.old) (W.faults out.old))
+        (moment in_hand (input (A.left first.new) (A.faults first.new)) (input (B.left second.new) (B.faults second.new)) (W.written out.new) (W.faults out.new)) }
 {
-    let Streams { first, second, out } = streams;
     match asked {
         Asked::Replay => replay_with(alloc, config, first, out),
         Asked::Compare { fabric } => compare_with(alloc, fabric, config, first, second, out),

@@ -1,15 +1,10 @@
 //! A long input made from a number, and the summary of what is sent for it.
 
-ghost use Rattle.std.specs.Prelude.{◌≡◌, ◌≤◌, List, [], IfOk, OnOk, Some, length};
+ghost use Rattle.std.specs.Prelude.{◌≡◌, ◌≤◌, [], IfOk, OnOk, Some, length};
 ghost use Rattle.mt_runs.specs.Lines.{run};
 ghost use Rattle.mt_soak.specs.Generated.{events_from};
 ghost use Rattle.mt_soak.specs.Summary.{IsTallyOf};
-ghost use Rattle.mt_machine.specs.Environment.{Environment};
-ghost use Rattle.mt_runs.specs.Whole.{Whole as Told};
-ghost use Rattle.mt_play.specs.Plays.{IsPlaying};
-ghost use Rattle.mt_model.specs.declared.texts.recording.Sent.{Sent as Message};
-ghost use Rattle.mt_top.specs.Begun.{Begun};
-ghost use Rattle.mt_top.specs.Tells.{TellsIf};
+ghost use Rattle.mt_top.specs.Begun.{Begun, Plays};
 ghost use Rattle.mt_files.specs.Lines.{text_of};
 ghost use Rattle.mt_model.specs.texts.Contents.{contents_of};
 ghost use Rattle.mt_endings.specs.Endings.{in_hand_of};
@@ -17,8 +12,9 @@ ghost use Rattle.mt_endings.specs.Moments.{Input, in_hand, moment};
 ghost use Rattle.mt_endings.specs.Run.{Ends};
 ghost use Rattle.mt_top.specs.Asked.{soaked, summarized};
 
+use crate::playing::tell;
 use mt_endings::{Fault, endings_add_up, finish, tell_memory};
-use mt_model::{Config, Event};
+use mt_model::Config;
 use mt_outside::{Progress, Sink, write_all, writings_add_up};
 use mt_play::Playing;
 use mt_soak::{Generator, Tally, events_are_played, events_come_one_by_one};
@@ -63,11 +59,11 @@ fn summarized<P: Progress>(
 {
     let mut generator = Generator::new(begin, fabrics_of(config));
     let mut tally = Tally::new(alloc);
-    let mut node = Playing::start(alloc, config)?;
+    let mut player = Playing::start(alloc, config)?;
     tell_all(
         alloc,
         count,
-        &mut node,
+        &mut player,
         &mut generator,
         &mut tally,
         progress,
@@ -86,37 +82,21 @@ fn fabrics_of(config: &Config) -> u8
 fn tell_all<P: Progress>(
     alloc: Global,
     count: u32,
-    node: &mut Playing,
+    player: &mut Playing,
     generator: &mut Generator,
     tally: &mut Tally,
     progress: &mut P,
 ) -> Result<(), AllocError>
     requires within { count ≤ 100000 }
     requires first { generator.old.answered ≡ 0 }
-    ensures { (begun : Begun) → IsPlaying node.old begun.given begun.whole → IsTallyOf tally.old [] → OnOk result (IsTallyOf tally.new (run begun.given begun.whole (events_from generator.old count))) }
+    ensures { (begun : Begun) → Plays player.old begun → IsTallyOf tally.old [] → OnOk result (IsTallyOf tally.new (run begun.given begun.whole (events_from generator.old count))) }
 {
     events_are_played();
     events_come_one_by_one();
     for done in 0..count {
         let event = generator.next(alloc)?;
-        tell(alloc, node, &event, tally)?;
+        tell(alloc, player, &event, tally)?;
         progress.done(done + 1, count);
     }
     Ok(())
-}
-
-// Plays an event, and tells the tally what it sends; false where it is not built.
-fn tell(
-    alloc: Global,
-    node: &mut Playing,
-    event: &Event,
-    tally: &mut Tally,
-) -> Result<bool, AllocError>
-    ensures { (given : Environment) (w : Told) (before : List Message) → IsPlaying node.old given w → IsTallyOf tally.old before → IfOk result (TellsIf given w event.now before node.new tally.new) }
-{
-    let Some(sent) = node.step(event)? else {
-        return Ok(false);
-    };
-    tally.note(alloc, sent.as_slice())?;
-    Ok(true)
 }

@@ -2,10 +2,10 @@ use Rattle.std.proofs.Common.{◌++◌, ◌+◌, ◌≤◌, length, drop, [], ap
 use Rattle.mt_outside.specs.Stream.{one_more}
 use Rattle.std.proofs.lemmas.List.{map-append}
 use Rattle.std.specs.Prelude.{map}
-use Rattle.mt_files.specs.Output.{output_text, sent_line}
+use Rattle.mt_files.specs.Output.{sent_line}
 use Rattle.mt_top.specs.Asked.{unbuilt_from}
-use Rattle.mt_play.specs.Plays.{StepsTo}
-use Rattle.mt_top.proofs.Plays.{behind, sent_by, sent_of, sent-step, sent-stop, unbuilt-step, unbuilt-stop, sent-end, unbuilt-end, took-all, took-less, took-more}
+use Rattle.mt_top.specs.Begun.{StepsIf, behind, sent_by}
+use Rattle.mt_top.proofs.Plays.{sent_of, sent-step, sent-stop, unbuilt-step, unbuilt-stop, sent-end, unbuilt-end, took-all, took-less, took-more}
 use Rattle.mt_top.proofs.replaying.play.Goals as goal
 
 pub loop-event-init : goal.loop-event-init
@@ -35,7 +35,7 @@ returns-in_default-answer-clause-err g c = λ begun stands.
     let i = l.invariant.so_far begun stands in
     let all = c.as_slice-event-items.result.now in
     let event = c.event-item.result in
-    let unbuilt = (subst (StepsTo i.at.given i.at.whole event c.step.new.self) c.in_default-answer.is (c.in-Ok.ensures.steps i.at.given i.at.whole i.stands)).0 in
+    let unbuilt = subst (StepsIf i.at c.step.new.player event) c.in_default-answer.is (c.in-Ok.ensures i.at i.stands) in
     let none = sent-stop i.at all l.event-index event c.loop-event-test.true c.event-item.is unbuilt in (
       i.unbuilt ∙ unbuilt-stop l.line all l.event-index event c.loop-event-test.true c.event-item.is unbuilt,
       took-all (g.W.Sink.written c.args.out.now) (g.W.Sink.written l.out) i.told (sent_of i.at (drop l.event-index all)) (sent_of begun c.args.events.now) i.took i.sent none,
@@ -49,8 +49,8 @@ returns-in_default-write_all-clause-err g c = λ begun stands.
     let all = c.as_slice-event-items.result.now in
     let event = c.event-item.result in
     let text = c.in-Some.text.items in
-    let new = c.step.new.self in
-    let steps = subst (StepsTo i.at.given i.at.whole event new) c.in-Some.is (c.in-Ok.ensures.steps i.at.given i.at.whole i.stands) in
+    let new = c.step.new.player in
+    let steps = subst (StepsIf i.at new event) c.in-Some.is (c.in-Ok.ensures i.at i.stands) in
     let k = c.write_all.ensures in (
       k.cause.rose (search rules) ∙ ap one_more l.invariant.calm,
       took-less c.writings_add_up.ensures (written c.args.out.now) (written l.out) (written c.write_all.new.sink) i.told (sent_by i.at event) (sent_of (behind i.at event) (drop (l.event-index + 1) all)) (sent_of begun c.args.events.now) text i.took steps.1.0 (search rules)
@@ -64,12 +64,12 @@ loop-event-preserved g c =
     let all = c.as_slice-event-items.result.now in
     let event = c.event-item.result in
     let text = c.in-Some.text.items in
-    let new = c.step.new.self in
+    let new = c.step.new.player in
     let k = c.write_all.ensures in
     record {
       so_far = λ begun stands.
           let i = l.invariant.so_far begun stands in
-          let steps = subst (StepsTo i.at.given i.at.whole event new) c.in-Some.is (c.in-Ok.ensures.steps i.at.given i.at.whole i.stands) in
+          let steps = subst (StepsIf i.at new event) c.in-Some.is (c.in-Ok.ensures i.at i.stands) in
           record {
             told = i.told ++ sent_by i.at event;
             at = behind i.at event;

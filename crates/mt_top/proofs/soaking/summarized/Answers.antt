@@ -18,7 +18,7 @@ tell_all-requires-clause-within g c = c.requires
 pub returns : goal.returns
 returns g c =
     let node = begun_with (contents_of c.args.config.now) in
-    let told = c.in_ok-tell_all.ensures node c.in_ok-node-2.ensures c.new-tally.ensures in
+    let told = c.in_ok-tell_all.ensures node c.in_ok-player.ensures c.new-tally.ensures in
     let same : events_from c.new-generator.result c.args.count ≡ events_from (begun c.args.begin (length c.args.config.now.fabrics)) c.args.count =
     ap (λ (s : State). events_from s c.args.count) (c.new-generator.ensures.begun ∙ ap (begun c.args.begin) c.fabrics_of.ensures) in
     subst (λ (events : List Event). IfOk c.summary.result (λ summary. summary.items ≡ text_of (summary_of node c.args.count events).lines)) same
