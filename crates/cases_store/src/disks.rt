@@ -4,9 +4,11 @@ use cases_page::hex_bytes;
 use mt_outside::{Fate, MemDisk};
 use std::alloc::{AllocError, Global};
 
-/// A disk with the bytes of a file in hex, `-` for none.
+/// A disk with the bytes of a file in hex, `-` for none. Behind a number, as in `5:-`, its call of that number fails.
 pub(crate) fn disk_of(alloc: Global, file: &str) -> Result<MemDisk, AllocError> {
-    MemDisk::new(alloc, &hex_bytes(alloc, file.trim_start_matches('-')), &[])
+    let (call, bytes) = file.split_once(':').unwrap_or(("0", file));
+    let bytes = hex_bytes(alloc, bytes.trim_start_matches('-'));
+    MemDisk::new(alloc, &bytes, &[call.parse::<u64>().unwrap_or(0)])
 }
 
 /// The disk, restarted if it has stopped.

@@ -14,33 +14,41 @@ type FileJournal = Journal<FileDisk, TestForm>;
 
 /// Makes a journal on a new file, changes it, opens it anew twice, and takes the file away again.
 pub(crate) fn play(rt: &HostRuntime, page: &mut Page) -> io::Result<()> {
-    let Some(mut journal) = opened(rt, page)? else {
+    let Some(mut journal) = opened(rt, page) else {
         return Ok(());
     };
     add_done(page, switched(&mut journal, &[0x16, 0x01]));
     add_done(page, appended(&mut journal, &[0x17, 0x02]));
     add_done(page, appended(&mut journal, &[0x17, 0x03, 0x04]));
-    let Some(mut journal) = opened(rt, page)? else {
+    let Some(mut journal) = opened(rt, page) else {
         return Ok(());
     };
     add_done(page, switched(&mut journal, &[0x16, 0x05]));
     add_done(page, appended(&mut journal, &[0x17, 0x06]));
-    if opened(rt, page)?.is_some() {
+    if opened(rt, page).is_some() {
         add_file(rt, page)?;
     }
-    remove_file(rt, "journal")
+    remove_file(rt, "journal")?;
+    add_absent(rt, page);
+    Ok(())
+}
+
+// A disk over a file in a folder that is not there: how many calls a journal makes on it, and how many fail.
+fn add_absent(rt: &HostRuntime, page: &mut Page) {
+    let disk = FileDisk::open(rt, "absent/journal");
+    if let Err((disk, _)) = FileJournal::recover(rt.alloc(), disk) {
+        page.add_number(disk.calls);
+        page.add(" ");
+        page.add_number(disk.faults);
+        page.end_line();
+    }
 }
 
 // A journal on the file, opened anew, and tells its list.
-fn opened(rt: &HostRuntime, page: &mut Page) -> io::Result<Option<FileJournal>> {
-    let file = OpenOptions::new()
-        .read(true)
-        .write(true)
-        .create(true)
-        .open(rt, "journal")?;
-    let Ok((journal, list)) = Journal::recover(rt.alloc(), FileDisk::new(file)) else {
+fn opened(rt: &HostRuntime, page: &mut Page) -> Option<FileJournal> {
+    let Ok((journal, list)) = Journal::recover(rt.alloc(), FileDisk::open(rt, "journal")) else {
         page.line("no journal");
-        return Ok(None);
+        return None;
     };
     page.add("list");
     for item in &list {
@@ -48,7 +56,7 @@ fn opened(rt: &HostRuntime, page: &mut Page) -> io::Result<Option<FileJournal>> 
         page.add_hex(item.as_slice());
     }
     page.end_line();
-    Ok(Some(journal))
+    Some(journal)
 }
 
 fn add_done(page: &mut Page, outcome: Outcome) {
@@ -62,7 +70,7 @@ fn add_done(page: &mut Page, outcome: Outcome) {
 // The length of the file, its bytes from the front on, and how many calls a disk over it has made for it.
 fn add_file(rt: &HostRuntime, page: &mut Page) -> io::Result<()> {
     let file = OpenOptions::new().read(true).open(rt, "journal")?;
-    let mut disk = FileDisk::new(file);
+    let mut disk = FileDisk::new(Some(file));
     let mut front = [0u8; 24];
     page.add_number(disk.length().unwrap_or(0));
     page.add(" ");

@@ -50,7 +50,8 @@ pub(crate) fn add_fault(page: &mut Page, fault: JournalFault) {
             page.add(" no journal ");
             page.add_number(place);
         }
-        JournalFault::Disk | JournalFault::Memory => page.add(" fault"),
+        JournalFault::Disk => page.add(" fault"),
+        JournalFault::Memory => page.add(" no memory"),
     }
 }
 

@@ -1,9 +1,10 @@
-//! One store or one keeper, call by call. A case is the bytes of a file in hex, `-` for none, or `keeper:2,5` for a keeper
+//! One store or one keeper, call by call. A case is the bytes of a file in hex, `-` for none, behind `5:` if the fifth call of its disk fails, or `keeper:2,5` for a keeper
 //! whose calls 2 and 5 fail, and then what is done, a word each:
 //!
 //! - `k07=3:ab+k08=`: a change that puts three octets ab under the key 07, and takes away what stands under 08;
 //! - `c1618`: a change by its bytes;
 //! - `x3kept`, `x3lost`, `x3torn`: the disk stops at that one of the writes and syncs to come, with this fate;
+//! - `o`: the disk forgets what was done up to the latest sync;
 //! - `r`: the disk is restarted if it has stopped, and the store recovered;
 //! - `f`: the length of the file and the sum of its bytes, each times its place from 1 on, modulo 2^32;
 //! - `d`: the file;
@@ -103,6 +104,7 @@ fn called(
             page.add(" ");
             page.add_hex(store.journal.disk.bytes());
         }
+        "o" => store.journal.disk.forget(),
         "m" => add_map(alloc, page, &store.image.map(alloc)?)?,
         _ => {
             let outcome = committed(alloc, store, &change_of(alloc, call)?);

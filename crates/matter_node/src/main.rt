@@ -2,7 +2,7 @@
 #![tactic(auto)]
 
 use mt_os::{ReaderSource, TerminalProgress, WriterSink};
-use mt_top::{Progress, files_of, run_watched};
+use mt_top::{files_of, run_watched};
 use std::fs::File;
 use std::process::ExitCode;
 use std::rt::Env;
@@ -10,16 +10,6 @@ use std::{env, io};
 
 // The status where there is no memory for the words.
 const NO_MEMORY: u8 = 7;
-
-// The terminal, as who watches a run.
-#[derive(Drop)]
-struct Terminal<'a>(TerminalProgress<'a>);
-
-impl Progress for Terminal<'_> {
-    fn done(&mut self, events: u32, all: u32) {
-        self.0.done(events, all);
-    }
-}
 
 fn main(rt: HostRuntime) -> ExitCode {
     let words = match words(&rt) {
@@ -38,7 +28,7 @@ fn main(rt: HostRuntime) -> ExitCode {
     let mut first = ReaderSource::new(named(&rt, &words, first));
     let mut second = ReaderSource::new(named(&rt, &words, second));
     let mut out = WriterSink::new(io::writer(&rt));
-    let mut terminal = Terminal(TerminalProgress::new(&rt));
+    let mut terminal = TerminalProgress::new(&rt);
     ExitCode::from(run_watched(
         rt.alloc(),
         &words,

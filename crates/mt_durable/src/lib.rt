@@ -30,5 +30,5 @@ pub use key::is_before;
 pub use laws::{changes_lead_on, maps_have_images};
 pub use list_keeper::ListKeeper;
 pub use reading::{ChangeFault, bytes_of_a_change_are_read, read_change};
-pub use room::has_room;
+pub use room::{finds_room, has_room};
 pub use rule::{Rule, is_admitted};

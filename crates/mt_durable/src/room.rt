@@ -1,11 +1,13 @@
 //! Whether a keeper has room for a change.
 
-ghost use Rattle.std.specs.Prelude.{◌≡◌, ◌↔◌, ℕ, List, Some, IfOk, IsTrue};
-ghost use Rattle.mt_durable.specs.Keeping.{HasRoom};
-ghost use Rattle.mt_durable.specs.Reading.{Says};
+ghost use Rattle.std.specs.Prelude.{◌≡◌, ◌↔◌, ◌+◌, ◌≤◌, ℕ, List, Some, length, IfOk, IsTrue};
+ghost use Rattle.mt_durable.specs.Images.{IsImage};
+ghost use Rattle.mt_durable.specs.Keeping.{HasRoom, IsChange};
+ghost use Rattle.mt_durable.specs.Reading.{Says, said};
 
 use crate::change::write_image;
 use crate::durable::{Change, Durable};
+use crate::laws::changes_lead_on;
 use crate::reading::bytes_of_a_change_are_read;
 use std::alloc::{AllocError, Global};
 
@@ -23,4 +25,16 @@ pub fn has_room(alloc: Global, map: &Durable, change: Change) -> Result<bool, Al
     let mut image = Vec::new(alloc);
     write_image(alloc, &after, &mut image)?;
     Ok(image.len() <= LONGEST)
+}
+
+/// Whether a change finds room by its length alone, in the image of a map: both together are no longer than
+/// an element may be. It reads neither and takes no memory. Where it answers no there may be room still.
+pub fn finds_room(image: &[u8], change: &[u8]) -> bool
+    requires image { IsImage image.now }
+    requires change { IsChange change.now }
+    ensures room { IsTrue result → HasRoom change.now (Some (said image.now)) }
+    ensures together { IsTrue result ↔ (length image.now + length change.now ≤ 65535) }
+{
+    changes_lead_on();
+    image.len() <= LONGEST && change.len() <= LONGEST - image.len()
 }

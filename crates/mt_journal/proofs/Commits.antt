@@ -23,7 +23,7 @@ module _ (is_image : List ℕ → Bool) (may_follow : MayFollow) (list : List (L
           → LeavesOnly moment images_since old new (HasEither is_image may_follow list (list_with kind piece list))
       both_moments moment images_since old mid new first second =
           in_turn moment images_since old mid new (HasEither is_image may_follow list other) (still other moment images_since old mid first)
-          (weaker moment images_since mid new (CutIn step piece file) (HasEither is_image may_follow list other) (λ image cut. ⊎_elim (commits.first image) (commits.second image) cut) second)
+          (weaker moment images_since mid new (CutIn step piece file) (HasEither is_image may_follow list other) (λ image cut. ⊎_elim (λ short. inl (commits.first image short)) (commits.second image) cut) second)
 
       pub then_stands : (contents : D → Option (List ℕ)) (images : D → List ℕ → Type 0) (disk : D) → contents disk ≡ Some (written_by step piece file) → LeavesContents (Some (written_by step piece file)) (images disk) → StandsFor contents images is_image may_follow disk step.next (list_with kind piece list)
       then_stands contents images disk told safe = record { file = written_by step piece file; told = told; safe = safe; stands = commits.stands; has = commits.has }

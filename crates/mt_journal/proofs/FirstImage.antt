@@ -8,10 +8,10 @@ use Rattle.mt_journal.specs.Committing.{Commits}
 use Rattle.mt_journal.specs.Layout.{MayFollow, Reads, Records, ◌>>=◌, is_open, journal_at, length_of, list_of_slot, marks_move, slot_at, slot_length, slots_at}
 use Rattle.mt_journal.specs.Recovering.{OpenRead}
 use Rattle.mt_journal.specs.Standing.{HasEither, HasUpTo, IsBegun, IsInUse, IsLog, length_field}
-use Rattle.mt_journal.specs.declared.place.Place.TheVariants.{InUse}
+use Rattle.mt_journal.specs.declared.position.Position.TheVariants.{InUse}
 use Rattle.mt_journal.proofs.Heads.{begin_opens, by_selectors, log_closed, log_moved, no_record}
 use Rattle.mt_journal.proofs.Images.{image_alone, image_up_to}
-use Rattle.mt_journal.proofs.Lists.{before_cut, before_written, from_written, length_written, one_byte, put_together, same_byte, same_earlier}
+use Rattle.mt_journal.proofs.Lists.{before_cut, before_written, byte_there, from_written, length_written, one_byte, put_together, same_byte, same_earlier}
 use Rattle.mt_journal.proofs.Pieces.{move_is}
 use Rattle.mt_journal.proofs.Records.{gate_is}
 
@@ -64,10 +64,10 @@ module _ (is_image : List ℕ → Bool) (may_follow : MayFollow) (gate : ℕ) (l
   laid_from : drop (gate + 1) laid ≡ lead ++ (0 ∷ 0 ∷ slot)
   laid_from = from_written (gate + 1) bytes file behind_gate ∙ bytes_split
 
-  first_cut : (other : List ℕ) → CutShort (gate + 1) (length bytes) file other → HasEither is_image may_follow list (image ∷ []) other
+  first_cut : (other : List ℕ) → CutShort (gate + 1) (length bytes) file other → journal_at is_image may_follow other ≡ Ok list
   first_cut other cut =
       let same = before_cut (gate + 1) (length bytes) file other behind_gate cut in
-      inl (is_shut.shut other (same_earlier other file gate (gate + 1) (omega arith) same) cut.no_shorter (ap is_open (same_byte other file gate (gate + 1) (omega arith) same) ∙ is_shut.closed))
+      is_shut.shut other (same_earlier other file gate (gate + 1) (omega arith) same) cut.no_shorter (ap is_open (same_byte other file gate (gate + 1) (omega arith) same) ∙ is_shut.closed)
 
   -- a file whose gate is open
   module _ (other : List ℕ) (same : take gate other ≡ take gate file) (from : drop gate other ≡ 0x5a ∷ lead ++ (0 ∷ 0 ∷ slot)) where
@@ -128,6 +128,13 @@ module _ (is_image : List ℕ → Bool) (may_follow : MayFollow) (gate : ℕ) (l
       (λ (shut : is_open (get_or other gate 0) ≡ false). inl (is_shut.shut other same (omega (arith, cut.no_shorter, long_laid)) shut))
       (cases_Bool (is_open (get_or other gate 0)))
 
+  -- a gate that is torn leaves the list
+  torn_list : journal_at is_image may_follow (overwritten gate (0xa5 ∷ []) laid) ≡ Ok list
+  torn_list =
+      let other = overwritten gate (0xa5 ∷ []) laid in
+      is_shut.shut other (before_written gate (0xa5 ∷ []) laid (omega (arith, there_laid)) ∙ same_earlier laid file gate (gate + 1) (omega arith) laid_before)
+      (omega (arith, there_laid, long_laid, length_written gate (0xa5 ∷ []) laid (omega (arith, there_laid)))) (ap is_open (byte_there gate 0xa5 laid there_laid))
+
   abbrev put : List ℕ
   put = overwritten gate (0x5a ∷ []) laid
 
@@ -141,6 +148,7 @@ module _ (is_image : List ℕ → Bool) (may_follow : MayFollow) (gate : ℕ) (l
   first_commits = record {
     first = first_cut;
     second = second_cut;
+    torn = torn_list;
     stands = opened_stands put put_same put_from;
     has = opened put put_same put_from;
   }

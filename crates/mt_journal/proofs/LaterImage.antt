@@ -8,7 +8,7 @@ use Rattle.mt_outside.specs.Disk.{CutShort, overwritten}
 use Rattle.mt_journal.specs.Committing.{Commits}
 use Rattle.mt_journal.specs.Layout.{MayFollow, Reads, Records, ◌>>=◌, is_open, journal_at, list_of_slot, names_slot_one, selector_above, slot_at, slot_length, slot_start}
 use Rattle.mt_journal.specs.Standing.{HasEither, HasUpTo, IsInUse, length_field}
-use Rattle.mt_journal.specs.declared.place.Place.TheVariants.{InUse}
+use Rattle.mt_journal.specs.declared.position.Position.TheVariants.{InUse}
 use Rattle.mt_journal.proofs.Heads.{by_selectors}
 use Rattle.mt_journal.proofs.Images.{image_alone, image_up_to}
 use Rattle.mt_journal.proofs.Lists.{as_long, before_cut, before_put, before_written, behind_byte, byte_there, earlier_kept, from_put, later_kept, length_written, next_byte, same_byte, same_earlier, same_part}
@@ -20,6 +20,10 @@ names_one p1 = grind (arith, nat_tests)
 
 names_zero : (p0 : ℕ) → names_slot_one p0 (selector_above p0) ≡ false
 names_zero p0 = grind (arith, nat_tests)
+
+-- one that is torn leaves the other's slot
+names_torn : (p0 p1 : ℕ) → names_slot_one p0 p1 ≡ true → names_slot_one p0 0xa5 ≡ true
+names_torn p0 p1 one = grind (arith, nat_tests, one)
 
 module _ (is_image : List ℕ → Bool) (may_follow : MayFollow) (base p0 p1 gate : ℕ) (list : List (List ℕ)) (file : List ℕ) (stands : IsInUse is_image may_follow base p0 p1 gate list file)
     (image : List ℕ) (short : length image ≤ 65536) (is : is_image image ≡ true) where
@@ -86,11 +90,11 @@ module _ (is_image : List ℕ → Bool) (may_follow : MayFollow) (base p0 p1 gat
             same_part other file (start current) (gate + 1) (omega (arith, stands.behind)) (earlier_kept at (gate + 1) file other (omega (arith, p.0, stands.before_end, s_is)) (omega (arith, stands.there)) before),
           )
 
-  first_cut : (other : List ℕ) → CutShort at (length content) file other → HasEither is_image may_follow list (image ∷ []) other
+  first_cut : (other : List ℕ) → CutShort at (length content) file other → journal_at is_image may_follow other ≡ Ok list
   first_cut other cut =
       let kept = outside other cut.before cut.after in
-      inl (has_list other p0 p1 (same_earlier other file base (base + 2) (omega arith) kept.0) (as_long other file (base + 2) long_file kept.0)
-      (same_byte other file base (base + 2) (omega arith) kept.0 ∙ stands.p0_is) (same_byte other file (base + 1) (base + 2) (omega arith) kept.0 ∙ stands.p1_is) refl kept.1)
+      has_list other p0 p1 (same_earlier other file base (base + 2) (omega arith) kept.0) (as_long other file (base + 2) long_file kept.0)
+      (same_byte other file base (base + 2) (omega arith) kept.0 ∙ stands.p0_is) (same_byte other file (base + 1) (base + 2) (omega arith) kept.0 ∙ stands.p1_is) refl kept.1
 
   put_slot : drop at put ≡ length_field (length image) ++ (image ++ 0 ∷ drop (at + length content) file)
   put_slot =
@@ -183,28 +187,53 @@ module _ (is_image : List ℕ → Bool) (may_follow : MayFollow) (base p0 p1 gat
       there : k < length put
       there = omega (arith, to, long_put)
 
-      selector_commits : get_or written base 0 ≡ a → get_or written (base + 1) 0 ≡ b → names_slot_one a b ≡ not current
+      -- it differs in the selectors alone
+      head : take base written ≡ take base put
+      head = same_earlier written put base k from (before_written k (byte ∷ []) put (omega (arith, there)))
+
+      slots : drop (base + 2) written ≡ drop (base + 2) put
+      slots = later_kept (k + 1) (base + 2) put written (omega (arith, to)) (behind_byte k byte put there)
+
+      long_written : length put ≤ length written
+      long_written = omega (arith, length_written k (byte ∷ []) put (omega (arith, there)))
+
+      keeps_list : get_or written base 0 ≡ a → get_or written (base + 1) 0 ≡ b → names_slot_one a b ≡ current → journal_at is_image may_follow written ≡ Ok list
+      keeps_list first second named = old_list written a b head slots long_written first second named
+
+      selector_commits : get_or written base 0 ≡ a → get_or written (base + 1) 0 ≡ b → names_slot_one a b ≡ not current → journal_at is_image may_follow (overwritten k (0xa5 ∷ []) put) ≡ Ok list
           → Commits is_image may_follow list (image ∷ []) at content k byte (InUse base a b (at + 4 + length image)) file
-      selector_commits first second named =
-          let head = same_earlier written put base k from (before_written k (byte ∷ []) put (omega (arith, there))) in
-          let slots = later_kept (k + 1) (base + 2) put written (omega (arith, to)) (behind_byte k byte put there) in
-          let long : length put ≤ length written = omega (arith, length_written k (byte ∷ []) put (omega (arith, there))) in
-          record {
-            first = first_cut;
-            second = second_cut;
-            stands = new_stands written a b head slots long first second named;
-            has = new_list written a b head slots long first second named;
-          }
+      selector_commits first second named torn = record {
+        first = first_cut;
+        second = second_cut;
+        torn = torn;
+        stands = new_stands written a b head slots long_written first second named;
+        has = new_list written a b head slots long_written first second named;
+      }
+
+  -- the first selector in one of the slots, and the second
+  first_selector : (byte : ℕ) → (get_or (overwritten base (byte ∷ []) put) base 0 ≡ byte) × (get_or (overwritten base (byte ∷ []) put) (base + 1) 0 ≡ p1)
+  first_selector byte =
+      let there : base < length put = omega (arith, long_put) in
+      (byte_there base byte put there, next_byte base byte put there ∙ put_byte (base + 1) (omega arith) ∙ stands.p1_is)
+
+  second_selector : (byte : ℕ) → (get_or (overwritten (base + 1) (byte ∷ []) put) base 0 ≡ p0) × (get_or (overwritten (base + 1) (byte ∷ []) put) (base + 1) 0 ≡ byte)
+  second_selector byte =
+      let there : base + 1 < length put = omega (arith, long_put) in
+      let before : get_or (overwritten (base + 1) (byte ∷ []) put) base 0 ≡ get_or put base 0 = same_byte (overwritten (base + 1) (byte ∷ []) put) put base (base + 1) (omega arith) (before_written (base + 1) (byte ∷ []) put (omega (arith, there))) in
+      (before ∙ put_byte base (omega arith) ∙ stands.p0_is, byte_there (base + 1) byte put there)
 
   pub one_commits : current ≡ false → Commits is_image may_follow list (image ∷ []) at content base (selector_above p1) (InUse base (selector_above p1) p1 (at + 4 + length image)) file
   one_commits zero =
       let byte = selector_above p1 in
-      let there : base < length put = omega (arith, long_put) in
-      selector_commits base (omega arith) (omega arith) byte byte p1 (byte_there base byte put there) (next_byte base byte put there ∙ put_byte (base + 1) (omega arith) ∙ stands.p1_is) (names_one p1 ∙ sym (ap not zero))
+      let read = first_selector byte in
+      let torn = first_selector 0xa5 in
+      selector_commits base (omega arith) (omega arith) byte byte p1 read.0 read.1 (names_one p1 ∙ sym (ap not zero))
+      (keeps_list base (omega arith) (omega arith) 0xa5 0xa5 p1 torn.0 torn.1 (sym zero))
 
   pub zero_commits : current ≡ true → Commits is_image may_follow list (image ∷ []) at content (base + 1) (selector_above p0) (InUse base p0 (selector_above p0) (at + 4 + length image)) file
   zero_commits one =
       let byte = selector_above p0 in
-      let there : base + 1 < length put = omega (arith, long_put) in
-      let before : get_or (overwritten (base + 1) (byte ∷ []) put) base 0 ≡ get_or put base 0 = same_byte (overwritten (base + 1) (byte ∷ []) put) put base (base + 1) (omega arith) (before_written (base + 1) (byte ∷ []) put (omega (arith, there))) in
-      selector_commits (base + 1) (omega arith) (omega arith) byte p0 byte (before ∙ put_byte base (omega arith) ∙ stands.p0_is) (byte_there (base + 1) byte put there) (names_zero p0 ∙ sym (ap not one))
+      let read = second_selector byte in
+      let torn = second_selector 0xa5 in
+      selector_commits (base + 1) (omega arith) (omega arith) byte p0 byte read.0 read.1 (names_zero p0 ∙ sym (ap not one))
+      (keeps_list (base + 1) (omega arith) (omega arith) 0xa5 p0 0xa5 torn.0 torn.1 (names_torn p0 p1 one ∙ sym one))

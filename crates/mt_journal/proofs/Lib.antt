@@ -6,8 +6,10 @@ pub mod Heads
 pub mod Images
 pub mod LaterImage
 pub mod Lists
+pub mod Logging
 pub mod Moments
 pub mod Pieces
 pub mod Records
 pub mod Steps
+pub mod Stopping
 pub mod Walking

@@ -8,9 +8,9 @@ use Rattle.mt_outside.specs.Disk.{CutShort, overwritten}
 use Rattle.mt_journal.specs.Committing.{Commits}
 use Rattle.mt_journal.specs.Layout.{MayFollow, Reads, Records, ◌>>=◌, is_open, is_past, journal_at, list_of_slot, names_slot_one, records_at, slot_at, slot_length, slot_start}
 use Rattle.mt_journal.specs.Standing.{HasEither, HasUpTo, IsInUse, go_on, length_field}
-use Rattle.mt_journal.specs.declared.place.Place.TheVariants.{InUse}
+use Rattle.mt_journal.specs.declared.position.Position.TheVariants.{InUse}
 use Rattle.mt_journal.proofs.Heads.{by_selectors}
-use Rattle.mt_journal.proofs.Lists.{as_long, before_cut, before_written, from_written, length_written, one_byte, same_byte, same_earlier, same_part}
+use Rattle.mt_journal.proofs.Lists.{as_long, before_cut, before_written, byte_there, from_written, length_written, one_byte, same_byte, same_earlier, same_part}
 use Rattle.mt_journal.proofs.Pieces.{closed_gate, go_on-none, go_on-push, open_gate}
 
 pub gate_is : (byte : ℕ) → is_open byte ≡ true → byte ≡ 0x5a
@@ -97,10 +97,10 @@ module _ (is_image : List ℕ → Bool) (may_follow : MayFollow) (base p0 p1 gat
     long_laid = length_written (gate + 1) bytes file behind_gate
 
     -- a crash of the first write leaves the list
-    first_cut : (other : List ℕ) → CutShort (gate + 1) (length bytes) file other → HasEither is_image may_follow list (list ++ change ∷ []) other
+    first_cut : (other : List ℕ) → CutShort (gate + 1) (length bytes) file other → journal_at is_image may_follow other ≡ Ok list
     first_cut other cut =
         let same = before_cut (gate + 1) (length bytes) file other behind_gate cut in
-        inl (has_list other (same_earlier other file gate (gate + 1) (omega arith) same) (omega (arith, stands.there, cut.no_shorter)) (ap is_open (same_byte other file gate (gate + 1) (omega arith) same) ∙ stands.closed))
+        has_list other (same_earlier other file gate (gate + 1) (omega arith) same) (omega (arith, stands.there, cut.no_shorter)) (ap is_open (same_byte other file gate (gate + 1) (omega arith) same) ∙ stands.closed)
 
     abbrev tail : List ℕ
     tail = 0 ∷ drop (gate + 1 + length bytes) file
@@ -131,6 +131,14 @@ module _ (is_image : List ℕ → Bool) (may_follow : MayFollow) (base p0 p1 gat
         (λ (opens : is_open (get_or other gate 0) ≡ true). inr (opened other same (from ∙ ap (λ (b : ℕ). b ∷ length_field (length change) ++ (change ++ tail)) (gate_is (get_or other gate 0) opens))))
         (λ (shut : is_open (get_or other gate 0) ≡ false). inl (has_list other same longer shut))
         (cases_Bool (is_open (get_or other gate 0)))
+
+    -- so does a gate that is torn
+    torn_list : journal_at is_image may_follow (overwritten gate (0xa5 ∷ []) laid) ≡ Ok list
+    torn_list =
+        let there : gate < length laid = omega (arith, long_laid, stands.there) in
+        let other = overwritten gate (0xa5 ∷ []) laid in
+        has_list other (before_written gate (0xa5 ∷ []) laid (omega (arith, there)) ∙ same_earlier laid file gate (gate + 1) (omega arith) laid_before)
+        (omega (arith, there, length_written gate (0xa5 ∷ []) laid (omega (arith, there)))) (ap is_open (byte_there gate 0xa5 laid there))
 
     -- the file after both writes
     abbrev added : List ℕ
@@ -202,6 +210,7 @@ module _ (is_image : List ℕ → Bool) (may_follow : MayFollow) (base p0 p1 gat
     change_commits = record {
       first = first_cut;
       second = second_cut;
+      torn = torn_list;
       stands = added_stands;
       has = opened added added_before added_from;
     }

@@ -5,7 +5,7 @@ use Rattle.std.proofs.lemmas.Bool.Decides.{nat_tests}
 use Rattle.mt_journal.specs.Committing.{StepCommits, has_form, has_room}
 use Rattle.mt_journal.specs.Layout.{MayFollow, names_slot_one, selector_above, slot_length, slot_start}
 use Rattle.mt_journal.specs.Standing.{IsBegun, IsInUse, IsLog, fits_at}
-use Rattle.mt_journal.specs.declared.place.Place.TheVariants.{Begun, Log, InUse}
+use Rattle.mt_journal.specs.declared.position.Position.TheVariants.{Begun, Log, InUse}
 use Rattle.mt_journal.specs.declared.planning.Front.TheVariants.{Nothing, Selectors, Move}
 use Rattle.mt_journal.specs.declared.planning.Kind.{Kind}
 use Rattle.mt_journal.specs.declared.planning.Kind.TheVariants.{Change, Image}

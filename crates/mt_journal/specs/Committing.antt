@@ -1,10 +1,12 @@
 -- What a commit writes, and why a crash at any moment leaves what was there before it or after it.
 use Rattle.std.specs.Prelude.{◌≡◌, ◌⊎◌, ℕ, Bool, true, false, List, [], ◌∷◌, ◌++◌, length, Ok}
 use Rattle.mt_outside.specs.Disk.{CutShort, overwritten}
+use Rattle.mt_outside.specs.MemoryDisk.{DiskEvent}
+use Rattle.mt_outside.specs.MemoryDisk.DiskEvent.{wrote, synced}
 use Rattle.mt_journal.specs.Layout.{MayFollow, journal_at}
 use Rattle.mt_journal.specs.Standing.{HasEither, Stands, fits_at, length_field}
-use Rattle.mt_journal.specs.declared.place.Place.{Place}
-use Rattle.mt_journal.specs.declared.place.Place.TheVariants.{Fresh, Begun, Log, InUse}
+use Rattle.mt_journal.specs.declared.position.Position.{Position}
+use Rattle.mt_journal.specs.declared.position.Position.TheVariants.{Fresh, Begun, Log, InUse}
 use Rattle.mt_journal.specs.declared.planning.Kind.{Kind}
 use Rattle.mt_journal.specs.declared.planning.Kind.TheVariants.{Change, Image}
 use Rattle.mt_journal.specs.declared.planning.Front.{Front}
@@ -22,12 +24,12 @@ has_form is_image may_follow Change list piece = may_follow list piece
 has_form is_image may_follow Image list piece = is_image piece
 
 -- an image always finds room
-abbrev pub has_room : Kind → Place → ℕ → Bool
+abbrev pub has_room : Kind → Position → ℕ → Bool
 has_room Change place count = fits_at place count
 has_room Image place count = true
 
 -- a file has its mark and a begin gate
-abbrev pub has_begun : Place → Bool
+abbrev pub has_begun : Position → Bool
 has_begun Fresh = false
 has_begun Begun = true
 has_begun (Log gate) = true
@@ -50,14 +52,20 @@ piece_written step piece file = overwritten step.at (laid_out step.front piece) 
 abbrev pub written_by : Step → List ℕ → List ℕ → List ℕ
 written_by step piece file = overwritten step.last_at (step.last ∷ []) (piece_written step piece file)
 
+-- the writes and syncs of a step
+abbrev pub calls_of : Step → List ℕ → List DiskEvent
+calls_of step piece = wrote step.at (laid_out step.front piece) ∷ synced ∷ wrote step.last_at (step.last ∷ []) ∷ synced ∷ []
+
 -- what a crash may leave meanwhile: the first write is cut short, or the second
 abbrev pub CutIn : Step → List ℕ → List ℕ → List ℕ → Type 0
 CutIn step piece file image = CutShort step.at (length (laid_out step.front piece)) file image ⊎ CutShort step.last_at 1 (piece_written step piece file) image
 
--- Bytes are written at a place and, once they are safe, one byte, which makes them count. A crash leaves the one list or the other, and in the end the file has the other, and this place stands for it.
-pub record Commits (is_image : List ℕ → Bool) (may_follow : MayFollow) (list other : List (List ℕ)) (at : ℕ) (bytes : List ℕ) (last_at last : ℕ) (next : Place) (file : List ℕ) : Type 0 where
-  pub first : (image : List ℕ) → CutShort at (length bytes) file image → HasEither is_image may_follow list other image
+-- Bytes are written at a place and, once they are safe, one byte, which makes them count. A crash leaves the one list while they are written, and the one or the other later; in the end the file has the other, and this place stands for it.
+pub record Commits (is_image : List ℕ → Bool) (may_follow : MayFollow) (list other : List (List ℕ)) (at : ℕ) (bytes : List ℕ) (last_at last : ℕ) (next : Position) (file : List ℕ) : Type 0 where
+  pub first : (image : List ℕ) → CutShort at (length bytes) file image → journal_at is_image may_follow image ≡ Ok list
   pub second : (image : List ℕ) → CutShort last_at 1 (overwritten at bytes file) image → HasEither is_image may_follow list other image
+  -- where the last byte is torn the file still has the one list
+  pub torn : journal_at is_image may_follow (overwritten last_at (0xa5 ∷ []) (overwritten at bytes file)) ≡ Ok list
   pub stands : Stands is_image may_follow next other (overwritten last_at (last ∷ []) (overwritten at bytes file))
   pub has : journal_at is_image may_follow (overwritten last_at (last ∷ []) (overwritten at bytes file)) ≡ Ok other
 

@@ -2,3 +2,4 @@ pub mod Committing
 pub mod Layout
 pub mod Recovering
 pub mod Standing
+pub mod Stopping

@@ -2,8 +2,8 @@
 use Rattle.std.specs.Prelude.{◌≡◌, ◌≤◌, ◌<◌, ◌+◌, ◌-◌, ℕ, Bool, false, List, [], ◌∷◌, ◌++◌, length, take, drop, get_or, Ok, Option, Some, None, nat_lt, not, ◌⊎◌, ◌%◌, ◌/◌, ◌^◌, min}
 use Rattle.mt_outside.specs.Disk.{LeavesContents}
 use Rattle.mt_journal.specs.Layout.{MayFollow, Reads, Records, ◌>>=◌, is_open, journal_at, log_at, log_mark, mark, names_slot_one, records_at, slot_at, slot_length, slot_start, slots_at}
-use Rattle.mt_journal.specs.declared.place.Place.{Place}
-use Rattle.mt_journal.specs.declared.place.Place.TheVariants.{Fresh, Begun, Log, InUse}
+use Rattle.mt_journal.specs.declared.position.Position.{Position}
+use Rattle.mt_journal.specs.declared.position.Position.TheVariants.{Fresh, Begun, Log, InUse}
 
 -- a length as four bytes, the lowest first
 abbrev pub length_field : ℕ → List ℕ
@@ -51,14 +51,14 @@ pub record IsLog (may_follow : MayFollow) (gate : ℕ) (list : List (List ℕ)) 
   pub log : HasUpTo (log_at may_follow) may_follow None 8 gate list file
 
 -- The place that a journal keeps is that of this file, which has this list.
-abbrev pub Stands : (List ℕ → Bool) → MayFollow → Place → List (List ℕ) → List ℕ → Type 0
+abbrev pub Stands : (List ℕ → Bool) → MayFollow → Position → List (List ℕ) → List ℕ → Type 0
 Stands is_image may_follow Fresh list file = (length file ≤ 9) × (list ≡ [])
 Stands is_image may_follow Begun list file = IsBegun list file
 Stands is_image may_follow (Log gate) list file = IsLog may_follow gate list file
 Stands is_image may_follow (InUse base p0 p1 gate) list file = IsInUse is_image may_follow base p0 p1 gate list file
 
 -- The disk tells its contents, all of them safe, and they have this list.
-pub record StandsFor {D : Type 0} (contents : D → Option (List ℕ)) (images : D → List ℕ → Type 0) (is_image : List ℕ → Bool) (may_follow : MayFollow) (disk : D) (place : Place) (list : List (List ℕ)) : Type 0 where
+pub record StandsFor {D : Type 0} (contents : D → Option (List ℕ)) (images : D → List ℕ → Type 0) (is_image : List ℕ → Bool) (may_follow : MayFollow) (disk : D) (place : Position) (list : List (List ℕ)) : Type 0 where
   pub file : List ℕ
   pub told : contents disk ≡ Some file
   pub safe : LeavesContents (Some file) (images disk)
@@ -66,21 +66,21 @@ pub record StandsFor {D : Type 0} (contents : D → Option (List ℕ)) (images :
   pub has : journal_at is_image may_follow file ≡ Ok list
 
 -- a record of this length and its next gate end within the current slot, and there is one
-abbrev pub fits_at : Place → ℕ → Bool
+abbrev pub fits_at : Position → ℕ → Bool
 fits_at (InUse base p0 p1 gate) count = not (nat_lt (slot_start base (names_slot_one p0 p1) + slot_length) (gate + 6 + count))
 fits_at Fresh count = false
 fits_at Begun count = false
 fits_at (Log gate) count = false
 
 -- where the selectors are, or where they will be
-abbrev pub selectors_at : Place → ℕ
+abbrev pub selectors_at : Position → ℕ
 selectors_at (InUse base p0 p1 gate) = base
 selectors_at (Log gate) = gate + 5
 selectors_at Fresh = 9
 selectors_at Begun = 9
 
 -- no place of it comes near the last number of 64 bits
-abbrev pub IsWithin : Place → Type 0
+abbrev pub IsWithin : Position → Type 0
 IsWithin place = selectors_at place ≤ 2 ^ 62 + 5
 
 -- the file has the one list or the other
@@ -92,7 +92,7 @@ abbrev pub after_calls : ℕ → ℕ → ℕ
 after_calls more count = min (count + more) (2 ^ 64 - 1)
 
 -- how many calls of the disk an image takes
-abbrev pub switch_calls : Place → ℕ
+abbrev pub switch_calls : Position → ℕ
 switch_calls Fresh = 6
 switch_calls Begun = 4
 switch_calls (Log gate) = 4

@@ -1,19 +1,21 @@
 //! A journal that is in use.
 
-ghost use Rattle.std.specs.Prelude.{◌≡◌, ◌≤◌, ◌<◌, ◌+◌, ◌⊎◌, ◌++◌, [], ◌∷◌, ℕ, List, Err, Ok, Some, Bool, false, length, is_err, vec_capacity, IfErr, IfOk, OnErr, OnOk, IsErr, IsTrue};
-ghost use Rattle.mt_journal.specs.Committing.{CutIn, has_begun, has_form, has_room, list_with, written_by};
+ghost use Rattle.std.specs.Prelude.{◌≡◌, ◌≤◌, ◌<◌, ◌+◌, ◌⊎◌, ◌++◌, [], ◌∷◌, ℕ, List, Err, Ok, Some, Bool, false, true, length, is_err, vec_capacity, IfErr, IfOk, OnErr, OnOk, IsErr, IsTrue};
+ghost use Rattle.mt_journal.specs.Committing.{CutIn, calls_of, has_begun, has_form, has_room, list_with, written_by};
 ghost use Rattle.mt_journal.specs.Layout.{journal_at};
 ghost use Rattle.mt_journal.specs.Standing.{HasEither, IsWithin, StandsFor, after_calls, fits_at, switch_calls};
+ghost use Rattle.mt_journal.specs.Stopping.{Outlasts, StopKeeps, StopLeaves, head_calls};
 ghost use Rattle.mt_outside.specs.Disk.{LeavesContents, LeavesOnly};
+ghost use Rattle.mt_outside.specs.Logs.{Logs, fewer};
 ghost use Rattle.mt_outside.specs.Stream.{HasCause, RoseByOne, one_more};
 
 use crate::form::Form;
-use crate::place::{Place, slot_end};
 use crate::planning::{Kind, Step, front_bytes, step_for};
+use crate::position::{Position, slot_end};
 use crate::reading::JournalFault;
 use crate::recovering::read_journal;
 use crate::writing::{lay_out, put, put_both};
-use mt_outside::{Disk, Failed};
+use mt_outside::{Disk, Failed, stops_are_crashes};
 use mt_tlv::Bytes;
 use std::alloc::Global;
 use std::marker::PhantomData;
@@ -32,7 +34,7 @@ const RECORD_ROOM: u64 = 6;
 #[derive(Drop)]
 pub struct Journal<D: Disk, F: Form> {
     pub disk: D,
-    pub place: Place,
+    pub place: Position,
     pub failed: bool,
     buffer: Vec<u8>,
     form: PhantomData<F>,
@@ -42,7 +44,7 @@ pub struct Journal<D: Disk, F: Form> {
 
 impl<D: Disk, F: Form> Journal<D, F> {
     ghost use Rattle.mt_journal.specs.Layout.{journal_at};
-    ghost use Rattle.mt_journal.specs.Recovering.{FaultHasCause, HasPlace, OnlyRead};
+    ghost use Rattle.mt_journal.specs.Recovering.{FaultHasCause, HasPlace, HasReadCause, IfNotAJournal, OnlyRead};
     ghost use Rattle.mt_journal.specs.Standing.{HasEither, StandsFor, after_calls, fits_at, switch_calls};
 
     /// Recovers a journal: its list is that of the file, in order, an image first if there is one. It
@@ -78,6 +80,34 @@ impl<D: Disk, F: Form> Journal<D, F> {
         Ok((journal, changes))
     }
 
+    /// Recovers the journal again, over the disk that it has, as `recover` does. Where that fails the journal
+    /// has failed, and has to be reopened.
+    pub fn reopen(&mut self, alloc: Global) -> Result<Vec<Bytes>, JournalFault>
+        ensures recovered { (file : List ℕ) → D.contents self.old.disk ≡ Some file → IfOk result (λ list. (journal_at F.image F.change file ≡ Ok list.items)
+            × StandsFor D.contents D.images F.image F.change self.new.disk self.new.place list.items) }
+        ensures ready { self.new.failed ≡ is_err result }
+        // It names the place from which on the file is no journal.
+        ensures refused { (file : List ℕ) → D.contents self.old.disk ≡ Some file → IfNotAJournal result (λ at. journal_at F.image F.change file ≡ Err at) }
+        ensures only_read { OnlyRead D.contents D.images D.moment D.images_since self.old.disk self.new.disk }
+        // The disk has failed where that is the fault, and not otherwise.
+        ensures cause { HasReadCause (D.faults self.old.disk) (D.faults self.new.disk) result }
+    {
+        self.failed = true;
+        let (place, changes) = read_journal::<D, F>(alloc, &mut self.disk)?;
+        self.place = place;
+        self.failed = false;
+        Ok(changes)
+    }
+
+    /// The journal makes no more calls, until it is reopened.
+    pub fn give_up(&mut self)
+        ensures failed { self.new.failed ≡ true }
+        ensures disk { self.new.disk ≡ self.old.disk }
+        ensures place { self.new.place ≡ self.old.place }
+    {
+        self.failed = true;
+    }
+
     /// The disk, as it is.
     pub fn into_disk(self) -> D
         ensures { result ≡ self.disk }
@@ -96,6 +126,12 @@ impl<D: Disk, F: Form> Journal<D, F> {
         // A crash at any moment leaves the list with the change or without it.
         ensures moments { (list : List (List ℕ)) → StandsFor D.contents D.images F.image F.change self.old.disk self.old.place list → IsTrue (F.change list change.now)
             → LeavesOnly D.moment D.images_since self.old.disk self.new.disk (HasEither F.image F.change list (list ++ change.now ∷ [])) }
+        // What a disk leaves that stops in it has the list with the change exactly where it stops at one of the
+        // last two calls and all is kept, and otherwise the list from before.
+        ensures left { (list : List (List ℕ)) → StandsFor D.contents D.images F.image F.change self.old.disk self.old.place list → IsTrue (F.change list change.now) → self.old.failed ≡ false
+            → OnErr result (StopLeaves F.image F.change 4 list (list ++ change.now ∷ []) (D.allowed self.old.disk) (D.allowed self.new.disk) (D.log self.new.disk)) }
+        // Ok leaves so many calls fewer until the disk is to stop.
+        ensures lasts { OnOk result ((D.allowed self.new.disk ≡ fewer 4 (D.allowed self.old.disk)) × Outlasts 4 (D.allowed self.old.disk)) }
         ensures calls { OnOk result (D.calls self.new.disk ≡ after_calls 4 (D.calls self.old.disk)) }
         // It fails only where the disk has failed in it, or an earlier call has.
         ensures failed { self.new.failed ≡ is_err result }
@@ -116,6 +152,12 @@ impl<D: Disk, F: Form> Journal<D, F> {
         // A crash at any moment leaves the list or the image alone.
         ensures moments { (list : List (List ℕ)) → StandsFor D.contents D.images F.image F.change self.old.disk self.old.place list
             → LeavesOnly D.moment D.images_since self.old.disk self.new.disk (HasEither F.image F.change list (image.now ∷ [])) }
+        // What a disk leaves that stops in it has the image exactly where it stops at one of the last two calls
+        // and all is kept, and otherwise the list from before.
+        ensures left { (list : List (List ℕ)) → StandsFor D.contents D.images F.image F.change self.old.disk self.old.place list → self.old.failed ≡ false
+            → OnErr result (StopLeaves F.image F.change (switch_calls self.old.place) list (image.now ∷ []) (D.allowed self.old.disk) (D.allowed self.new.disk) (D.log self.new.disk)) }
+        // Ok leaves so many calls fewer until the disk is to stop.
+        ensures lasts { OnOk result ((D.allowed self.new.disk ≡ fewer (switch_calls self.old.place) (D.allowed self.old.disk)) × Outlasts (switch_calls self.old.place) (D.allowed self.old.disk)) }
         ensures calls { OnOk result (D.calls self.new.disk ≡ after_calls (switch_calls self.old.place) (D.calls self.old.disk)) }
         // It fails only where the disk has failed in it, or an earlier call has.
         ensures failed { self.new.failed ≡ is_err result }
@@ -131,7 +173,7 @@ impl<D: Disk, F: Form> Journal<D, F> {
         ensures { result ≡ fits_at self.now.place length }
     {
         match self.place {
-            Place::InUse { base, p0, p1, gate } => {
+            Position::InUse { base, p0, p1, gate } => {
                 let last = slot_end(base, p0, p1) - RECORD_ROOM;
                 gate <= last && length as u64 <= last - gate
             }
@@ -148,6 +190,9 @@ impl<D: Disk, F: Form> Journal<D, F> {
             → OnOk result (StandsFor D.contents D.images F.image F.change self.new.disk self.new.place (list_with kind piece.now list)) }
         ensures moments { (list : List (List ℕ)) → StandsFor D.contents D.images F.image F.change self.old.disk self.old.place list → IsTrue (has_form F.image F.change kind list piece.now)
             → LeavesOnly D.moment D.images_since self.old.disk self.new.disk (HasEither F.image F.change list (list_with kind piece.now list)) }
+        ensures left { (list : List (List ℕ)) → StandsFor D.contents D.images F.image F.change self.old.disk self.old.place list → IsTrue (has_form F.image F.change kind list piece.now) → self.old.failed ≡ false
+            → OnErr result (StopLeaves F.image F.change (switch_calls self.old.place) list (list_with kind piece.now list) (D.allowed self.old.disk) (D.allowed self.new.disk) (D.log self.new.disk)) }
+        ensures lasts { OnOk result ((D.allowed self.new.disk ≡ fewer (switch_calls self.old.place) (D.allowed self.old.disk)) × Outlasts (switch_calls self.old.place) (D.allowed self.old.disk)) }
         ensures calls { OnOk result (D.calls self.new.disk ≡ after_calls (switch_calls self.old.place) (D.calls self.old.disk)) }
         ensures failed { self.new.failed ≡ is_err result }
         ensures cause { self.old.failed ≡ false → HasCause (D.faults self.old.disk) (D.faults self.new.disk) result }
@@ -167,10 +212,10 @@ impl<D: Disk, F: Form> Journal<D, F> {
 fn commit_at<D: Disk, F: Form>(
     disk: &mut D,
     buffer: &mut Vec<u8>,
-    place: Place,
+    place: Position,
     kind: Kind,
     piece: &[u8],
-) -> Result<Place, Failed>
+) -> Result<Position, Failed>
     requires capacity { 65547 ≤ vec_capacity buffer.old }
     requires within { IsWithin place }
     requires short { length piece.now ≤ 65536 }
@@ -179,11 +224,15 @@ fn commit_at<D: Disk, F: Form>(
         → IfOk result (λ next. StandsFor D.contents D.images F.image F.change disk.new next (list_with kind piece.now list)) }
     ensures moments { (list : List (List ℕ)) → StandsFor D.contents D.images F.image F.change disk.old place list → IsTrue (has_form F.image F.change kind list piece.now)
         → LeavesOnly D.moment D.images_since disk.old disk.new (HasEither F.image F.change list (list_with kind piece.now list)) }
+    ensures left { (list : List (List ℕ)) → StandsFor D.contents D.images F.image F.change disk.old place list → IsTrue (has_form F.image F.change kind list piece.now)
+        → OnErr result (StopLeaves F.image F.change (switch_calls place) list (list_with kind piece.now list) (D.allowed disk.old) (D.allowed disk.new) (D.log disk.new)) }
+    ensures lasts { OnOk result ((D.allowed disk.new ≡ fewer (switch_calls place) (D.allowed disk.old)) × Outlasts (switch_calls place) (D.allowed disk.old)) }
     ensures calls { OnOk result (D.calls disk.new ≡ after_calls (switch_calls place) (D.calls disk.old)) }
     ensures cause { HasCause (D.faults disk.old) (D.faults disk.new) result }
     ensures next_within { IfOk result (λ next. IsWithin next) }
     ensures buffer { vec_capacity buffer.old ≤ vec_capacity buffer.new }
 {
+    stops_are_crashes();
     let begun = begin::<D, F>(disk, place)?;
     let step = step_for(kind, begun, piece.len() as u64);
     carry_out(disk, buffer, step, piece)?;
@@ -203,6 +252,7 @@ fn carry_out<D: Disk>(
         → OnOk result ((D.contents disk.new ≡ Some (written_by step piece.now file)) × LeavesContents (Some (written_by step piece.now file)) (D.images disk.new)) }
     ensures moments { (file : List ℕ) → D.contents disk.old ≡ Some file → LeavesContents (Some file) (D.images disk.old)
         → LeavesOnly D.moment D.images_since disk.old disk.new (CutIn step piece.now file) }
+    ensures logged { Logs (calls_of step piece.now) (D.log disk.old) (D.log disk.new) (D.allowed disk.old) (D.allowed disk.new) result }
     ensures calls { OnOk result (D.calls disk.new ≡ after_calls 4 (D.calls disk.old)) }
     ensures cause { HasCause (D.faults disk.old) (D.faults disk.new) result }
     ensures buffer { vec_capacity buffer.old ≤ vec_capacity buffer.new }
@@ -212,21 +262,25 @@ fn carry_out<D: Disk>(
 }
 
 // Writes the head of a file that has none, and gives where its first record goes.
-fn begin<D: Disk, F: Form>(disk: &mut D, place: Place) -> Result<Place, Failed>
+fn begin<D: Disk, F: Form>(disk: &mut D, place: Position) -> Result<Position, Failed>
     requires within { IsWithin place }
     ensures begun { (list : List (List ℕ)) → StandsFor D.contents D.images F.image F.change disk.old place list
         → IfOk result (λ next. StandsFor D.contents D.images F.image F.change disk.new next list) }
     ensures has_begun { IfOk result (λ next. IsTrue (has_begun next)) }
     ensures moments { (list : List (List ℕ)) → StandsFor D.contents D.images F.image F.change disk.old place list
         → LeavesOnly D.moment D.images_since disk.old disk.new (λ image. journal_at F.image F.change image ≡ Ok list) }
+    ensures left { (list : List (List ℕ)) → StandsFor D.contents D.images F.image F.change disk.old place list
+        → OnErr result (StopKeeps F.image F.change 2 list (D.allowed disk.old) (D.allowed disk.new) (D.log disk.new)) }
+    ensures logged { Logs (head_calls place) (D.log disk.old) (D.log disk.new) (D.allowed disk.old) (D.allowed disk.new) result }
     ensures room { (kind : Kind) (count : ℕ) → IsTrue (has_room kind place count) → IfOk result (λ next. IsTrue (has_room kind next count)) }
     ensures calls { OnOk result (after_calls 4 (D.calls disk.new) ≡ after_calls (switch_calls place) (D.calls disk.old)) }
     ensures cause { HasCause (D.faults disk.old) (D.faults disk.new) result }
     ensures next_within { IfOk result (λ next. IsWithin next) }
 {
-    if let Place::Fresh = place {
+    stops_are_crashes();
+    if let Position::Fresh = place {
         put(disk, 0, &HEAD)?;
-        return Ok(Place::Begun);
+        return Ok(Position::Begun);
     }
     Ok(place)
 }

@@ -4,20 +4,20 @@
 //!
 //! - `form`: which bytes are an image and which a change;
 //! - `journal`: adding a change, putting an image in the place of all before it;
-//! - `place`: where the next record goes, `planning`: what a commit writes there;
+//! - `position`: where the next record goes, `planning`: what a commit writes there;
 //! - `recovering`: what a file holds, `reading`: its pieces;
 //! - `writing`: writes that are safe when they are done.
 #![tactic(auto)]
 
 mod form;
 mod journal;
-mod place;
 mod planning;
+mod position;
 mod reading;
 mod recovering;
 mod writing;
 
 pub use form::Form;
 pub use journal::Journal;
-pub use place::Place;
+pub use position::Position;
 pub use reading::JournalFault;

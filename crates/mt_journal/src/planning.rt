@@ -6,7 +6,7 @@ ghost use Rattle.mt_journal.specs.Committing.{laid_out};
 ghost use Rattle.mt_journal.specs.Layout.{MayFollow};
 ghost use Rattle.mt_journal.specs.Standing.{IsInUse, IsWithin, Stands};
 
-use crate::place::{Place, names_slot_one, selector_above, slot_start};
+use crate::position::{Position, names_slot_one, selector_above, slot_start};
 
 // A gate that is open.
 const OPEN: u8 = 0x5a;
@@ -37,11 +37,11 @@ pub struct Step {
     pub front: Front,
     pub last_at: u64,
     pub last: u8,
-    pub next: Place,
+    pub next: Position,
 }
 
 /// The step for a piece of this length, at a place that has begun.
-pub fn step_for(kind: Kind, place: Place, count: u64) -> Step
+pub fn step_for(kind: Kind, place: Position, count: u64) -> Step
     requires begun { IsTrue (has_begun place) }
     requires room { IsTrue (has_room kind place count) }
     requires within { IsWithin place }
@@ -51,16 +51,16 @@ pub fn step_for(kind: Kind, place: Place, count: u64) -> Step
     ensures within { IsWithin result.next }
 {
     match place {
-        Place::Fresh => unreachable!(),
-        Place::Begun => first_image(8, Front::Selectors, 9, count),
-        Place::Log { gate } => first_image(gate, Front::Move, gate + 5, count),
-        Place::InUse { base, p0, p1, gate } => match kind {
+        Position::Fresh => unreachable!(),
+        Position::Begun => first_image(8, Front::Selectors, 9, count),
+        Position::Log { gate } => first_image(gate, Front::Move, gate + 5, count),
+        Position::InUse { base, p0, p1, gate } => match kind {
             Kind::Change => Step {
                 at: gate + 1,
                 front: Front::Nothing,
                 last_at: gate,
                 last: OPEN,
-                next: Place::InUse {
+                next: Position::InUse {
                     base,
                     p0,
                     p1,
@@ -82,7 +82,7 @@ fn first_image(gate: u64, front: Front, base: u64, count: u64) -> Step
       front = front;
       last_at = gate;
       last = 0x5a;
-      next = Place.InUse base 0 0 (base + 6 + count);
+      next = Position.InUse base 0 0 (base + 6 + count);
     } }
 {
     Step {
@@ -90,7 +90,7 @@ fn first_image(gate: u64, front: Front, base: u64, count: u64) -> Step
         front,
         last_at: gate,
         last: OPEN,
-        next: Place::InUse {
+        next: Position::InUse {
             base,
             p0: 0,
             p1: 0,
@@ -113,7 +113,7 @@ fn later_image(base: u64, p0: u8, p1: u8, count: u64) -> Step
     let front = Front::Nothing;
     if is_one {
         let last = selector_above(p1);
-        let next = Place::InUse {
+        let next = Position::InUse {
             base,
             p0: last,
             p1,
@@ -128,7 +128,7 @@ fn later_image(base: u64, p0: u8, p1: u8, count: u64) -> Step
         };
     }
     let last = selector_above(p0);
-    let next = Place::InUse {
+    let next = Position::InUse {
         base,
         p0,
         p1: last,

@@ -7,7 +7,7 @@ ghost use Rattle.mt_journal.specs.Standing.{HasHead, HasUpTo, IsWithin, Stands};
 ghost use Rattle.mt_outside.specs.Disk.{LeavesContents};
 
 use crate::form::Form;
-use crate::place::{Place, SLOT_LENGTH, names_slot_one, slot_start};
+use crate::position::{Position, SLOT_LENGTH, names_slot_one, slot_start};
 use crate::reading::{AtGate, JournalFault, read_at_gate, read_bytes, read_piece};
 use mt_outside::Disk;
 use mt_tlv::Bytes;
@@ -37,7 +37,7 @@ const LOG: u8 = 0x31;
 pub fn read_journal<D: Disk, F: Form>(
     alloc: Global,
     disk: &mut D,
-) -> Result<(Place, Vec<Bytes>), JournalFault>
+) -> Result<(Position, Vec<Bytes>), JournalFault>
     ensures found { (file : List ℕ) → D.contents disk.old ≡ Some file
         → IfOk result (λ journal. (journal_at F.image F.change file ≡ Ok journal.1.items) × Stands F.image F.change journal.0 journal.1.items file) }
     ensures refused { (file : List ℕ) → D.contents disk.old ≡ Some file → IfNotAJournal result (λ at. journal_at F.image F.change file ≡ Err at) }
@@ -53,7 +53,7 @@ pub fn read_journal<D: Disk, F: Form>(
         return Err(JournalFault::Disk);
     };
     if whole < 10 {
-        return Ok((Place::Fresh, Vec::new(alloc)));
+        return Ok((Position::Fresh, Vec::new(alloc)));
     }
     let head = read_bytes(alloc, disk, 0, 9)?;
     read_marked::<D, F>(alloc, disk, whole, &head)
@@ -65,7 +65,7 @@ fn read_marked<D: Disk, F: Form>(
     disk: &mut D,
     whole: u64,
     head: &[u8],
-) -> Result<(Place, Vec<Bytes>), JournalFault>
+) -> Result<(Position, Vec<Bytes>), JournalFault>
     requires { whole ≤ 2 ^ 62 }
     ensures found { (file : List ℕ) → D.contents disk.old ≡ Some file → whole ≡ length file → 10 ≤ length file → head.now ≡ take 9 file
         → IfOk result (λ journal. (journal_at F.image F.change file ≡ Ok journal.1.items) × Stands F.image F.change journal.0 journal.1.items file) }
@@ -90,7 +90,7 @@ fn read_marked<D: Disk, F: Form>(
         return Err(JournalFault::NotAJournal(same));
     }
     if *begin != OPEN {
-        return Ok((Place::Begun, Vec::new(alloc)));
+        return Ok((Position::Begun, Vec::new(alloc)));
     }
     read_slots::<D, F>(alloc, disk, whole, 9)
 }
@@ -100,7 +100,7 @@ fn read_log<D: Disk, F: Form>(
     alloc: Global,
     disk: &mut D,
     whole: u64,
-) -> Result<(Place, Vec<Bytes>), JournalFault>
+) -> Result<(Position, Vec<Bytes>), JournalFault>
     requires { whole ≤ 2 ^ 62 }
     ensures found { (file : List ℕ) → D.contents disk.old ≡ Some file → whole ≡ length file → 10 ≤ length file → take 8 file ≡ log_mark
         → IfOk result (λ journal. (journal_at F.image F.change file ≡ Ok journal.1.items) × Stands F.image F.change journal.0 journal.1.items file) }
@@ -115,7 +115,7 @@ fn read_log<D: Disk, F: Form>(
     let (end, changes) = read_records(alloc, disk, &mut form, whole, None, 8, none)?;
     drop(form);
     match end {
-        RecordsEnd::Closed(gate) => Ok((Place::Log { gate }, changes)),
+        RecordsEnd::Closed(gate) => Ok((Position::Log { gate }, changes)),
         RecordsEnd::Moved(gate) => read_slots::<D, F>(alloc, disk, whole, gate + 5),
     }
 }
@@ -126,7 +126,7 @@ fn read_slots<D: Disk, F: Form>(
     disk: &mut D,
     whole: u64,
     base: u64,
-) -> Result<(Place, Vec<Bytes>), JournalFault>
+) -> Result<(Position, Vec<Bytes>), JournalFault>
     requires base { base ≤ 2 ^ 62 + 5 }
     requires whole { whole ≤ 2 ^ 62 }
     ensures found { (file : List ℕ) → D.contents disk.old ≡ Some file → whole ≡ length file → 10 ≤ length file → 9 ≤ base → HasHead F.image F.change base file
@@ -140,7 +140,7 @@ fn read_slots<D: Disk, F: Form>(
     let (p0, p1) = read_selectors(alloc, disk, whole, base)?;
     let start = slot_start(base, names_slot_one(p0, p1));
     let (gate, changes) = read_slot::<D, F>(alloc, disk, whole, start)?;
-    Ok((Place::InUse { base, p0, p1, gate }, changes))
+    Ok((Position::InUse { base, p0, p1, gate }, changes))
 }
 
 // Reads the selectors at the base.

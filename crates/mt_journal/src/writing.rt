@@ -3,6 +3,8 @@
 ghost use Rattle.std.specs.Prelude.{◌≡◌, ◌≤◌, ◌+◌, ◌++◌, [], ◌∷◌, ◌⊎◌, List, ℕ, Some, length, vec_capacity, OnOk};
 ghost use Rattle.mt_journal.specs.Standing.{after_calls, length_field};
 ghost use Rattle.mt_outside.specs.Disk.{CutShort, LeavesContents, LeavesOnly, overwritten};
+ghost use Rattle.mt_outside.specs.Logs.{Logs};
+ghost use Rattle.mt_outside.specs.MemoryDisk.DiskEvent.{wrote, synced};
 ghost use Rattle.mt_outside.specs.Stream.{HasCause, one_more};
 
 use mt_outside::{Disk, Failed};
@@ -17,6 +19,7 @@ pub fn put<D: Disk>(disk: &mut D, at: u64, bytes: &[u8]) -> Result<(), Failed>
     // A crash at any moment leaves the file after a write that is cut short.
     ensures moments { (file : List ℕ) → D.contents disk.old ≡ Some file → LeavesContents (Some file) (D.images disk.old)
         → LeavesOnly D.moment D.images_since disk.old disk.new (CutShort at (length bytes.now) file) }
+    ensures logged { Logs (wrote at bytes.now ∷ synced ∷ []) (D.log disk.old) (D.log disk.new) (D.allowed disk.old) (D.allowed disk.new) result }
     ensures calls { OnOk result (D.calls disk.new ≡ one_more (one_more (D.calls disk.old))) }
     ensures cause { HasCause (D.faults disk.old) (D.faults disk.new) result }
 {
@@ -38,6 +41,7 @@ pub fn put_both<D: Disk>(
     // A crash at any moment leaves the file after the first write is cut short, or the second.
     ensures moments { (file : List ℕ) → D.contents disk.old ≡ Some file → LeavesContents (Some file) (D.images disk.old)
         → LeavesOnly D.moment D.images_since disk.old disk.new (λ image. CutShort at (length bytes.now) file image ⊎ CutShort last_at 1 (overwritten at bytes.now file) image) }
+    ensures logged { Logs (wrote at bytes.now ∷ synced ∷ wrote last_at (last ∷ []) ∷ synced ∷ []) (D.log disk.old) (D.log disk.new) (D.allowed disk.old) (D.allowed disk.new) result }
     ensures calls { OnOk result (D.calls disk.new ≡ after_calls 4 (D.calls disk.old)) }
     ensures cause { HasCause (D.faults disk.old) (D.faults disk.new) result }
 {

@@ -1,29 +1,31 @@
-//! A disk over an open file.
+//! A disk over a file.
 
 ghost use Rattle.std.specs.Prelude.{◌≡◌, ◌≤◌, ◌+◌, ◌^◌, false, None, length, IfOk, IfSome, IsTrue, OnOk, OnErr};
 ghost use Rattle.mt_outside.specs.Stream.{HasCause, one_more};
 
 use crate::ATTEMPTS;
 use mt_outside::{Disk, Failed};
-use std::fs::File;
+use std::fs::{File, OpenOptions};
+use std::io;
 use std::io::ErrorKind;
 use std::os::unix::fs::FileExt;
 
 // A disk's length at most, and how far a write may come.
 const LONGEST: u64 = 1 << 62;
 
-/// A disk over a file that is open for reading and writing. A sync makes its bytes and its length safe by
-/// `fdatasync`; that a new file's name is safe in its directory is the matter of whoever makes the file.
+/// A disk over a file that is open for reading and writing, or over one that could not be opened, of which
+/// each call fails. A sync makes its bytes and its length safe by `fdatasync`.
 #[derive(Drop)]
 pub struct FileDisk {
-    file: File,
+    file: Option<File>,
     pub calls: u64,
     pub faults: u64,
 }
 
 impl FileDisk {
-    /// A disk over this file, of which no call was made yet.
-    pub fn new(file: File) -> Self
+    /// A disk over this file, of which no call was made yet. None is a file that could not be opened.
+    pub fn new(file: Option<File>) -> Self
+        ensures file { result.file ≡ file }
         ensures calls { result.calls ≡ 0 }
         ensures faults { result.faults ≡ 0 }
     {
@@ -34,8 +36,18 @@ impl FileDisk {
         }
     }
 
+    /// A disk over the file of this name, which is made, empty, where there is none. Where it has no byte
+    /// its folder is synced, so that its name outlives a loss of power as its bytes do. Where that or the
+    /// file can't be done, each call of the disk fails.
+    pub fn open(rt: &HostRuntime, name: &str) -> Self
+        ensures calls { result.calls ≡ 0 }
+        ensures faults { result.faults ≡ 0 }
+    {
+        FileDisk::new(opened(rt, name).ok())
+    }
+
     /// The file, as it is.
-    pub fn into_file(self) -> File
+    pub fn into_file(self) -> Option<File>
         ensures { result ≡ self.file }
     {
         self.file
@@ -70,32 +82,35 @@ impl Disk for FileDisk {
 
     ghost calls = { λ disk. disk.calls };
 
+    ghost log = { λ _. None };
+
+    ghost allowed = { λ _. None };
+
     ghost counts_now = { λ _ _ _ _ _. tt };
 
     ghost only_now = { λ _ _ _. tt };
 
+    ghost leaves = { λ _ _ _ _ _. tt };
+
     fn length(&mut self) -> Result<u64, Failed> {
-        let length = match self.file.metadata() {
-            Ok(metadata) => metadata.len(),
-            Err(_) => u64::MAX,
-        };
+        let length = length_of(&self.file).unwrap_or(u64::MAX);
         self.count(length <= LONGEST)?;
         Ok(length)
     }
 
     fn read_at(&mut self, at: u64, into: &mut [u8]) -> Result<usize, Failed> {
-        let read = read_all_at(&self.file, at, into);
+        let read = read_open(&self.file, at, into);
         self.count(read.is_some())?;
         read.ok_or(Failed)
     }
 
     fn write_at(&mut self, at: u64, from: &[u8]) -> Result<(), Failed> {
-        let written = comes_within(at, from.len()) && self.file.write_all_at(from, at).is_ok();
+        let written = comes_within(at, from.len()) && has_written(&self.file, at, from);
         self.count(written)
     }
 
     fn sync(&mut self) -> Result<(), Failed> {
-        let synced = self.file.sync_data().is_ok();
+        let synced = has_synced(&self.file);
         self.count(synced)
     }
 
@@ -108,6 +123,64 @@ fn comes_within(at: u64, count: usize) -> bool
     ensures { IsTrue result → at + count ≤ 2 ^ 62 }
 {
     at <= LONGEST && count as u64 <= LONGEST - at
+}
+
+// The file of this name, open for reading and writing, and made where there is none. The folder of an empty
+// file is synced: it may have been made now, or by a run that was ended before it synced the folder.
+fn opened(rt: &HostRuntime, name: &str) -> io::Result<File> {
+    let file = OpenOptions::new()
+        .read(true)
+        .write(true)
+        .create(true)
+        .open(rt, name)?;
+    if file.metadata()?.len() == 0 {
+        File::open(rt, folder_of(name))?.sync_all()?;
+    }
+    Ok(file)
+}
+
+// The folder in which a file of this name lies.
+fn folder_of(name: &str) -> &str {
+    match name.rsplit_once('/') {
+        Some(("", _)) => "/",
+        Some((folder, _)) => folder,
+        None => ".",
+    }
+}
+
+fn length_of(file: &Option<File>) -> Option<u64>
+    ensures absent { file.now ≡ None → result ≡ None }
+{
+    Some(file.as_ref()?.metadata().ok()?.len())
+}
+
+fn has_written(file: &Option<File>, at: u64, from: &[u8]) -> bool
+    ensures absent { file.now ≡ None → result ≡ false }
+{
+    match file {
+        Some(file) => file.write_all_at(from, at).is_ok(),
+        None => false,
+    }
+}
+
+fn has_synced(file: &Option<File>) -> bool
+    ensures absent { file.now ≡ None → result ≡ false }
+{
+    match file {
+        Some(file) => file.sync_data().is_ok(),
+        None => false,
+    }
+}
+
+fn read_open(file: &Option<File>, at: u64, into: &mut [u8]) -> Option<usize>
+    ensures within { IfSome result (λ count. count ≤ length into.old) }
+    ensures length { length into.new ≡ length into.old }
+    ensures absent { file.now ≡ None → result ≡ None }
+{
+    match file {
+        Some(file) => read_all_at(file, at, into),
+        None => None,
+    }
 }
 
 // Reads what stands from an offset on, as much as fits and is there; None where a call fails. Past the

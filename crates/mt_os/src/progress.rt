@@ -2,6 +2,7 @@
 
 ghost use Rattle.std.specs.Prelude.{◌≡◌, None, false};
 
+use mt_outside::Progress;
 use std::io::IsTerminal;
 use std::time::{Duration, Instant};
 
@@ -35,25 +36,6 @@ impl<'a> TerminalProgress<'a> {
         }
     }
 
-    /// So many events of all are done: the line is written, where it is time for it.
-    pub fn done(&mut self, events: u32, all: u32)
-        ensures silent { self.old.is_terminal ≡ false → self.new.has_line ≡ self.old.has_line }
-        ensures place { self.new.is_terminal ≡ self.old.is_terminal }
-    {
-        if !self.is_terminal {
-            return;
-        }
-        // A line that can't be written is not missed.
-        if events == all {
-            if self.has_line {
-                let _ = eprintln!(self.rt; "\r{events} of {all} events");
-            }
-        } else if events % STRIDE == 1 && self.is_due() {
-            self.has_line = true;
-            let _ = eprint!(self.rt; "\r{events} of {all} events");
-        }
-    }
-
     // Whether it is time for the line, which is not at once.
     fn is_due(&mut self) -> bool
         ensures place { self.new.is_terminal ≡ self.old.is_terminal }
@@ -69,5 +51,26 @@ impl<'a> TerminalProgress<'a> {
             self.last = Some(now);
         }
         is_due
+    }
+}
+
+/// The line is written where it is time for it.
+impl Progress for TerminalProgress<'_> {
+    fn done(&mut self, events: u32, all: u32)
+        ensures silent { self.old.is_terminal ≡ false → self.new.has_line ≡ self.old.has_line }
+        ensures place { self.new.is_terminal ≡ self.old.is_terminal }
+    {
+        if !self.is_terminal {
+            return;
+        }
+        // A line that can't be written is not missed.
+        if events == all {
+            if self.has_line {
+                let _ = eprintln!(self.rt; "\r{events} of {all} events");
+            }
+        } else if events % STRIDE == 1 && self.is_due() {
+            self.has_line = true;
+            let _ = eprint!(self.rt; "\r{events} of {all} events");
+        }
     }
 }

@@ -62,7 +62,7 @@ each_fate here (event ∷ events) so_far = each_fate (held_after_one here event)
     one synced Lost = refl
     one synced Torn = refl
 
-at_first : (bytes : List ℕ) (fate : Fate) → Leaves (settled bytes) (left_by fate (settled bytes))
+pub at_first : (bytes : List ℕ) (fate : Fate) → Leaves (settled bytes) (left_by fate (settled bytes))
 at_first bytes Kept = refl
 at_first bytes Lost = refl
 at_first bytes Torn = refl

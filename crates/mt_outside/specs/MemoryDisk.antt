@@ -94,3 +94,16 @@ restarted_by (Some fate) disk = record disk { first = left_by fate (held disk); 
 
 abbrev pub restarted : DiskState → DiskState
 restarted disk = restarted_by (fate_now disk.stop) disk
+
+-- What was written since the latest sync, behind these.
+abbrev pub unsynced_after : List DiskEvent → List DiskEvent → List DiskEvent
+unsynced_after so_far [] = so_far
+unsynced_after so_far (wrote at bytes ∷ events) = unsynced_after (so_far ++ wrote at bytes ∷ []) events
+unsynced_after so_far (synced ∷ events) = unsynced_after [] events
+
+abbrev pub unsynced : List DiskEvent → List DiskEvent
+unsynced events = unsynced_after [] events
+
+-- the same disk, as one that held at first what was safe at the latest sync
+abbrev pub forgotten : DiskState → DiskState
+forgotten disk = record disk { first = (held disk).lost; events = unsynced disk.events }

@@ -1,8 +1,12 @@
 //! Disks: what the program asks of a file that outlives it.
 
-ghost use Rattle.std.specs.Prelude.{◌≡◌, ◌≤◌, ◌+◌, ◌^◌, ℕ, List, Option, length, IfOk, IfSome, OnErr, OnOk};
+ghost use Rattle.std.specs.Prelude.{◌≡◌, ◌≤◌, ◌+◌, ◌^◌, ℕ, List, [], ◌∷◌, Option, Some, length, IfOk, IfSome, OnErr, OnOk};
 ghost use Rattle.mt_outside.specs.Disk.{CutShort, Elapses, Follows, LeavesContents, NoneNew, ReadAt, WroteAt, WrotePart};
+ghost use Rattle.mt_outside.specs.Logs.{DiskLog, Logs, LogsNothing, held_of};
+ghost use Rattle.mt_outside.specs.MemoryDisk.{Leaves};
+ghost use Rattle.mt_outside.specs.MemoryDisk.DiskEvent.{wrote, synced};
 ghost use Rattle.mt_outside.specs.Stream.{HasCause, one_more};
+ghost use Rattle.mt_outside.specs.declared.stop.Stop.{Stop};
 
 use crate::stream::Failed;
 
@@ -28,6 +32,13 @@ pub trait Disk {
     /// How many calls were made, of the four kinds together, up to 2^64 - 1, where the count stays.
     ghost calls: { Self → ℕ };
 
+    /// What was written and synced, in order, and what the disk held before that, where it can tell. A
+    /// write at which it stops is among them.
+    ghost log: { Self → Option DiskLog };
+
+    /// After how many writes and syncs it stops, and what becomes of it then, where it can tell.
+    ghost allowed: { Self → Option Stop };
+
     /// How many bytes there are.
     fn length(&mut self) -> Result<u64, Failed>
         ensures within { IfOk result (λ count. count ≤ 2 ^ 62) }
@@ -36,6 +47,7 @@ pub trait Disk {
         ensures crash { NoneNew (images self.old) (images self.new) }
         ensures time { Elapses (moment self.old) (moment self.new) (images_since self.old) (images_since self.new) (images self.new) }
         ensures counted { calls self.new ≡ one_more (calls self.old) }
+        ensures logged { LogsNothing (log self.old) (log self.new) (allowed self.old) (allowed self.new) }
         ensures cause { HasCause (faults self.old) (faults self.new) result };
 
     /// Reads what stands at an offset to the front of `into`, as much as fits and is there, and answers
@@ -47,6 +59,7 @@ pub trait Disk {
         ensures crash { NoneNew (images self.old) (images self.new) }
         ensures time { Elapses (moment self.old) (moment self.new) (images_since self.old) (images_since self.new) (images self.new) }
         ensures counted { calls self.new ≡ one_more (calls self.old) }
+        ensures logged { LogsNothing (log self.old) (log self.new) (allowed self.old) (allowed self.new) }
         ensures cause { HasCause (faults self.old) (faults self.new) result };
 
     /// Writes over what stands at an offset, and past the end. A gap behind the old end is filled with 0.
@@ -58,6 +71,7 @@ pub trait Disk {
         ensures crash { Follows (CutShort at (length from.now)) (images self.old) (images self.new) }
         ensures time { Elapses (moment self.old) (moment self.new) (images_since self.old) (images_since self.new) (images self.new) }
         ensures counted { calls self.new ≡ one_more (calls self.old) }
+        ensures logged { Logs (wrote at from.now ∷ []) (log self.old) (log self.new) (allowed self.old) (allowed self.new) result }
         ensures cause { HasCause (faults self.old) (faults self.new) result };
 
     /// Makes what was written safe: after it a crash leaves what a read gives.
@@ -67,6 +81,7 @@ pub trait Disk {
         ensures crash { NoneNew (images self.old) (images self.new) }
         ensures time { Elapses (moment self.old) (moment self.new) (images_since self.old) (images_since self.new) (images self.new) }
         ensures counted { calls self.new ≡ one_more (calls self.old) }
+        ensures logged { Logs (synced ∷ []) (log self.old) (log self.new) (allowed self.old) (allowed self.new) result }
         ensures cause { HasCause (faults self.old) (faults self.new) result };
 
     /// How many calls have failed, up to 2^64 - 1.
@@ -78,6 +93,9 @@ pub trait Disk {
 
     /// Since this moment there was no other.
     ghost only_now: { (disk : Self) (image : List ℕ) → images_since disk (moment disk) image → images disk image };
+
+    /// What a crash may leave by its log, a crash may leave.
+    ghost leaves: { (disk : Self) (was : DiskLog) (image : List ℕ) → log disk ≡ Some was → Leaves (held_of was) image → images disk image };
 }
 
 /// A disk may be lent: what is done to the loan is done to the disk.
@@ -94,9 +112,15 @@ impl<D: Disk> Disk for &mut D {
 
     ghost calls = { λ disk. D.calls disk.now };
 
+    ghost log = { λ disk. D.log disk.now };
+
+    ghost allowed = { λ disk. D.allowed disk.now };
+
     ghost counts_now = { λ disk. D.counts_now disk.now };
 
     ghost only_now = { λ disk. D.only_now disk.now };
+
+    ghost leaves = { λ disk. D.leaves disk.now };
 
     fn length(&mut self) -> Result<u64, Failed> {
         (**self).length()

@@ -2,7 +2,8 @@
 //!
 //! `stream` has the traits `Source` and `Sink`, `memory` a form of each that keeps its bytes in
 //! memory and fails at the calls that a test names, `whole` reads and writes everything, `network`
-//! says who a datagram comes from or goes to. `laws` says how what is read and written adds up.
+//! says who a datagram comes from or goes to. `laws` says how what is read and written adds up,
+//! `progress` who watches a long run.
 //!
 //! `disk` has the trait `Disk`, with what a loss of power may leave of it, `memory_disk` a form that
 //! keeps its bytes in memory and stops where it is told to, `stop` where that is, `fate` what becomes
@@ -16,6 +17,7 @@ mod laws;
 mod memory;
 mod memory_disk;
 mod network;
+mod progress;
 mod replaying;
 mod stop;
 mod stream;
@@ -23,9 +25,10 @@ mod whole;
 
 pub use disk::Disk;
 pub use fate::Fate;
-pub use laws::writings_add_up;
+pub use laws::{stops_are_crashes, writings_add_up};
 pub use memory::{MemSink, MemSource};
 pub use memory_disk::MemDisk;
 pub use network::Peer;
+pub use progress::{Progress, Unwatched};
 pub use stream::{Failed, Sink, Source};
 pub use whole::{ReadFault, read_all, write_all};

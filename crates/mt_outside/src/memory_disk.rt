@@ -3,8 +3,9 @@
 
 ghost use Rattle.std.specs.Prelude.{◌≡◌, ◌≤◌, ◌<◌, ◌↔◌, ◌⊎◌, ◌+◌, ◌-◌, ◌^◌, [], ◌∷◌, ◌++◌, Some, false, length, min, max, take, drop, vec_len, vec_capacity, IfOk, IfSome, OnErr, OnOk, IsErr, IsTrue};
 ghost use Rattle.mt_outside.specs.Disk.{CutShort, Elapses, Follows, LeavesContents, NoneNew, ReadAt, WroteAt, WrotePart, overwritten};
-ghost use Rattle.mt_outside.specs.DiskMoments.{left_now, left_since_now};
-ghost use Rattle.mt_outside.specs.MemoryDisk.{DiskState, IsRefused, Leaves, LeftSince, contents_of, failed, held, new_disk, restarted};
+ghost use Rattle.mt_outside.specs.DiskMoments.{log_leaves, left_now, left_since_now};
+ghost use Rattle.mt_outside.specs.Logs.{Logs, LogsNothing, log_of};
+ghost use Rattle.mt_outside.specs.MemoryDisk.{DiskState, IsRefused, Leaves, LeftSince, contents_of, failed, forgotten, held, new_disk, restarted};
 ghost use Rattle.mt_outside.specs.MemoryDisk.DiskEvent.{wrote, synced};
 ghost use Rattle.mt_outside.specs.Stops.{fate_now, has_stopped, one_fewer, stops_next};
 ghost use Rattle.mt_outside.specs.Stream.{HasCause, one_more};
@@ -12,7 +13,7 @@ ghost use Rattle.mt_outside.specs.Stream.{HasCause, one_more};
 use crate::disk::Disk;
 use crate::failures::Failures;
 use crate::fate::Fate;
-use crate::replaying::{Event, copy_down, overwrite, rewind};
+use crate::replaying::{Event, copy_down, overwrite, replay, rewind};
 use crate::stop::{Stop, count_down, fate_now, is_stopped};
 use crate::stream::Failed;
 use std::alloc::{AllocError, Global};
@@ -121,6 +122,19 @@ impl MemDisk {
         self.synced = 0;
         self.stop = None;
     }
+
+    /// Forgets what was done up to the latest sync: what was safe then is what the disk held at first. What
+    /// a read gives, and what a stop leaves, is as before, and so is where it stops. A disk that is used for
+    /// long keeps no list of old writes so.
+    pub fn forget(&mut self)
+        ensures forgotten { self.new ≡ forgotten self.old }
+        ensures held { held self.new ≡ held self.old }
+    {
+        replay(&mut self.first, &self.events[..self.synced], Fate::Kept);
+        self.events.rotate_left(self.synced);
+        self.events.truncate(self.events.len() - self.synced);
+        self.synced = 0;
+    }
 }
 
 impl Disk for MemDisk {
@@ -136,9 +150,15 @@ impl Disk for MemDisk {
 
     ghost calls = { λ disk. disk.calls };
 
+    ghost log = { log_of };
+
+    ghost allowed = { λ disk. disk.stop };
+
     ghost counts_now = { left_now };
 
     ghost only_now = { left_since_now };
+
+    ghost leaves = { log_leaves };
 
     fn length(&mut self) -> Result<u64, Failed>
         ensures within { IfOk result (λ count. count ≤ 2 ^ 62) }
@@ -147,6 +167,7 @@ impl Disk for MemDisk {
         ensures crash { NoneNew (Leaves (held self.old)) (Leaves (held self.new)) }
         ensures time { Elapses (length self.old.events) (length self.new.events) (LeftSince self.old) (LeftSince self.new) (Leaves (held self.new)) }
         ensures counted { self.new.calls ≡ one_more self.old.calls }
+        ensures logged { LogsNothing (log_of self.old) (log_of self.new) self.old.stop self.new.stop }
         ensures cause { HasCause self.old.faults self.new.faults result }
 
         // The calls of the listed numbers fail, those of a stopped disk and of one that is too long.
@@ -169,6 +190,7 @@ impl Disk for MemDisk {
         ensures crash { NoneNew (Leaves (held self.old)) (Leaves (held self.new)) }
         ensures time { Elapses (length self.old.events) (length self.new.events) (LeftSince self.old) (LeftSince self.new) (Leaves (held self.new)) }
         ensures counted { self.new.calls ≡ one_more self.old.calls }
+        ensures logged { LogsNothing (log_of self.old) (log_of self.new) self.old.stop self.new.stop }
         ensures cause { HasCause self.old.faults self.new.faults result }
 
         // The calls of the listed numbers fail, and those of a stopped disk.
@@ -195,6 +217,7 @@ impl Disk for MemDisk {
         ensures crash { Follows (CutShort at (length from.now)) (Leaves (held self.old)) (Leaves (held self.new)) }
         ensures time { Elapses (length self.old.events) (length self.new.events) (LeftSince self.old) (LeftSince self.new) (Leaves (held self.new)) }
         ensures counted { self.new.calls ≡ one_more self.old.calls }
+        ensures logged { Logs (wrote at from.now ∷ []) (log_of self.old) (log_of self.new) self.old.stop self.new.stop result }
         ensures cause { HasCause self.old.faults self.new.faults result }
 
         // The calls of the listed numbers fail, those of a stopped disk, and one that would come too far.
@@ -238,6 +261,7 @@ impl Disk for MemDisk {
         ensures crash { NoneNew (Leaves (held self.old)) (Leaves (held self.new)) }
         ensures time { Elapses (length self.old.events) (length self.new.events) (LeftSince self.old) (LeftSince self.new) (Leaves (held self.new)) }
         ensures counted { self.new.calls ≡ one_more self.old.calls }
+        ensures logged { Logs (synced ∷ []) (log_of self.old) (log_of self.new) self.old.stop self.new.stop result }
         ensures cause { HasCause self.old.faults self.new.faults result }
 
         // The calls of the listed numbers fail, and those of a stopped disk.

@@ -1,9 +1,9 @@
 -- What a change adds to a list, and what an image is in its place.
-use Rattle.std.proofs.Common.{◌≡◌, ◌≤◌, ℕ, true, false, List, [], ◌∷◌, ◌++◌, length, refl, sym, ap, ◌∙◌, subst, ⊎_elim, inl, inr, arith}
-use Rattle.std.specs.Prelude.{Option, Some, None, Result, Ok, Err, IfOk, IsTrue, OnOk, Bool, ◌⊎◌, ◌&&◌}
+use Rattle.std.proofs.Common.{◌≡◌, ◌≤◌, ℕ, true, false, List, [], ◌∷◌, ◌++◌, length, sym, ap, ◌∙◌, subst, ⊎_elim, inl, inr, arith}
+use Rattle.std.specs.Prelude.{Some, Result, Ok, Err, IfOk, IsTrue, OnOk, Bool, ◌&&◌}
 use Rattle.std.proofs.lemmas.Bool.{cases_Bool}
 use Rattle.mt_durable.specs.Changes.{change_bytes, entry_trees}
-use Rattle.mt_durable.specs.Images.{IsImage, image_after}
+use Rattle.mt_durable.specs.Images.{IsImage}
 use Rattle.mt_durable.specs.Keeping.{HasRoom, IsChange, LeadsTo}
 use Rattle.mt_durable.specs.Maps.{Merged, have_values, keys_ascend}
 use Rattle.mt_durable.specs.Reading.{Says, change_at, entries_or_none, is_change, is_image, is_said, is_said_whole, said}
@@ -17,7 +17,7 @@ use Rattle.mt_journal.specs.declared.reading.JournalFault.TheVariants.{Disk, Not
 use Rattle.mt_outside.specs.Disk.{LeavesOnly}
 use Rattle.mt_tlv.specs.Limits.{IsAllowed, deepest, longest}
 use Rattle.mt_tlv.specs.Tree.{array}
-use Rattle.mt_store.specs.Leading.{Holds, HoldsEither, map_after, map_of}
+use Rattle.mt_store.specs.Leading.{HoldsEither, map_after, map_of}
 
 some_is : (a b : List Entry) → Some a ≡ Some b → a ≡ b
 some_is a b e = ap entries_or_none e

@@ -1,6 +1,5 @@
 -- To which map the list of a journal leads, and the file.
-use Rattle.std.specs.Prelude.{◌≡◌, ◌⊎◌, ◌<◌, ℕ, Bool, false, ◌&&◌, List, [], ◌∷◌, length, Option, Some, None, Result, Ok, Err, ⊤, if◌then◌else◌}
-use Rattle.mt_durable.specs.Changes.{change_bytes}
+use Rattle.std.specs.Prelude.{◌≡◌, ◌⊎◌, ℕ, Bool, true, false, ◌&&◌, List, [], ◌∷◌, Option, Some, None, Result, Ok, Err, IfSome, ⊤, if◌then◌else◌}
 use Rattle.mt_durable.specs.Reading.{is_change, said}
 use Rattle.mt_durable.specs.Setting.{with_all}
 use Rattle.mt_durable.specs.declared.durable.Entry.{Entry}
@@ -8,8 +7,12 @@ use Rattle.mt_durable.specs.declared.reading.ChangeFault.{ChangeFault}
 use Rattle.mt_durable.specs.declared.reading.ChangeFault.TheVariants.{NotAChange, Memory}
 use Rattle.mt_journal.specs.Layout.{MayFollow, journal_at}
 use Rattle.mt_journal.specs.Standing.{StandsFor}
-use Rattle.mt_journal.specs.declared.place.Place.{Place}
-use Rattle.mt_journal.specs.declared.place.Place.TheVariants.{Fresh, Begun, Log, InUse}
+use Rattle.mt_journal.specs.Stopping.{survives}
+use Rattle.mt_journal.specs.declared.position.Position.{Position}
+use Rattle.mt_outside.specs.Logs.{DiskLog, held_of, log_of}
+use Rattle.mt_outside.specs.MemoryDisk.{DiskState, contents_of, left_by, restarted}
+use Rattle.mt_outside.specs.Stops.{has_stopped}
+use Rattle.mt_outside.specs.declared.stop.Stop.{Stop}
 
 -- the map after these changes, None where one of them is no change
 abbrev pub map_after : List Entry → List (List ℕ) → Option (List Entry)
@@ -35,25 +38,24 @@ abbrev pub HoldsEither : (List ℕ → Bool) → MayFollow → List Entry → Li
 HoldsEither image change one other file = Holds image change one file ⊎ Holds image change other file
 
 -- A journal in use stands for a list that leads to this map: the disk tells its contents, all of them safe.
-pub record Keeps {D : Type 0} (contents : D → Option (List ℕ)) (images : D → List ℕ → Type 0) (image : List ℕ → Bool) (change : MayFollow) (disk : D) (place : Place) (map : List Entry) : Type 0 where
+pub record Keeps {D : Type 0} (contents : D → Option (List ℕ)) (images : D → List ℕ → Type 0) (image : List ℕ → Bool) (change : MayFollow) (disk : D) (place : Position) (map : List Entry) : Type 0 where
   pub list : List (List ℕ)
   pub stands : StandsFor contents images image change disk place list
   pub leads : map_of list ≡ Some map
 
--- where a journal ends: where its next record goes
-abbrev pub end_of : Place → ℕ
-end_of Fresh = 0
-end_of Begun = 8
-end_of (Log gate) = gate
-end_of (InUse base p0 p1 gate) = gate
+-- the map that a stop in a commit of so many calls leaves: the one from before it, or that with the change
+abbrev pub map_left : ℕ → Stop → List Entry → List Entry → List Entry
+map_left calls stop one other = if survives calls stop then other else one
 
--- The disk has a journal that ends at this place, and leads to no map, or to one whose image is longer than an element may be.
-pub record LeadsNowhere {D : Type 0} (contents : D → Option (List ℕ)) (images : D → List ℕ → Type 0) (image : List ℕ → Bool) (change : MayFollow) (disk : D) (at : ℕ) : Type 0 where
-  pub list : List (List ℕ)
-  pub place : Place
-  pub stands : StandsFor contents images image change disk place list
-  pub ends : at ≡ end_of place
-  pub no_map : (map : List Entry) → map_of list ≡ Some map → 65535 < length (change_bytes map)
+-- A disk that was to stop has stopped in a commit of so many calls, or before it. Its fate is what it was to be, and what it leaves leads to the map from before or to that with the change, as it stopped.
+abbrev pub StopHolds : (List ℕ → Bool) → MayFollow → ℕ → List Entry → List Entry → Option Stop → Option Stop → Option DiskLog → Type 0
+StopHolds image change calls one other allowed now log =
+    IfSome allowed (λ (stop : Stop). has_stopped now ≡ true → (now ≡ Some (record stop { calls = 0 })) × IfSome log (λ (l : DiskLog). Holds image change (map_left calls stop one other) (left_by stop.fate (held_of l))))
+
+-- What a disk in memory holds once it was restarted is what it was left with.
+abbrev pub RestartsHold : Type 0
+RestartsHold = (image : List ℕ → Bool) (change : MayFollow) (calls : ℕ) (one other : List Entry) (stop : Stop) (disk : DiskState)
+    → StopHolds image change calls one other (Some stop) disk.stop (log_of disk) → has_stopped disk.stop ≡ true → Holds image change (map_left calls stop one other) (contents_of (restarted disk))
 
 -- what holds where something is no change
 abbrev pub IfNotAChange : {T : Type 0} → Result T ChangeFault → Type 0 → Type 0

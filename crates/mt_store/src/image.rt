@@ -12,8 +12,8 @@ ghost use Rattle.mt_tlv.specs.Tree.{array};
 
 use crate::map_form::MapForm;
 use mt_durable::{
-    ChangeFault, Durable, Rule, bytes_of_a_change_are_read, changes_lead_on, has_room, is_admitted,
-    maps_have_images, read_change, write_image,
+    ChangeFault, Durable, Rule, bytes_of_a_change_are_read, changes_lead_on, finds_room, has_room,
+    is_admitted, maps_have_images, read_change, write_image,
 };
 use std::alloc::{AllocError, Global};
 use std::marker::Model;
@@ -87,13 +87,17 @@ impl Image {
     }
 
     /// Whether there is room for a change, as a commit wants: whether the image of the map after it is no
-    /// longer than an element may be. NotAChange says that the bytes are no change.
+    /// longer than an element may be. The image is read only where the length of both does not tell.
+    /// NotAChange says that the bytes are no change.
     pub fn has_room(&self, alloc: Global, change: &[u8]) -> Result<bool, ChangeFault>
         ensures form { IfOk result (λ _. IsChange change.now) }
         ensures room { IfOk result (λ room. IsTrue room ↔ HasRoom change.now (Some self.now)) }
         ensures refused { IfNotAChange result (change_at change.now ≡ None) }
     {
         let entries = read_change(alloc, change)?;
+        if finds_room(&self.bytes, change) {
+            return Ok(true);
+        }
         let map = self.map(alloc)?;
         Ok(has_room(alloc, &map, entries)?)
     }

@@ -15,4 +15,4 @@ mod store;
 pub use image::Image;
 pub use map_form::MapForm;
 pub use maps::{Maps, MapsOf};
-pub use store::Store;
+pub use store::{Store, restarts_hold};

@@ -1,6 +1,6 @@
 //! Recovering a map, and committing a change of it.
 
-ghost use Rattle.std.specs.Prelude.{◌≡◌, ◌<◌, ◌⊎◌, ℕ, List, Some, Err, false, is_err, length, IfErr, IfOk, OnErr, OnOk, IsErr, IsTrue};
+ghost use Rattle.std.specs.Prelude.{◌≡◌, ◌<◌, ℕ, List, Some, Err, false, is_err, length, IfErr, IfOk, OnErr, OnOk, IsErr, IsTrue};
 ghost use Rattle.mt_durable.specs.Changes.{change_bytes, entry_trees};
 ghost use Rattle.mt_durable.specs.Images.{IsImage};
 ghost use Rattle.mt_durable.specs.Keeping.{Committed, HasRoom, IsAdmitted, IsChange, WasOrCommitted};
@@ -10,9 +10,13 @@ ghost use Rattle.mt_durable.specs.Setting.{with_all};
 ghost use Rattle.mt_durable.specs.declared.durable.Entry.{Entry};
 ghost use Rattle.mt_journal.specs.Layout.{journal_at};
 ghost use Rattle.mt_journal.specs.Recovering.{FaultHasCause, HasPlace, OnlyRead};
+ghost use Rattle.mt_journal.specs.Recovering.{HasReadCause, IfNotAJournal};
+ghost use Rattle.mt_journal.specs.Standing.{switch_calls};
+ghost use Rattle.mt_journal.specs.Stopping.{Outlasts};
 ghost use Rattle.mt_outside.specs.Disk.{LeavesOnly};
+ghost use Rattle.mt_outside.specs.Logs.{fewer};
 ghost use Rattle.mt_outside.specs.Stream.{HasCause};
-ghost use Rattle.mt_store.specs.Leading.{Holds, HoldsEither, IfNotAChange, Keeps, LeadsNowhere, end_of, map_of};
+ghost use Rattle.mt_store.specs.Leading.{Holds, HoldsEither, IfNotAChange, Keeps, RestartsHold, StopHolds, map_of};
 ghost use Rattle.mt_tlv.specs.Limits.{IsAllowed, deepest};
 ghost use Rattle.mt_tlv.specs.Tree.{array};
 
@@ -22,7 +26,7 @@ use mt_durable::{
     ChangeFault, Durable, Keeper, bytes_of_a_change_are_read, changes_lead_on, maps_have_images,
     read_change,
 };
-use mt_journal::{Journal, JournalFault, Place};
+use mt_journal::{Journal, JournalFault};
 use mt_outside::{Disk, Failed};
 use mt_tlv::Bytes;
 use std::alloc::Global;
@@ -48,19 +52,18 @@ impl<D: Disk + Drop, F: MapForm> Drop for Store<D, F> {
 impl<D: Disk, F: MapForm> Store<D, F> {
     ghost use Rattle.mt_journal.specs.Layout.{journal_at};
     ghost use Rattle.mt_journal.specs.Recovering.{FaultHasCause, HasPlace, OnlyRead};
-    ghost use Rattle.mt_store.specs.Leading.{Holds, Keeps, LeadsNowhere};
+    ghost use Rattle.mt_store.specs.Leading.{Holds, Keeps};
 
     /// Recovers the map of a disk: that to which the journal's changes lead from the empty map. It writes
     /// nothing, and begins with a sync. With a fault the disk is handed back. All memory that commits need
-    /// is taken here.
+    /// is taken here; a map whose image is longer than that finds none.
     pub fn recover(alloc: Global, disk: D) -> Result<(Self, Durable), (D, JournalFault)>
         ensures recovered { (file : List ℕ) → D.contents disk ≡ Some file → IfOk result (λ store. Holds F.image F.change store.1 file
             × Keeps D.contents D.images F.image F.change store.0.journal.disk store.0.journal.place store.1) }
         ensures image { IfOk result (λ store. store.0.image ≡ store.1) }
         ensures ready { IfOk result (λ store. store.0.journal.failed ≡ false) }
-        // It names the place from which on the file is no journal, or where it ends, if it leads to no map.
-        ensures refused { (file : List ℕ) → D.contents disk ≡ Some file
-            → IfErr result (λ e. HasPlace e.1 (λ at. (journal_at F.image F.change file ≡ Err at) ⊎ LeadsNowhere D.contents D.images F.image F.change e.0 at)) }
+        // It names the place from which on the file is no journal.
+        ensures refused { (file : List ℕ) → D.contents disk ≡ Some file → IfErr result (λ e. HasPlace e.1 (λ at. journal_at F.image F.change file ≡ Err at)) }
         ensures only_read { IfOk result (λ store. OnlyRead D.contents D.images D.moment D.images_since disk store.0.journal.disk) }
         ensures only_read_err { IfErr result (λ e. OnlyRead D.contents D.images D.moment D.images_since disk e.0) }
         // The disk has failed where that is the fault, and not otherwise.
@@ -68,7 +71,6 @@ impl<D: Disk, F: MapForm> Store<D, F> {
         ensures cause { IfErr result (λ e. FaultHasCause (D.faults disk) (D.faults e.0) e.1) }
     {
         let (journal, list) = Journal::recover(alloc, disk)?;
-        let end = end_of(journal.place);
         match images_of(alloc, list) {
             Ok((map, image, next)) => {
                 let store = Store {
@@ -78,10 +80,34 @@ impl<D: Disk, F: MapForm> Store<D, F> {
                 };
                 Ok((store, map))
             }
-            Err(ChangeFault::NotAChange) => {
-                Err((journal.into_disk(), JournalFault::NotAJournal(end)))
+            Err(_) => Err((journal.into_disk(), JournalFault::Memory)),
+        }
+    }
+
+    /// Recovers the map again, over the disk that the store has, as `recover` does. Where that fails the store
+    /// has failed, and has to be reopened.
+    pub fn reopen(&mut self, alloc: Global) -> Result<Durable, JournalFault>
+        ensures recovered { (file : List ℕ) → D.contents self.old.journal.disk ≡ Some file → IfOk result (λ map. Holds F.image F.change map file
+            × Keeps D.contents D.images F.image F.change self.new.journal.disk self.new.journal.place map) }
+        ensures image { IfOk result (λ map. self.new.image ≡ map) }
+        ensures ready { self.new.journal.failed ≡ is_err result }
+        // It names the place from which on the file is no journal.
+        ensures refused { (file : List ℕ) → D.contents self.old.journal.disk ≡ Some file → IfNotAJournal result (λ at. journal_at F.image F.change file ≡ Err at) }
+        ensures only_read { OnlyRead D.contents D.images D.moment D.images_since self.old.journal.disk self.new.journal.disk }
+        // The disk has failed where that is the fault, and not otherwise.
+        ensures cause { HasReadCause (D.faults self.old.journal.disk) (D.faults self.new.journal.disk) result }
+    {
+        let list = self.journal.reopen(alloc)?;
+        match images_of(alloc, list) {
+            Ok((map, image, next)) => {
+                self.image = image;
+                self.next = next;
+                Ok(map)
             }
-            Err(ChangeFault::Memory) => Err((journal.into_disk(), JournalFault::Memory)),
+            Err(_) => {
+                self.journal.give_up();
+                Err(JournalFault::Memory)
+            }
         }
     }
 
@@ -128,6 +154,14 @@ impl<D: Disk, F: MapForm> Keeper for Store<D, F> {
         ensures moments { Keeps D.contents D.images F.image F.change self.old.journal.disk self.old.journal.place self.old.image
             → LeavesOnly D.moment D.images_since self.old.journal.disk self.new.journal.disk
             (HoldsEither F.image F.change self.old.image (with_all (said change.now) self.old.image)) }
+        // What a disk leaves that stops in it leads to the map with the change exactly where it stops at one of the
+        // last two calls and all is kept, and otherwise to the one from before.
+        ensures left { Keeps D.contents D.images F.image F.change self.old.journal.disk self.old.journal.place self.old.image → self.old.journal.failed ≡ false
+            → OnErr result (StopHolds F.image F.change (switch_calls self.old.journal.place) self.old.image (with_all (said change.now) self.old.image)
+            (D.allowed self.old.journal.disk) (D.allowed self.new.journal.disk) (D.log self.new.journal.disk)) }
+        // Ok leaves so many calls fewer until the disk is to stop.
+        ensures lasts { OnOk result ((D.allowed self.new.journal.disk ≡ fewer (switch_calls self.old.journal.place) (D.allowed self.old.journal.disk))
+            × Outlasts (switch_calls self.old.journal.place) (D.allowed self.old.journal.disk)) }
     {
         bytes_of_a_change_are_read();
         changes_lead_on();
@@ -160,6 +194,10 @@ fn put<D: Disk, F: MapForm>(
     ensures moments { (map : List Entry) → said image.now ≡ with_all (said change.now) map
         → Keeps D.contents D.images F.image F.change journal.old.disk journal.old.place map
         → LeavesOnly D.moment D.images_since journal.old.disk journal.new.disk (HoldsEither F.image F.change map (with_all (said change.now) map)) }
+    ensures left { (map : List Entry) → said image.now ≡ with_all (said change.now) map
+        → Keeps D.contents D.images F.image F.change journal.old.disk journal.old.place map → journal.old.failed ≡ false
+        → OnErr result (StopHolds F.image F.change (switch_calls journal.old.place) map (with_all (said change.now) map) (D.allowed journal.old.disk) (D.allowed journal.new.disk) (D.log journal.new.disk)) }
+    ensures lasts { OnOk result ((D.allowed journal.new.disk ≡ fewer (switch_calls journal.old.place) (D.allowed journal.old.disk)) × Outlasts (switch_calls journal.old.place) (D.allowed journal.old.disk)) }
     ensures failed { journal.new.failed ≡ is_err result }
     ensures cause { journal.old.failed ≡ false → HasCause (D.faults journal.old.disk) (D.faults journal.new.disk) result }
 {
@@ -169,17 +207,6 @@ fn put<D: Disk, F: MapForm>(
         journal.append(change)
     } else {
         journal.switch(image)
-    }
-}
-
-// Where the next record of a journal goes, and so where it ends.
-fn end_of(place: Place) -> u64
-    ensures { result ≡ end_of place }
-{
-    match place {
-        Place::Fresh => 0,
-        Place::Begun => 8,
-        Place::Log { gate } | Place::InUse { gate, .. } => gate,
     }
 }
 
@@ -207,3 +234,10 @@ fn map_of(alloc: Global, list: Vec<Bytes>) -> Result<Durable, ChangeFault>
     }
     Ok(map)
 }
+
+/// What a disk in memory holds once it was restarted after a stop in a commit leads to the map that `left` of
+/// that commit names: that with the change exactly where it stopped at one of the commit's last two calls and
+/// all was kept.
+pub fn restarts_hold()
+    ensures { RestartsHold }
+{}

@@ -12,7 +12,6 @@
 mod comparing;
 mod isolation;
 mod playing;
-mod progress;
 mod replaying;
 mod running;
 mod soaking;
@@ -20,6 +19,5 @@ mod soaking;
 pub use isolation::{comparisons_are_exact, denials_are_exact, runs_are_isolated};
 pub use mt_soak::Generator;
 pub use mt_words::{BadWords, Files, files_of};
-pub use progress::{Progress, Unwatched};
 pub use replaying::replay_with;
 pub use running::{run, run_watched};

@@ -13,12 +13,11 @@ ghost use Rattle.mt_top.specs.Isolated.{RunsAreIsolated};
 
 use crate::comparing::compare_with;
 use crate::isolation::{comparisons_are_exact, denials_are_exact, runs_are_isolated};
-use crate::progress::{Progress, Unwatched};
 use crate::replaying::replay_with;
 use crate::soaking::soak_with;
 use mt_endings::{endings_add_up, finish, read_configuration, tell_bad_words, tell_memory};
 use mt_model::Config;
-use mt_outside::{Sink, Source};
+use mt_outside::{Progress, Sink, Source, Unwatched};
 use mt_words::{Asked, WordsFault, asked_of};
 use std::alloc::Global;
 

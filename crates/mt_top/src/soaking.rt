@@ -13,10 +13,9 @@ ghost use Rattle.mt_endings.specs.Run.{Ends};
 ghost use Rattle.mt_top.specs.Asked.{soaked, summarized};
 
 use crate::playing::tell;
-use crate::progress::Progress;
 use mt_endings::{Fault, endings_add_up, finish, tell_memory};
 use mt_model::Config;
-use mt_outside::{Sink, write_all, writings_add_up};
+use mt_outside::{Progress, Sink, write_all, writings_add_up};
 use mt_play::Playing;
 use mt_soak::{Generator, Tally, events_are_played, events_come_one_by_one};
 use std::alloc::{AllocError, Global};

@@ -38,7 +38,7 @@ pub(crate) fn disk(rt: &HostRuntime, name: &str) -> io::Result<FileDisk> {
         .write(true)
         .create(true)
         .open(rt, name)?;
-    Ok(FileDisk::new(file))
+    Ok(FileDisk::new(Some(file)))
 }
 
 // A store on a file of this name; None where it can't be recovered.

@@ -2,7 +2,7 @@ use Rattle.std.proofs.Common.{◌+◌, subst, sym}
 use Rattle.std.specs.Prelude.{IsTrue}
 use Rattle.mt_journal.specs.Committing.{StepCommits, has_form, has_room}
 use Rattle.mt_journal.specs.Standing.{Stands}
-use Rattle.mt_journal.specs.declared.place.Place.TheVariants.{InUse}
+use Rattle.mt_journal.specs.declared.position.Position.TheVariants.{InUse}
 use Rattle.mt_journal.specs.declared.planning.Front.TheVariants.{Nothing}
 use Rattle.mt_journal.proofs.Steps.{begun_step, change_step, log_step}
 use Rattle.mt_journal.proofs.planning.step_for.Goals as goal

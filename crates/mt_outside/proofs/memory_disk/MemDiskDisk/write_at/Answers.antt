@@ -1,10 +1,12 @@
-use Rattle.std.proofs.Common.{◌≡◌, ℕ, ◌≤◌, List, length, vec_capacity, Some, refl, ap, ◌∙◌, arith, inl, inr}
+use Rattle.std.proofs.Common.{◌≡◌, ℕ, ◌≤◌, List, [], ◌∷◌, length, vec_capacity, Some, refl, sym, ap, ◌∙◌, arith, inl, inr}
 use Rattle.std.proofs.lemmas.Grind.{common_steps}
 use Rattle.mt_outside.specs.Disk.{overwritten}
 use Rattle.mt_outside.specs.DiskInside.{state_of}
+use Rattle.mt_outside.specs.Logs.{log_of}
 use Rattle.mt_outside.specs.MemoryDisk.{contents_of}
 use Rattle.mt_outside.specs.MemoryDisk.DiskEvent.{wrote}
 use Rattle.mt_outside.specs.Replaying.{events_of}
+use Rattle.mt_outside.proofs.DiskLogs.{log_is, logs_done, logs_stopped}
 use Rattle.mt_outside.proofs.DiskSound.{pushed_write, sound_wrote}
 use Rattle.mt_outside.proofs.DiskSteps.{contents_still, contents_wrote, crash_still, crash_wrote, elapses_still, elapses_to, same_part, wrote_part}
 use Rattle.mt_outside.proofs.Overwriting.{length-overwritten}
@@ -88,3 +90,17 @@ returns-clause-time c =
 pub returns-clause-refused : goal.returns-clause-refused
 returns-clause-refused c =
     rw (← c.self.view_is) (elim [ inl refused ↦ elim refused [ inl listed ↦ grind (arith, common_steps) | inr stopped ↦ grind (arith, common_steps) ] | inr far ↦ grind (arith, common_steps) ])
+
+pub returns-then-count_down-clause-logged : goal.returns-then-count_down-clause-logged
+returns-then-count_down-clause-logged c =
+    let events = pushed_write c.self.inside.events.items c.prepare.new.events.items c.push_reserved.new.self.items c.args.at c.in-Ok.copy c.args.from.now c.in-Ok.ensures.events c.push_reserved.ensures.items c.in-Ok.ensures.copy in
+    let logged = log_is c.self.inside.first.items c.prepare.new.first.items (events_of c.self.inside.events.items) (events_of c.push_reserved.new.self.items) (wrote c.args.at c.args.from.now ∷ []) c.in-Ok.ensures.first events in
+    rw (← c.self.view_is) (logs_stopped (wrote c.args.at c.args.from.now) (log_of (state_of c.self.inside)) _ c.self.inside.stop c.count_down.new.stop _ logged c.count_down.ensures.fewer (sym c.count_down.ensures.stops ∙ c.if-count_down.true))
+
+pub returns-clause-logged : goal.returns-clause-logged
+returns-clause-logged c =
+    let events = pushed_write c.self.inside.events.items c.prepare.new.events.items c.push_reserved.new.self.items c.args.at c.in-Ok.copy c.args.from.now c.in-Ok.ensures.events c.push_reserved.ensures.items c.in-Ok.ensures.copy in
+    let logged = log_is c.self.inside.first.items c.prepare.new.first.items (events_of c.self.inside.events.items) (events_of c.push_reserved.new.self.items) (wrote c.args.at c.args.from.now ∷ []) c.in-Ok.ensures.first events in
+    rw (← c.self.view_is)
+    (logs_done (wrote c.args.at c.args.from.now) (log_of (state_of c.self.inside)) _ c.self.inside.stop c.count_down.new.stop tt logged c.count_down.ensures.fewer (sym c.is_stopped.ensures ∙ c.if-is_stopped.false)
+    (sym c.count_down.ensures.stops ∙ c.if-count_down.false))

@@ -1,5 +1,5 @@
-use Rattle.std.proofs.Common.{◌≡◌, ◌∙◌, true, List, ℕ, [], ◌∷◌, ◌++◌, ap, sym}
-use Rattle.std.specs.Prelude.{Some, IsTrue}
+use Rattle.std.proofs.Common.{◌≡◌, ◌∙◌, true, List, [], ◌∷◌, ◌++◌, ap, sym}
+use Rattle.std.specs.Prelude.{Some}
 use Rattle.mt_durable.specs.Reading.{entries_or_none, is_change, is_said, said}
 use Rattle.mt_durable.specs.Setting.{with_all}
 use Rattle.mt_durable.specs.declared.durable.Entry.{Entry}

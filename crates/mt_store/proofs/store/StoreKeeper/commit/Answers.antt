@@ -5,6 +5,7 @@ use Rattle.mt_durable.specs.Reading.{Says, said}
 use Rattle.mt_durable.specs.Setting.{with_all}
 use Rattle.mt_durable.specs.declared.durable.Entry.{Entry}
 use Rattle.mt_store.proofs.Leads.{said_is}
+use Rattle.mt_store.proofs.Stops.{of_err}
 use Rattle.mt_store.proofs.store.StoreKeeper.commit.Goals as goal
 
 pub put-requires-clause-image_form : goal.put-requires-clause-image_form
@@ -27,3 +28,9 @@ returns-clause-moments g c = λ keeps.
     (let next : said c.as_slice.result.now ≡ with_all (said c.args.change.now) c.args.self.now.image =
     said_is c.bytes_of_a_change_are_read.ensures.read c.follow.new.self c.as_slice.result.now c.as_slice.ensures.says ∙ c.follow.ensures.value in
     c.in_ok-put.ensures.moments c.args.self.now.image next keeps)
+
+pub returns-in_err-put-clause-left : goal.returns-in_err-put-clause-left
+returns-in_err-put-clause-left g c = λ keeps ready.
+    (let next : said c.as_slice.result.now ≡ with_all (said c.args.change.now) c.args.self.now.image =
+    said_is c.bytes_of_a_change_are_read.ensures.read c.follow.new.self c.as_slice.result.now c.as_slice.ensures.says ∙ c.follow.ensures.value in
+    of_err c.from_residual.result _ (c.in_err-put.ensures.left c.args.self.now.image next keeps ready))

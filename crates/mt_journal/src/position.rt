@@ -8,7 +8,7 @@ pub const SLOT_LENGTH: u64 = 1_048_576;
 
 /// Where the next record goes.
 #[derive(Clone, Copy)]
-pub enum Place {
+pub enum Position {
     /// The file has at most nine bytes.
     Fresh,
     /// The file has no record yet.
