@@ -3,3 +3,4 @@ pub mod Begun
 pub mod Compared
 pub mod Denials
 pub mod Isolated
+pub mod Runs

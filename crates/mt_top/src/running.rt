@@ -6,10 +6,8 @@ ghost use Rattle.mt_endings.specs.Endings.{in_hand_of};
 ghost use Rattle.mt_endings.specs.Moments.{in_hand, input, moment};
 ghost use Rattle.mt_endings.specs.Run.{Ends};
 ghost use Rattle.mt_words.specs.Words.{words_of};
-ghost use Rattle.mt_top.specs.Asked.{asked_of, comes_to, is_within};
-ghost use Rattle.mt_top.specs.Compared.{ComparisonsAreExact};
-ghost use Rattle.mt_top.specs.Denials.{DenialsAreExact};
-ghost use Rattle.mt_top.specs.Isolated.{RunsAreIsolated};
+ghost use Rattle.mt_top.specs.Asked.{comes_to, is_within};
+ghost use Rattle.mt_top.specs.Runs.{IsRun};
 
 use crate::comparing::compare_with;
 use crate::isolation::{comparisons_are_exact, denials_are_exact, runs_are_isolated};
@@ -40,16 +38,10 @@ pub fn run<C: Source, A: Source, B: Source, W: Sink>(
     second: &mut B,
     out: &mut W,
 ) -> u8
-    ensures ends { Ends result (asked_of (words_of words.now))
+    ensures { IsRun (words_of words.now) result
         (moment (input (C.left config.old) (C.faults config.old)) (input (A.left first.old) (A.faults first.old)) (input (B.left second.old) (B.faults second.old)) (W.written out.old) (W.faults out.old))
         (moment (input (C.left config.new) (C.faults config.new)) (input (A.left first.new) (A.faults first.new)) (input (B.left second.new) (B.faults second.new)) (W.written out.new) (W.faults out.new)) }
-    ensures isolated { RunsAreIsolated }
-    ensures denied { DenialsAreExact }
-    ensures compared { ComparisonsAreExact }
 {
-    runs_are_isolated();
-    denials_are_exact();
-    comparisons_are_exact();
     run_watched(alloc, words, config, first, second, out, &mut Unwatched)
 }
 
@@ -63,12 +55,9 @@ pub fn run_watched<C: Source, A: Source, B: Source, W: Sink, P: Progress>(
     out: &mut W,
     progress: &mut P,
 ) -> u8
-    ensures ends { Ends result (asked_of (words_of words.now))
+    ensures { IsRun (words_of words.now) result
         (moment (input (C.left config.old) (C.faults config.old)) (input (A.left first.old) (A.faults first.old)) (input (B.left second.old) (B.faults second.old)) (W.written out.old) (W.faults out.old))
         (moment (input (C.left config.new) (C.faults config.new)) (input (A.left first.new) (A.faults first.new)) (input (B.left second.new) (B.faults second.new)) (W.written out.new) (W.faults out.new)) }
-    ensures isolated { RunsAreIsolated }
-    ensures denied { DenialsAreExact }
-    ensures compared { ComparisonsAreExact }
 {
     runs_are_isolated();
     denials_are_exact();

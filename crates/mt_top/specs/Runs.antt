@@ -1,0 +1,19 @@
+-- What is promised of a run of the program, watched or not.
+use Rattle.std.specs.Prelude.{ℕ, List}
+use Rattle.mt_endings.specs.Moments.{Moment}
+use Rattle.mt_endings.specs.Run.{Ends}
+use Rattle.mt_top.specs.Asked.{asked_of}
+use Rattle.mt_top.specs.Compared.{ComparisonsAreExact}
+use Rattle.mt_top.specs.Denials.{DenialsAreExact}
+use Rattle.mt_top.specs.Isolated.{RunsAreIsolated}
+
+-- These words were asked for, and this was the status.
+pub record IsRun (words : List (List ℕ)) (status : ℕ) (before after : Moment) : Type 0 where
+  -- it ends as what is asked for ends
+  pub ends : Ends status (asked_of words) before after
+  -- what each fabric is sent of any run is determined by its own part and its marks
+  pub isolated : RunsAreIsolated
+  -- access is denied exactly where no entry grants it
+  pub denied : DenialsAreExact
+  -- what a comparison tells is what the marks say
+  pub compared : ComparisonsAreExact
