@@ -1,10 +1,9 @@
 -- How many events the words may ask for.
-use Rattle.std.specs.Prelude.{⊤, ◌&&◌}
+use Rattle.std.specs.Prelude.{⊤}
 use Rattle.std.proofs.Common.{◌≡◌, ℕ, Bool, true, false, cond, nat_le, List, [], ◌∷◌, Option, Some, None, refl, subst}
-use Rattle.std.proofs.lemmas.Bool.{and_parts}
 use Rattle.std.specs.Option.{option_and_then, option_map}
-use Rattle.std.specs.Str.Parse.{digits_value}
-use Rattle.mt_words.specs.Words.{asked, asked_by, begin_of, command_of, count_of, fabric_of, is_numeral, names_of, soak_of}
+use Rattle.mt_files.specs.Field.{at_least, number_of, up_to}
+use Rattle.mt_words.specs.Words.{asked, asked_by, begin_of, command_of, count_of, fabric_of, names_of, soak_of}
 use Rattle.mt_words.specs.declared.asked.Asked.{Asked}
 use Rattle.mt_words.specs.declared.asked.Asked.TheVariants as asks
 use Rattle.mt_words.specs.declared.command.Command.{Command}
@@ -21,11 +20,18 @@ unfolding Within
 if_within true number begin le = le refl
 if_within false number begin le = tt
 
+count_some : (begin number : ℕ) (t : Bool) → nat_le number 100000 ≡ t → Within (soak_of (Some begin) (at_least 1 (cond t (Some number) None)))
+unfolding Within
+count_some begin number true is = if_within (nat_le 1 number) number begin (λ some. is)
+count_some begin number false is = tt
+
+count_found : (begin : ℕ) (found : Option ℕ) → Within (soak_of (Some begin) (at_least 1 (up_to 100000 found)))
+unfolding Within
+count_found begin None = tt
+count_found begin (Some number) = count_some begin number (nat_le number 100000) refl
+
 count_within : (begin : ℕ) (word : List ℕ) → Within (soak_of (Some begin) (count_of word))
-count_within begin word =
-    let number = digits_value 10 word in
-    if_within (is_numeral word && (nat_le 1 number && nat_le number 100000)) number begin
-    (λ is. (and_parts (nat_le 1 number) (nat_le number 100000) (and_parts (is_numeral word) (nat_le 1 number && nat_le number 100000) is).1).1)
+count_within begin word = count_found begin (number_of word)
 
 soak_within : (begin : Option ℕ) (word : List ℕ) → Within (soak_of begin (count_of word))
 unfolding Within
