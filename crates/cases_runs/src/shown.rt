@@ -3,7 +3,7 @@
 use cases_page::{Page, byte, word};
 use mt_files::{LineFault, config as configuration, events};
 use mt_lens::{Line, Teller, show_faulty_line, show_words};
-use mt_model::{Config, Event};
+use mt_model::{Config, Event, Sent};
 use mt_play::Playing;
 use std::alloc::{AllocError, Global};
 use std::{fs, io};
@@ -108,17 +108,38 @@ impl Show {
         let Some(outcome) = self.node.plan(event)? else {
             return Ok(false);
         };
-        let line = Line {
+        let sent = outcome.sent.as_slice();
+        tell_line(
+            &self.node,
+            &mut self.teller,
+            page,
             number,
             event,
-            sessions: self.node.sessions(),
-            armed: self.node.armed(),
-            sent: Some(outcome.sent.as_slice()),
-        };
-        if let Some(told) = self.teller.told(&line)? {
-            show_words(page, &told);
-        }
+            Some(sent),
+        )?;
         self.node.apply(outcome);
         Ok(true)
     }
+}
+
+// Tells of a line that the node is about to play, where it is to be shown.
+fn tell_line(
+    node: &Playing,
+    teller: &mut Teller,
+    page: &mut mt_lens::Page,
+    number: u64,
+    event: &Event,
+    sent: Option<&[Sent]>,
+) -> Result<(), AllocError> {
+    let line = Line {
+        number,
+        event,
+        sessions: node.sessions(),
+        armed: node.armed(),
+        sent,
+    };
+    if let Some(told) = teller.told(&line)? {
+        show_words(page, &told);
+    }
+    Ok(())
 }
