@@ -14,7 +14,7 @@ use Rattle.mt_durable.specs.Changes.{change_bytes, entry_tree, entry_trees}
 use Rattle.mt_durable.specs.Fronts.{AreEntries, bytes_if, bytes_to_end, entries_bytes, entries_said, entry_bytes, IsFront, lower_bytes}
 use Rattle.mt_durable.specs.Lengths.{Begins}
 use Rattle.mt_durable.specs.declared.image.Front.{Front}
-use Rattle.mt_durable.specs.Keys.{is_before}
+use Rattle.mt_durable.specs.Keys.{is_before, is_same}
 use Rattle.mt_durable.specs.Keeping.{IsChange}
 use Rattle.mt_durable.specs.Maps.{ascend_above, has_value, keys_ascend}
 use Rattle.mt_durable.specs.Reading.{Says, change_at, entries_or_none, said}
@@ -184,6 +184,13 @@ entries_behind (entry ∷ entries) front is = is.3
 pub fewer : (entries : List Entry) (front : Front) → IsFront entries (Some front) → suc (length (entries_said front.rest.now)) ≡ length entries
 fewer [] front is = absurd is
 fewer (entry ∷ entries) front is = ap (λ (l : List Entry). suc (length l)) is.4
+
+-- the entry in front is passed over where it has this key
+pub passed : (key : List ℕ) (entries : List Entry) (front : Front) → IsFront entries (Some front) → is_same key front.key.now ≡ true → entries_said front.rest.now ≡ without key entries
+passed key [] front is same = absurd is
+passed key (entry ∷ entries) front is same =
+    let here : is_same key entry.key ≡ true = ap (λ (k : List ℕ). is_same key k) (sym is.0) ∙ same in
+    is.4 ∙ sym (ap (λ (b : Bool). if b then entries else entry ∷ entries) here)
 
 -- the entry in front of a change, merged
 pub merged_front : (entries map : List Entry) (front : Front) → IsFront entries (Some front) → keys_ascend entries ≡ true

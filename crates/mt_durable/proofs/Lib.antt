@@ -1,11 +1,13 @@
 pub mod Adding
 pub mod Allowed
+pub mod Counting
 pub mod Fronts
 pub mod FromEmpty
 pub mod KeyParts
 pub mod Keys
 pub mod Lengths
 pub mod Merging
+pub mod Places
 pub mod Said
 pub mod Setting
 pub mod Structures

@@ -1,6 +1,6 @@
 //! A change merged into an image as bytes, in the memory that is there.
 
-ghost use Rattle.std.specs.Prelude.{◌≡◌, ◌≤◌, ◌+◌, ◌++◌, ◌∷◌, ℕ, List, Ok, Some, drop, length, vec_capacity, option_map};
+ghost use Rattle.std.specs.Prelude.{◌≡◌, ◌≤◌, ◌+◌, ◌++◌, ◌∷◌, ℕ, List, Ok, Some, drop, length, take, option_map, IfSome};
 ghost use Rattle.mt_durable.specs.Fronts.{AreEntries, IsFront, Names, array_octet, bytes_if, entries_said, entry_bytes, is_leave, lower_bytes};
 ghost use Rattle.mt_durable.specs.Images.{IsImage, image_after};
 ghost use Rattle.mt_durable.specs.Keeping.{IsChange};
@@ -31,59 +31,100 @@ pub(crate) struct Front<'a> {
     rest: &'a [u8],
 }
 
-/// Leaves in `into` the image after a change: of the map to which the change leads from that of the image
-/// `from`. It takes no memory.
-pub fn merge_image(from: &[u8], change: &[u8], into: &mut Vec<u8>)
+/// Leaves in the front of `into` the image after a change: of the map to which the change leads from that of the
+/// image `from`. It answers how many bytes that is. It takes no memory.
+pub fn merge_image(from: &[u8], change: &[u8], into: &mut [u8]) -> usize
     requires from { IsImage from.now }
     requires change { IsChange change.now }
-    requires room { length (image_after change.now from.now) ≤ vec_capacity into.old }
-    ensures merged { into.new.items ≡ image_after change.now from.now }
-    ensures capacity { vec_capacity into.new ≡ vec_capacity into.old }
+    requires room { length (image_after change.now from.now) ≤ length into.old }
+    ensures merged { take result into.new ≡ image_after change.now from.now }
+    ensures count { result ≡ length (image_after change.now from.now) }
 {
     bytes_of_a_change_are_read();
-    into.clear();
     let mut image = behind_first(from);
     let mut entries = behind_first(change);
-    into.push_reserved(ARRAY);
+    let mut end = add(&[ARRAY], into, 0);
     'entries: while let Some(entry) = entry_in_front(entries) {
-        image = merge_entry(&entry, image, into);
+        let (behind, at) = merge_entry(&entry, image, into, end);
+        image = behind;
+        end = at;
         entries = entry.rest;
     }
-    add(image, into);
+    add(image, into, end)
 }
 
-// Adds what stands in an image before the key of a changed entry, and the entry unless its key goes, and
-// answers what stands behind.
-fn merge_entry<'a>(entry: &Front<'_>, image: &'a [u8], into: &mut Vec<u8>) -> &'a [u8]
-    requires image { AreEntries image.now }
-    requires room { length into.old.items + (length (lower_bytes entry.now.key.now (entries_said image.now)) + length (bytes_if entry.now.has_value entry.now.bytes.now)) ≤ vec_capacity into.old }
-    ensures added { into.new.items ≡ into.old.items ++ (lower_bytes entry.now.key.now (entries_said image.now) ++ bytes_if entry.now.has_value entry.now.bytes.now) }
-    ensures entries { AreEntries result.now }
-    ensures left { entries_said result.now ≡ without entry.now.key.now (drop (count_before entry.now.key.now (entries_said image.now)) (entries_said image.now)) }
-    ensures capacity { vec_capacity into.new ≡ vec_capacity into.old }
+/// How many bytes the image has after a change: of the map to which the change leads from that of the image `from`. It
+/// takes no memory.
+pub fn length_after(from: &[u8], change: &[u8]) -> usize
+    requires from { IsImage from.now }
+    requires change { IsChange change.now }
+    ensures { result ≡ length (image_after change.now from.now) }
 {
-    let behind = add_lower(entry.key, image, into);
-    if entry.has_value {
-        add(entry.bytes, into);
+    bytes_of_a_change_are_read();
+    let mut image = behind_first(from);
+    let mut entries = behind_first(change);
+    let mut length = 1;
+    'entries: while let Some(entry) = entry_in_front(entries) {
+        let (lower, behind) = split_entry(entry.key, image);
+        length += lower.len() + own_bytes(&entry).len();
+        image = behind;
+        entries = entry.rest;
     }
-    pass_same(entry.key, behind)
+    length + image.len()
 }
 
-// Adds the entries before a key, and answers those behind them.
-fn add_lower<'a>(key: &[u8], image: &'a [u8], into: &mut Vec<u8>) -> &'a [u8]
+// Adds at a place what stands in an image before the key of a changed entry, and the entry unless its key goes. It
+// answers what stands behind in the image, and the place behind what it added.
+fn merge_entry<'a>(
+    entry: &Front<'_>,
+    image: &'a [u8],
+    into: &mut [u8],
+    at: usize,
+) -> (&'a [u8], usize)
     requires image { AreEntries image.now }
-    requires room { length into.old.items + length (lower_bytes key.now (entries_said image.now)) ≤ vec_capacity into.old }
-    ensures added { into.new.items ≡ into.old.items ++ lower_bytes key.now (entries_said image.now) }
+    requires room { at + (length (lower_bytes entry.now.key.now (entries_said image.now)) + length (bytes_if entry.now.has_value entry.now.bytes.now)) ≤ length into.old }
+    ensures added { take result.1 into.new ≡ take at into.old ++ (lower_bytes entry.now.key.now (entries_said image.now) ++ bytes_if entry.now.has_value entry.now.bytes.now) }
+    ensures end { result.1 ≡ at + (length (lower_bytes entry.now.key.now (entries_said image.now)) + length (bytes_if entry.now.has_value entry.now.bytes.now)) }
+    ensures within { result.1 ≤ length into.new }
+    ensures entries { AreEntries result.0.now }
+    ensures left { entries_said result.0.now ≡ without entry.now.key.now (drop (count_before entry.now.key.now (entries_said image.now)) (entries_said image.now)) }
+{
+    let (lower, behind) = split_entry(entry.key, image);
+    let end = add(lower, into, at);
+    (behind, add(own_bytes(entry), into, end))
+}
+
+// What stands in an image before a key, and what stands behind it.
+fn split_entry<'a>(key: &[u8], image: &'a [u8]) -> (&'a [u8], &'a [u8])
+    requires { AreEntries image.now }
+    ensures lower { result.0.now ≡ lower_bytes key.now (entries_said image.now) }
+    ensures entries { AreEntries result.1.now }
+    ensures left { entries_said result.1.now ≡ without key.now (drop (count_before key.now (entries_said image.now)) (entries_said image.now)) }
+{
+    let behind = behind_lower(key, image);
+    let (lower, _) = image.split_at(image.len() - behind.len());
+    (lower, pass_same(key, behind))
+}
+
+// The bytes of a changed entry, none where its key goes.
+fn own_bytes<'a>(entry: &Front<'a>) -> &'a [u8]
+    ensures { result.now ≡ bytes_if entry.now.has_value entry.now.bytes.now }
+{
+    if entry.has_value { entry.bytes } else { &[] }
+}
+
+// What stands in an image behind the entries before a key.
+fn behind_lower<'a>(key: &[u8], image: &'a [u8]) -> &'a [u8]
+    requires { AreEntries image.now }
+    ensures parts { image.now ≡ lower_bytes key.now (entries_said image.now) ++ result.now }
     ensures entries { AreEntries result.now }
     ensures left { entries_said result.now ≡ drop (count_before key.now (entries_said image.now)) (entries_said image.now) }
-    ensures capacity { vec_capacity into.new ≡ vec_capacity into.old }
 {
     let mut left = image;
     'lower: while let Some(entry) = entry_in_front(left) {
         if !is_before(entry.key, key) {
             return left;
         }
-        add(entry.bytes, into);
         left = entry.rest;
     }
     left
@@ -104,7 +145,8 @@ fn pass_same<'a>(key: &[u8], entries: &'a [u8]) -> &'a [u8]
 // What stands in front of entries: none at the end.
 fn entry_in_front<'a>(entries: &'a [u8]) -> Option<Front<'a>>
     requires { AreEntries entries.now }
-    ensures { IsFront (entries_said entries.now) result }
+    ensures front { IsFront (entries_said entries.now) result }
+    ensures parts { IfSome result (λ front. entries.now ≡ front.bytes.now ++ front.rest.now) }
 {
     bytes_of_a_change_are_read();
     narrow_is_element();
@@ -174,13 +216,14 @@ fn behind_first(bytes: &[u8]) -> &[u8]
     }
 }
 
-// Adds bytes at the end, where there is room for them.
-fn add(bytes: &[u8], into: &mut Vec<u8>)
-    requires { length into.old.items + length bytes.now ≤ vec_capacity into.old }
-    ensures added { into.new.items ≡ into.old.items ++ bytes.now }
-    ensures capacity { vec_capacity into.new ≡ vec_capacity into.old }
+// Adds bytes at a place, and answers the place behind them.
+fn add(bytes: &[u8], into: &mut [u8], at: usize) -> usize
+    requires { at + length bytes.now ≤ length into.old }
+    ensures added { take result into.new ≡ take at into.old ++ bytes.now }
+    ensures end { result ≡ at + length bytes.now }
+    ensures within { result ≤ length into.new }
 {
-    'bytes: for byte in bytes {
-        into.push_reserved(*byte);
-    }
+    let end = at + bytes.len();
+    into[at..end].copy_from_slice(bytes);
+    end
 }

@@ -24,11 +24,11 @@ mod rule;
 
 pub use change::{write_change, write_image};
 pub use durable::{Change, Durable, Entry};
-pub use image::merge_image;
+pub use image::{length_after, merge_image};
 pub use keeper::Keeper;
 pub use key::is_before;
 pub use laws::{changes_lead_on, maps_have_images};
 pub use list_keeper::ListKeeper;
 pub use reading::{ChangeFault, bytes_of_a_change_are_read, read_change};
-pub use room::{finds_room, has_room};
+pub use room::{finds_room, has_room, image_has_room};
 pub use rule::{Rule, is_admitted};

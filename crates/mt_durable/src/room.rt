@@ -7,6 +7,7 @@ ghost use Rattle.mt_durable.specs.Reading.{Says, said};
 
 use crate::change::write_image;
 use crate::durable::{Change, Durable};
+use crate::image::length_after;
 use crate::laws::changes_lead_on;
 use crate::reading::bytes_of_a_change_are_read;
 use std::alloc::{AllocError, Global};
@@ -37,4 +38,19 @@ pub fn finds_room(image: &[u8], change: &[u8]) -> bool
 {
     changes_lead_on();
     image.len() <= LONGEST && change.len() <= LONGEST - image.len()
+}
+
+/// Whether the image of a map has room for a change, as `has_room` says of the map. It goes over the image only
+/// where the lengths of both do not tell, and takes no memory.
+pub fn image_has_room(image: &[u8], change: &[u8]) -> bool
+    requires image { IsImage image.now }
+    requires change { IsChange change.now }
+    ensures { IsTrue result ↔ HasRoom change.now (Some (said image.now)) }
+{
+    bytes_of_a_change_are_read();
+    changes_lead_on();
+    if finds_room(image, change) {
+        return true;
+    }
+    length_after(image, change) <= LONGEST
 }

@@ -1,6 +1,7 @@
 //! A journal that is in use.
 
 ghost use Rattle.std.specs.Prelude.{◌≡◌, ◌≤◌, ◌<◌, ◌+◌, ◌⊎◌, ◌++◌, [], ◌∷◌, ℕ, List, Err, Ok, Some, Bool, false, true, length, is_err, vec_capacity, IfErr, IfOk, OnErr, OnOk, IsErr, IsTrue};
+ghost use Rattle.std.specs.Borrow.{Lends, sem};
 ghost use Rattle.mt_journal.specs.Committing.{CutIn, calls_of, has_begun, has_form, has_room, list_with, written_by};
 ghost use Rattle.mt_journal.specs.Layout.{journal_at};
 ghost use Rattle.mt_journal.specs.Standing.{HasEither, IsWithin, StandsFor, after_calls, fits_at, switch_calls};
@@ -18,7 +19,7 @@ use crate::writing::{lay_out, put, put_both};
 use mt_outside::{Disk, Failed, stops_are_crashes};
 use mt_tlv::Bytes;
 use std::alloc::Global;
-use std::marker::PhantomData;
+use std::marker::{Model, PhantomData};
 
 // As much as is written at once: the mark of a move, selectors, a length, an image and a gate.
 const BUFFER_LENGTH: usize = 65_547;
@@ -29,21 +30,37 @@ const HEAD: [u8; 9] = [0x4d, 0x54, 0x4a, 0x52, 0x4e, 0x4c, 0x32, 0x0a, 0];
 // What a record takes beside its change, and the next gate: two gates and a length.
 const RECORD_ROOM: u64 = 6;
 
-/// A journal on a disk. Contracts see the disk, where the next record goes, and whether a call has failed,
-/// after which no call of the disk is made.
+/// A journal on a disk. Contracts see the disk, where the next record goes, and whether it has failed: from the first
+/// call on that failed, until it is reopened, no call of the disk is made.
 #[derive(Drop)]
 pub struct Journal<D: Disk, F: Form> {
-    pub disk: D,
-    pub place: Position,
-    pub failed: bool,
+    disk: D,
+    place: Position,
+    failed: bool,
     buffer: Vec<u8>,
     form: PhantomData<F>,
-    ghost room: { 65547 ≤ vec_capacity buffer },
-    ghost within: { IsWithin place },
+}
+
+impl<D: Disk, F: Form> Model for Journal<D, F> {
+    ghost use Rattle.std.specs.Prelude.{◌≤◌, vec_capacity};
+    ghost use Rattle.mt_journal.specs.States.{JournalState};
+
+    ghost Value = { JournalState D };
+
+    ghost use Rattle.mt_journal.specs.Standing.{IsWithin};
+
+    ghost view = { λ journal. record {
+      disk = journal.disk;
+      place = journal.place;
+      failed = journal.failed;
+    } };
+
+    ghost invariant = { λ journal. (65547 ≤ vec_capacity journal.buffer) × IsWithin journal.place };
 }
 
 impl<D: Disk, F: Form> Journal<D, F> {
     ghost use Rattle.mt_journal.specs.Layout.{journal_at};
+    ghost use Rattle.mt_journal.specs.contracts.journal.Journal.{the_row};
     ghost use Rattle.mt_journal.specs.Recovering.{FaultHasCause, HasPlace, HasReadCause, IfNotAJournal, OnlyRead};
     ghost use Rattle.mt_journal.specs.Standing.{HasEither, StandsFor, after_calls, fits_at, switch_calls};
 
@@ -108,11 +125,34 @@ impl<D: Disk, F: Form> Journal<D, F> {
         self.failed = true;
     }
 
+    /// The disk.
+    pub fn disk(&self) -> &D
+        ensures { result.now ≡ self.now.disk }
+    {
+        &self.disk
+    }
+
+    /// The disk, lent to be changed: where it stops, and what it forgets. Where its contents become others, the
+    /// journal knows nothing of them.
+    pub fn disk_mut(&mut self) -> &mut D
+        ensures value { result.now ≡ self.old.disk }
+        ensures* writes_back { sem 𝓛 (Lends (the_row D.row F.row D.Disk F.Form) D.row self.entry result (λ disk. record self.old { disk = disk })) }
+    {
+        &mut self.disk
+    }
+
     /// The disk, as it is.
     pub fn into_disk(self) -> D
         ensures { result ≡ self.disk }
     {
         self.disk
+    }
+
+    /// Whether the journal has failed.
+    pub fn has_failed(&self) -> bool
+        ensures { result ≡ self.now.failed }
+    {
+        self.failed
     }
 
     /// Adds a change that may follow the list at its end, in four calls of the disk. After a failure the

@@ -1,9 +1,10 @@
 -- What a change adds to a list, and what an image is in its place.
-use Rattle.std.proofs.Common.{◌≡◌, ◌≤◌, ℕ, true, false, List, [], ◌∷◌, ◌++◌, length, sym, ap, ◌∙◌, subst, ⊎_elim, inl, inr, arith}
+use Rattle.std.proofs.Common.{◌≡◌, ◌≤◌, ℕ, true, false, List, [], ◌∷◌, ◌++◌, length, take, drop, sym, ap, ◌∙◌, subst, ⊎_elim, inl, inr, arith}
 use Rattle.std.specs.Prelude.{Some, Result, Ok, Err, IfOk, IsTrue, OnOk, Bool, ◌&&◌}
 use Rattle.std.proofs.lemmas.Bool.{cases_Bool}
+use Rattle.std.proofs.lemmas.List.{append-nil, drop_all, take_all}
 use Rattle.mt_durable.specs.Changes.{change_bytes, entry_trees}
-use Rattle.mt_durable.specs.Images.{IsImage}
+use Rattle.mt_durable.specs.Images.{IsImage, image_after}
 use Rattle.mt_durable.specs.Keeping.{HasRoom, IsChange, LeadsTo}
 use Rattle.mt_durable.specs.Maps.{Merged, have_values, keys_ascend}
 use Rattle.mt_durable.specs.Reading.{Says, change_at, entries_or_none, is_change, is_image, is_said, is_said_whole, said}
@@ -84,6 +85,10 @@ module _ (read : (entries : List Entry) (bytes : List ℕ) → Says entries byte
   pub short : (bytes : List ℕ) → IsChange bytes → length bytes ≤ 65535
   short bytes is = is.1.element.short
 
+  -- bytes that say a map are its image
+  pub image_said : (entries : List Entry) (bytes : List ℕ) → Says entries bytes → have_values entries ≡ true → IsImage bytes
+  image_said entries bytes says whole = subst (λ (es : List Entry). Says es bytes × (have_values es ≡ true)) (sym (said_is entries bytes says)) (says, whole)
+
   -- the map to which an image leads from the empty one
   pub map_of_image : ((map : List Entry) → keys_ascend map ≡ true → have_values map ≡ true → with_all map [] ≡ map) → (image : List ℕ) → IsImage image → map_of (image ∷ []) ≡ Some (said image)
   map_of_image from_empty image is = rw (change_is image (said image, is.0)) (ap (λ (m : List Entry). Some m) (from_empty (said image) is.0.ascend is.1))
@@ -118,3 +123,39 @@ module _ (read : (entries : List Entry) (bytes : List ℕ) → Says entries byte
         image = (subst (λ (es : List Entry). Says es (change_bytes after)) (sym again) made, ap have_values again ∙ leads.merged.whole);
         said_again = again;
       }
+
+  -- What is known of bytes in whose front the image after a change was left.
+  pub record MergedInto (change : List ℕ) (from : List Entry) (items : List ℕ) (count : ℕ) : Type 0 where
+    pub image : IsImage (take count items)
+    pub value : said (take count items) ≡ with_all (said change) from
+    pub leads : LeadsTo change from (said (take count items))
+    pub short : count ≤ 65535
+
+  pub fits_in : ((change map : List Entry) → keys_ascend change ≡ true → keys_ascend map ≡ true → have_values map ≡ true → Merged change map (with_all change map))
+      → (change image : List ℕ) (from : List Entry) → IsChange change → Says from image → have_values from ≡ true → HasRoom change (Some from) → length (image_after change image) ≤ 65535
+  fits_in merged change image from is says whole room =
+      let leads = leads_to merged change from is says.ascend whole in
+      omega (arith, room (with_all (said change) from) leads, ap (λ (m : List Entry). length (change_bytes (with_all (said change) m))) (said_is from image says))
+
+  pub merged_into : ((change map : List Entry) → keys_ascend change ≡ true → keys_ascend map ≡ true → have_values map ≡ true → Merged change map (with_all change map))
+      → ((change map : List Entry) (bytes : List ℕ) → Says change bytes → IsAllowed (array (entry_trees map)) deepest → IsAllowed (array (entry_trees (with_all change map))) deepest)
+      → ((map : List Entry) → keys_ascend map ≡ true → IsAllowed (array (entry_trees map)) deepest → length (change_bytes map) ≤ longest → Says map (change_bytes map))
+      → (change image : List ℕ) (from : List Entry) (items : List ℕ) (count : ℕ) → IsChange change → Says from image → have_values from ≡ true → HasRoom change (Some from)
+      → take count items ≡ image_after change image → count ≡ length (image_after change image) → MergedInto change from items count
+  merged_into merged allowed says change image from items count is said_there whole room made size =
+      let view : said image ≡ from = said_is from image said_there in
+      let follows = followed merged allowed says change image from is (image_said from image said_there whole) view room in
+      let after = with_all (said change) from in
+      let there : take count items ≡ change_bytes after = made ∙ ap (λ (m : List Entry). change_bytes (with_all (said change) m)) view in
+      let value : said (take count items) ≡ after = ap said there ∙ follows.said_again in
+      record {
+        image = subst IsImage (sym there) follows.image;
+        value = value;
+        leads = subst (λ (m : List Entry). LeadsTo change from m) (sym value) follows.leads;
+        short = omega (arith, size, fits_in merged change image from is said_there whole room);
+      }
+
+-- a whole list in the place of one that is no longer
+pub written_back : (new old : List ℕ) (n : ℕ) → n ≡ length new → length old ≤ length new → take n (new ++ drop (length new) old) ≡ new
+written_back new old n is fits =
+    ap (λ (l : List ℕ). take n (new ++ l)) (drop_all (length new) old fits) ∙ ap (λ (l : List ℕ). take n l) (append-nil new) ∙ take_all n new (omega arith)

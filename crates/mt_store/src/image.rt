@@ -1,6 +1,6 @@
 //! The image of a map, in memory of which there is always enough.
 
-ghost use Rattle.std.specs.Prelude.{◌≡◌, ◌<◌, ◌↔◌, None, Some, length, IfOk, IsTrue};
+ghost use Rattle.std.specs.Prelude.{◌≡◌, ◌<◌, ◌≤◌, ◌↔◌, None, Some, length, take, IfOk, IsTrue};
 ghost use Rattle.mt_durable.specs.Changes.{change_bytes, entry_trees};
 ghost use Rattle.mt_durable.specs.Keeping.{HasRoom, IsAdmitted, IsChange, LeadsTo};
 ghost use Rattle.mt_durable.specs.Maps.{have_values};
@@ -12,7 +12,7 @@ ghost use Rattle.mt_tlv.specs.Tree.{array};
 
 use crate::map_form::MapForm;
 use mt_durable::{
-    ChangeFault, Durable, Rule, bytes_of_a_change_are_read, changes_lead_on, finds_room, has_room,
+    ChangeFault, Durable, Rule, bytes_of_a_change_are_read, changes_lead_on, image_has_room,
     is_admitted, maps_have_images, read_change, write_image,
 };
 use std::alloc::{AllocError, Global};
@@ -22,14 +22,15 @@ use std::marker::Model;
 const LONGEST: usize = 65_535;
 
 /// A map as its image, the bytes of the change that leads to it from the empty map. Contracts see the
-/// entries of the map. There is room for the longest image.
+/// entries of the map. There is room for the longest image, of which so many bytes in front are this one.
 #[derive(Drop)]
 pub struct Image {
     bytes: Vec<u8>,
+    count: usize,
 }
 
 impl Model for Image {
-    ghost use Rattle.std.specs.Prelude.{List, ◌≤◌, vec_capacity};
+    ghost use Rattle.std.specs.Prelude.{List, ◌≡◌, ◌≤◌, length, take};
     ghost use Rattle.std.specs.Coded.{codes};
     ghost use Rattle.mt_tlv.specs.contracts.value.Value as values;
     ghost use Rattle.mt_durable.specs.Images.{IsImage};
@@ -40,9 +41,9 @@ impl Model for Image {
 
     ghost coded = { Prim.hlevel (codes, values.the_row.coded) };
 
-    ghost view = { λ image. said image.bytes.items };
+    ghost view = { λ image. said (take image.count image.bytes.items) };
 
-    ghost invariant = { λ image. IsImage image.bytes.items × (65535 ≤ vec_capacity image.bytes) };
+    ghost invariant = { λ image. IsImage (take image.count image.bytes.items) × (length image.bytes.items ≡ 65535) × (image.count ≤ 65535) };
 }
 
 impl Image {
@@ -55,13 +56,14 @@ impl Image {
     {
         bytes_of_a_change_are_read();
         maps_have_images();
-        let mut bytes = Vec::new(alloc);
-        write_image(alloc, map, &mut bytes)?;
-        if bytes.len() > LONGEST {
+        let mut written = Vec::new(alloc);
+        write_image(alloc, map, &mut written)?;
+        let count = written.len();
+        if count > LONGEST {
             return Err(ChangeFault::NotAChange);
         }
-        bytes.reserve(LONGEST - bytes.len())?;
-        Ok(Image { bytes })
+        let bytes = filled_up(written)?;
+        Ok(Image { bytes, count })
     }
 
     /// The bytes.
@@ -69,7 +71,7 @@ impl Image {
         ensures says { Says self.now result.now }
         ensures whole { IsTrue (have_values self.now) }
     {
-        self.bytes.as_slice()
+        &self.bytes[..self.count]
     }
 
     /// The map.
@@ -87,19 +89,17 @@ impl Image {
     }
 
     /// Whether there is room for a change, as a commit wants: whether the image of the map after it is no
-    /// longer than an element may be. The image is read only where the length of both does not tell.
-    /// NotAChange says that the bytes are no change.
+    /// longer than an element may be. The image is gone over only where the length of both does not tell, and
+    /// is not read. NotAChange says that the bytes are no change.
     pub fn has_room(&self, alloc: Global, change: &[u8]) -> Result<bool, ChangeFault>
         ensures form { IfOk result (λ _. IsChange change.now) }
         ensures room { IfOk result (λ room. IsTrue room ↔ HasRoom change.now (Some self.now)) }
         ensures refused { IfNotAChange result (change_at change.now ≡ None) }
     {
+        bytes_of_a_change_are_read();
         let entries = read_change(alloc, change)?;
-        if finds_room(&self.bytes, change) {
-            return Ok(true);
-        }
-        let map = self.map(alloc)?;
-        Ok(has_room(alloc, &map, entries)?)
+        drop(entries);
+        Ok(image_has_room(self.as_slice(), change))
     }
 
     /// Whether the map after a change may stand under a rule, as a commit under it wants. NotAChange says that the
@@ -124,6 +124,19 @@ impl Image {
         bytes_of_a_change_are_read();
         changes_lead_on();
         maps_have_images();
-        F::merge(&from.bytes, change, &mut self.bytes);
+        let bytes = from.as_slice();
+        let merged = F::merge(bytes, change, self.bytes.as_mut_slice());
+        self.count = merged;
     }
+}
+
+// These bytes, and as many behind them as the longest image has more.
+fn filled_up(bytes: Vec<u8>) -> Result<Vec<u8>, AllocError>
+    requires { length bytes.items ≤ 65535 }
+    ensures filled { IfOk result (λ filled. length filled.items ≡ 65535) }
+    ensures front { IfOk result (λ filled. take (length bytes.items) filled.items ≡ bytes.items) }
+{
+    let mut filled = bytes;
+    filled.resize(LONGEST, 0)?;
+    Ok(filled)
 }

@@ -1,6 +1,6 @@
 //! How images and changes are told and merged.
 
-ghost use Rattle.std.specs.Prelude.{◌≡◌, ◌≤◌, ◌&&◌, List, ℕ, Some, length, vec_capacity};
+ghost use Rattle.std.specs.Prelude.{◌≡◌, ◌≤◌, ◌&&◌, List, ℕ, Some, length, take};
 ghost use Rattle.mt_durable.specs.Images.{IsImage, image_after};
 ghost use Rattle.mt_durable.specs.Keeping.{IsChange};
 ghost use Rattle.mt_durable.specs.Reading.{is_change, is_image, said};
@@ -14,13 +14,13 @@ use mt_journal::Form;
 /// A form whose images and changes are those of mt_durable that lead to maps that may stand, and that merges a
 /// change into an image as bytes, in the memory that is there.
 pub trait MapForm: Form + Rule {
-    /// Leaves in `into` the image after a change.
-    fn merge(from: &[u8], change: &[u8], into: &mut Vec<u8>)
+    /// Leaves in the front of `into` the image after a change, and answers how many bytes that is.
+    fn merge(from: &[u8], change: &[u8], into: &mut [u8]) -> usize
         requires from { IsImage from.now }
         requires change { IsChange change.now }
-        requires room { length (image_after change.now from.now) ≤ vec_capacity into.old }
-        ensures merged { into.new.items ≡ image_after change.now from.now }
-        ensures capacity { vec_capacity into.new ≡ vec_capacity into.old };
+        requires room { length (image_after change.now from.now) ≤ length into.old }
+        ensures merged { take result into.new ≡ image_after change.now from.now }
+        ensures count { result ≡ length (image_after change.now from.now) };
 
     /// Its images are those of maps that may stand.
     ghost images: { (bytes : List ℕ) → Self.Form.image bytes ≡ (Self.Rule.admits (said bytes) && is_image bytes) };

@@ -60,8 +60,8 @@ impl MapForm for Maps {
 
     ghost changes = { λ list map bytes leads. refl };
 
-    fn merge(from: &[u8], change: &[u8], into: &mut Vec<u8>) {
-        merge_image(from, change, into);
+    fn merge(from: &[u8], change: &[u8], into: &mut [u8]) -> usize {
+        merge_image(from, change, into)
     }
 }
 
@@ -130,7 +130,7 @@ impl<R: Rule> MapForm for MapsOf<R> {
 
     ghost changes = { λ list map bytes leads. ap (λ m. follows R.admits m bytes) leads };
 
-    fn merge(from: &[u8], change: &[u8], into: &mut Vec<u8>) {
-        merge_image(from, change, into);
+    fn merge(from: &[u8], change: &[u8], into: &mut [u8]) -> usize {
+        merge_image(from, change, into)
     }
 }

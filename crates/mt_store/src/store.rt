@@ -1,6 +1,7 @@
 //! Recovering a map, and committing a change of it.
 
 ghost use Rattle.std.specs.Prelude.{◌≡◌, ◌<◌, ℕ, List, Some, Err, false, is_err, length, IfErr, IfOk, OnErr, OnOk, IsErr, IsTrue};
+ghost use Rattle.std.specs.Borrow.{Lends, sem};
 ghost use Rattle.mt_durable.specs.Changes.{change_bytes, entry_trees};
 ghost use Rattle.mt_durable.specs.Images.{IsImage};
 ghost use Rattle.mt_durable.specs.Keeping.{Committed, HasRoom, IsAdmitted, IsChange, WasOrCommitted};
@@ -30,13 +31,29 @@ use mt_journal::{Journal, JournalFault};
 use mt_outside::{Disk, Failed};
 use mt_tlv::Bytes;
 use std::alloc::Global;
+use std::marker::Model;
 use std::mem;
 
-/// Durable state on a disk. Contracts see the journal, and the image of the map.
+/// Durable state on a disk. Contracts see the journal, and the map as its image stands for it.
 pub struct Store<D: Disk, F: MapForm> {
-    pub journal: Journal<D, F>,
-    pub image: Image,
+    journal: Journal<D, F>,
+    image: Image,
     next: Image,
+}
+
+impl<D: Disk, F: MapForm> Model for Store<D, F> {
+    ghost use Rattle.std.specs.Coded.{codes};
+    ghost use Rattle.mt_tlv.specs.contracts.value.Value as values;
+    ghost use Rattle.mt_store.specs.States.{StoreState};
+
+    ghost Value = { StoreState D };
+
+    ghost coded = { Prim.hlevel (codes, values.the_row.coded, D.code) };
+
+    ghost view = { λ store. record {
+      journal = store.journal;
+      image = store.image;
+    } };
 }
 
 impl<D: Disk + Drop, F: MapForm> Drop for Store<D, F> {
@@ -53,6 +70,7 @@ impl<D: Disk, F: MapForm> Store<D, F> {
     ghost use Rattle.mt_journal.specs.Layout.{journal_at};
     ghost use Rattle.mt_journal.specs.Recovering.{FaultHasCause, HasPlace, OnlyRead};
     ghost use Rattle.mt_store.specs.Leading.{Holds, Keeps};
+    ghost use Rattle.mt_store.specs.contracts.store.Store.{the_row};
 
     /// Recovers the map of a disk: that to which the journal's changes lead from the empty map. It writes
     /// nothing, and begins with a sync. With a fault the disk is handed back. All memory that commits need
@@ -111,6 +129,29 @@ impl<D: Disk, F: MapForm> Store<D, F> {
         }
     }
 
+    /// The image of the map.
+    pub fn image(&self) -> &Image
+        ensures { result.now ≡ self.now.image }
+    {
+        &self.image
+    }
+
+    /// The journal.
+    pub fn journal(&self) -> &Journal<D, F>
+        ensures { result.now ≡ self.now.journal }
+    {
+        &self.journal
+    }
+
+    /// The disk, lent to be changed: where it stops, and what it forgets. Where its contents become others, the
+    /// store knows nothing of them.
+    pub fn disk_mut(&mut self) -> &mut D
+        ensures value { result.now ≡ self.old.journal.disk }
+        ensures* writes_back { sem 𝓛 (Lends (the_row D.row F.row D.Disk F.Form F.Rule) D.row self.entry result (λ disk. record self.old { journal = record self.old.journal { disk = disk } })) }
+    {
+        self.journal.disk_mut()
+    }
+
     /// The disk, as it is.
     pub fn into_disk(self) -> D
         ensures { result ≡ self.journal.disk }
@@ -165,7 +206,7 @@ impl<D: Disk, F: MapForm> Keeper for Store<D, F> {
     {
         bytes_of_a_change_are_read();
         changes_lead_on();
-        if self.journal.failed {
+        if self.journal.has_failed() {
             return Err(Failed);
         }
         self.next.follow::<F>(&self.image, change);
@@ -175,7 +216,7 @@ impl<D: Disk, F: MapForm> Keeper for Store<D, F> {
     }
 
     fn faults(&self) -> u64 {
-        self.journal.disk.faults()
+        self.journal.disk().faults()
     }
 }
 

@@ -73,7 +73,7 @@ fn change_of<const N: usize>(alloc: Global, puts: [(u8, Value); N]) -> Result<Ve
 
 // Commits a change, if there is room, and answers whether it is safe.
 fn commit(alloc: Global, store: &mut FileStore, change: &[u8]) -> bool {
-    match store.image.has_room(alloc, change) {
+    match store.image().has_room(alloc, change) {
         Ok(true) => store.commit(change).is_ok(),
         _ => false,
     }
@@ -110,7 +110,7 @@ fn commit_all(rt: &HostRuntime, name: &str, turns: u32, size: usize) -> io::Resu
 // Commits changes in turn until the current slot is full, and answers how many that were.
 fn fill(alloc: Global, store: &mut FileStore, changes: &[Vec<u8>]) -> u32 {
     for (count, change) in (0..u32::MAX).zip(changes.iter().cycle()) {
-        if !store.journal.fits(change.len()) || !commit(alloc, store, change) {
+        if !store.journal().fits(change.len()) || !commit(alloc, store, change) {
             return count;
         }
     }
@@ -142,7 +142,7 @@ pub(crate) fn keep(rt: &HostRuntime, name: &str) -> io::Result<()> {
 
 // The count in a store, 0 where there is none. None where the octets do not say it.
 fn found(alloc: Global, store: &FileStore) -> Result<Option<u64>, AllocError> {
-    let map = store.image.map(alloc)?;
+    let map = store.image().map(alloc)?;
     match (map.get(&[COUNT]), map.get(&[OCTETS])) {
         (None, None) => Ok(Some(0)),
         (Some(Value::Uint(count)), Some(Value::Octets(octets))) => {

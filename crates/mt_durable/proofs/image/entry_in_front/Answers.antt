@@ -26,8 +26,8 @@ split_at-requires c =
     let size : c.element_length.result ≡ length (entry_bytes has.entry) = c.element_length.ensures (front_begins bytes has) in
     omega (arith, size, ap length has.known.is, length-append (entry_bytes has.entry) (bytes_to_end has.entries))
 
-pub returns : goal.returns
-returns c =
+pub returns-clause-front : goal.returns-clause-front
+returns-clause-front c =
     let bytes = c.args.entries.now in
     let has : HasFront bytes = has_front c.bytes_of_a_change_are_read.ensures.read c.narrow_is_element.ensures bytes c.requires (λ e. grind (arith, common_steps, e)) in
     let size : c.element_length.result ≡ length (entry_bytes has.entry) = c.element_length.ensures (front_begins bytes has) in

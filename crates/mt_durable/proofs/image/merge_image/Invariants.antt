@@ -1,5 +1,4 @@
-use Rattle.std.proofs.Common.{◌≡◌, ◌++◌, length}
-use Rattle.std.specs.Prelude.{vec_capacity}
+use Rattle.std.proofs.Common.{◌≡◌, ◌≤◌, ◌++◌, length, take}
 use Rattle.mt_durable.specs.Fronts.{AreEntries, bytes_to_end, entries_said}
 use Rattle.mt_durable.specs.Images.{image_after}
 use Rattle.mt_durable.specs.Setting.{with_all}
@@ -10,8 +9,8 @@ abbrev pub invariant-entries : goal.invariant-entries
 invariant-entries l = record {
   image : AreEntries l.image;
   change : AreEntries l.entries;
-  added : l.into.items ++ bytes_to_end (with_all (entries_said l.entries) (entries_said l.image)) ≡ image_after l.change l.from;
-  capacity : vec_capacity l.into ≡ vec_capacity l.fn.into;
+  within : l.end ≤ length l.into;
+  added : take l.end l.into ++ bytes_to_end (with_all (entries_said l.entries) (entries_said l.image)) ≡ image_after l.change l.from;
 }
 
 abbrev pub decreases-entries : goal.decreases-entries
