@@ -4,15 +4,12 @@
 //! - `tlv time`: going over elements, reading and writing them;
 //! - `im time`: requests decoded, and replies encoded;
 //! - `files time`: recordings read and written, and what they take in memory;
-//! - `replay time`: recordings played, and one compared with itself;
 //! - `ccm TURNS`: messages sealed and opened;
 //! - `journal TURNS`, `store TURNS`: changes that are safe on a file, one before the next;
-//! - `keep FILE`: a count is kept in a file; `speed/kill.py` kills it in the middle of commits;
-//! - `configuration NAME`, `recording NAME LINES`: what the program matter_node is given to play a recording of
-//!   the table `recordings.txt`; `speed/replay.sh` counts its instructions.
+//! - `keep FILE`: a count is kept in a file; `speed/kill.py` kills it in the middle of commits.
 //!
-//! What depends on the machine goes to standard error where no word asks for it. The tables, messages and
-//! configurations are the files of data/.
+//! What depends on the machine goes to standard error where no word asks for it. The texts and messages are the
+//! files of data/. How fast whole runs are, the program speed_runs measures.
 #![tactic(auto)]
 
 mod ccm;
@@ -21,8 +18,6 @@ mod files;
 mod im;
 mod journal;
 mod rates;
-mod replay;
-mod sealed;
 mod store;
 mod tlv;
 
@@ -43,11 +38,8 @@ fn main(rt: HostRuntime) -> io::Result<()> {
         "im" => im::measure(&rt, timed),
         "journal" => journal::measure(&rt, turns),
         "keep" => store::keep(&rt, word),
-        "replay" => replay::measure(&rt, timed),
         "store" => store::measure(&rt, turns),
         "tlv" => tlv::measure(&rt, timed),
-        "configuration" => replay::print(&rt, word, None),
-        "recording" => replay::print(&rt, word, Some(word_at(&words, 2))),
         _ => eprintln!(rt; "there is no such matter"),
     }
 }
@@ -66,7 +58,6 @@ fn short(rt: &HostRuntime) -> io::Result<()> {
     files::measure(rt, false)?;
     im::measure(rt, false)?;
     journal::measure(rt, FEW)?;
-    replay::measure(rt, false)?;
     store::measure(rt, FEW)?;
     tlv::measure(rt, false)
 }
