@@ -87,19 +87,19 @@ fn called(
     call: &str,
 ) -> Result<(), AllocError> {
     if let Some(word) = call.strip_prefix("x") {
-        stop(&mut journal.disk, word);
+        stop(journal.disk_mut(), word);
     } else if let Some(word) = call.strip_prefix("w") {
-        written(alloc, page, &mut journal.disk, word);
+        written(alloc, page, journal.disk_mut(), word);
     } else if let Some(word) = call.strip_prefix("s") {
         let outcome = switched(journal, &hex_bytes(alloc, word));
-        add_outcome(page, outcome, journal.disk.faults());
+        add_outcome(page, outcome, journal.disk().faults());
     } else if let Some(change) = change_of(alloc, call)? {
         let outcome = appended(journal, &change);
-        add_outcome(page, outcome, journal.disk.faults());
+        add_outcome(page, outcome, journal.disk().faults());
     } else {
         let count = call.trim_start_matches('d').parse::<usize>().unwrap_or(11);
         page.add(" ");
-        add_front(page, journal.disk.bytes(), count);
+        add_front(page, journal.disk().bytes(), count);
     }
     Ok(())
 }

@@ -56,7 +56,7 @@ fn play_store(alloc: Global, page: &mut Page, words: &str) -> Result<(), AllocEr
     };
     for change in changes {
         match committed(alloc, &mut store, &hex_bytes(alloc, change)) {
-            Outcome::Done => add_map(alloc, page, &store.image.map(alloc)?)?,
+            Outcome::Done => add_map(alloc, page, &store.image().map(alloc)?)?,
             outcome => add_outcome(page, outcome, store.faults()),
         }
     }
@@ -65,10 +65,10 @@ fn play_store(alloc: Global, page: &mut Page, words: &str) -> Result<(), AllocEr
 
 // Commits a change, if it is one that leads to a state, and there is room.
 fn committed(alloc: Global, store: &mut StateStore, change: &[u8]) -> Outcome {
-    let Ok(true) = store.image.is_admitted::<States>(alloc, change) else {
+    let Ok(true) = store.image().is_admitted::<States>(alloc, change) else {
         return Outcome::NotOne;
     };
-    let Ok(true) = store.image.has_room(alloc, change) else {
+    let Ok(true) = store.image().has_room(alloc, change) else {
         return Outcome::Full;
     };
     Outcome::of(store.commit(change))

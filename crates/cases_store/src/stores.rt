@@ -92,20 +92,20 @@ fn called(
     call: &str,
 ) -> Result<(), AllocError> {
     if let Some(word) = call.strip_prefix("x") {
-        stop(&mut store.journal.disk, word);
+        stop(store.disk_mut(), word);
         return Ok(());
     }
     match call {
         "f" => {
             page.add(" ");
-            add_sum(page, store.journal.disk.bytes());
+            add_sum(page, store.journal().disk().bytes());
         }
         "d" => {
             page.add(" ");
-            page.add_hex(store.journal.disk.bytes());
+            page.add_hex(store.journal().disk().bytes());
         }
-        "o" => store.journal.disk.forget(),
-        "m" => add_map(alloc, page, &store.image.map(alloc)?)?,
+        "o" => store.disk_mut().forget(),
+        "m" => add_map(alloc, page, &store.image().map(alloc)?)?,
         _ => {
             let outcome = committed(alloc, store, &change_of(alloc, call)?);
             add_outcome(page, outcome, store.faults());
@@ -116,7 +116,7 @@ fn called(
 
 // Commits a change, if it is one and there is room.
 fn committed(alloc: Global, store: &mut TestStore, change: &[u8]) -> Outcome {
-    match store.image.has_room(alloc, change) {
+    match store.image().has_room(alloc, change) {
         Ok(true) => Outcome::of(store.commit(change)),
         Ok(false) => Outcome::Full,
         Err(_) => Outcome::NotOne,

@@ -2,7 +2,7 @@
 
 ghost use Rattle.std.specs.Prelude.{◌≡◌, ◌↔◌, ◌==◌, IsTrue, IsOk, IfErr, not};
 ghost use Rattle.std.specs.List.{list_all};
-ghost use Rattle.mt_model.specs.texts.Config.{is_cat, is_entry, is_target, may_be_granted, may_be_subject};
+ghost use Rattle.mt_model.specs.texts.Config.{has_bits, has_widths, is_cat, is_entry, is_target, may_be_granted, may_be_subject};
 ghost use Rattle.mt_acl.specs.Validity.{first_fault, has_room};
 
 use crate::granting::CAT_SUBJECT;
@@ -100,4 +100,30 @@ fn is_target(target: &Target) -> bool
 {
     (target.cluster.is_some() || target.endpoint.is_some() || target.device.is_some())
         && !(target.endpoint.is_some() && target.device.is_some())
+        && has_widths(target)
+}
+
+// Whether each number of the target has the bits that its type has.
+fn has_widths(target: &Target) -> bool
+    ensures { result ≡ has_widths target.now }
+{
+    has_32_bits(target.cluster) && has_16_bits(target.endpoint) && has_32_bits(target.device)
+}
+
+fn has_32_bits(number: Option<u32>) -> bool
+    ensures { result ≡ has_bits 32 number }
+{
+    match number {
+        Some(number) => number <= u32::MAX,
+        None => true,
+    }
+}
+
+fn has_16_bits(number: Option<u16>) -> bool
+    ensures { result ≡ has_bits 16 number }
+{
+    match number {
+        Some(number) => number <= u16::MAX,
+        None => true,
+    }
 }

@@ -44,7 +44,7 @@ number_fits number is_needed (Some (list es)) h = refl
 
 -- a country's code has its length, and is a text
 abbrev pub is_country : List ℕ → Bool
-is_country bytes = nat_le (length bytes) 2 && is_utf8 bytes
+is_country bytes = nat_le 2 (length bytes) && nat_le (length bytes) 2 && is_utf8 bytes
 
 pub text_fits : (number : ℕ) (field : Option Tree) → field_has_type (needed number (forms.Text 2 2)) field ≡ true → field_is_within (needed number (forms.Text 2 2)) field ≡ true
     → is_country (unwrap_or (option_and_then text_in field) []) ≡ true
@@ -52,7 +52,7 @@ text_fits number None is within = impossible is
 text_fits number (Some (int z)) is within = impossible is
 text_fits number (Some (uint n)) is within = impossible is
 text_fits number (Some (bool b)) is within = impossible is
-text_fits number (Some (text s)) is within = and_from (nat_le (length s) 2) (is_utf8 s) (and_parts (nat_le 2 (length s)) (nat_le (length s) 2) within).1 is
+text_fits number (Some (text s)) is within = and_from (nat_le 2 (length s) && nat_le (length s) 2) (is_utf8 s) within is
 text_fits number (Some (octets s)) is within = impossible is
 text_fits number (Some null) is within = impossible is
 text_fits number (Some (bits32 n)) is within = impossible is

@@ -11,6 +11,7 @@ use Rattle.mt_meta.specs.Table.{command_fields}
 use Rattle.mt_meta.specs.declared.meta.Meta.{Meta}
 use Rattle.mt_model.specs.tables.Known.{Known}
 use Rattle.mt_model.specs.texts.Config.{has_up_to}
+use Rattle.mt_model.specs.declared.limits.TheConstants.{NETWORK_ID_BYTES, NETWORK_SECRET_BYTES, NETWORKS}
 use Rattle.mt_model.specs.declared.messages.status.Status.{Status}
 use Rattle.mt_model.specs.declared.node.action.NodeStep.{NodeStep}
 use Rattle.mt_model.specs.declared.node.action.NodeStep.TheVariants.{SetRow, PutNetwork, RemoveNetwork, ConnectNetwork, MoveNetwork, Arm, Renew, Expire, Complete}
@@ -25,7 +26,7 @@ use Rattle.mt_commission.specs.NetworkCommissioning.{place_among}
 -- one value of the attribute's form, which is nobody's, at a stored place that is not scoped
 abbrev pub is_sound_row : Bool → ℕ → List Value → Result Meta Status → Bool
 is_sound_row stored fabric values (Err status) = false
-is_sound_row stored fabric values (Ok meta) = stored && (not meta.scoped && (fabric == 0 && (length values == 1 && list_all (has_form meta.kind meta.limit) values)))
+is_sound_row stored fabric values (Ok meta) = stored && (not meta.scoped && (fabric == 0 && (length values == 1 && list_all (has_form meta fabric) values)))
 
 -- whether a network of this id is among these
 abbrev pub is_there : List Network → List ℕ → Bool
@@ -36,7 +37,7 @@ is_there networks id = is_some (place_among networks id)
 -- for which commissioning goes on completes it.
 abbrev pub is_sound_step : List Network → Option Armed → ℕ → NodeStep → Bool
 is_sound_step networks armed actor (SetRow place fabric values) = is_sound_row (is_stored place) fabric values (find_of place)
-is_sound_step networks armed actor (PutNetwork id secret) = has_up_to 32 id && (nat_le (length secret) 64 && (is_there networks id || nat_lt (length networks) 4))
+is_sound_step networks armed actor (PutNetwork id secret) = has_up_to NETWORK_ID_BYTES id && (nat_le (length secret) NETWORK_SECRET_BYTES && (is_there networks id || nat_lt (length networks) NETWORKS))
 is_sound_step networks armed actor (RemoveNetwork id) = is_there networks id
 is_sound_step networks armed actor (ConnectNetwork id) = is_there networks id
 is_sound_step networks armed actor (MoveNetwork id index) = is_there networks id && nat_lt index (length networks)

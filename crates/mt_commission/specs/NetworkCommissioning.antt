@@ -9,6 +9,7 @@ use Rattle.mt_tlv.specs.declared.value.Value.TheVariants as values
 use Rattle.mt_model.specs.messages.Effects.{refused_at}
 use Rattle.mt_model.specs.tables.Known.{Known}
 use Rattle.mt_model.specs.texts.Config.{has_up_to}
+use Rattle.mt_model.specs.declared.limits.TheConstants.{NETWORK_ID_BYTES, NETWORK_SECRET_BYTES, NETWORKS}
 use Rattle.mt_model.specs.declared.messages.status.Status.TheVariants.{FailsafeRequired, UnsupportedCommand}
 use Rattle.mt_model.specs.declared.node.action.Effect.{Effect}
 use Rattle.mt_model.specs.declared.node.action.NodeStep.{NodeStep}
@@ -45,7 +46,7 @@ status_of (Err status) = status
 
 -- an id has 1 to 32 bytes, and null stands for any other
 abbrev pub id_value : List ℕ → Value
-id_value id = if has_up_to 32 id then values.Octets id else values.Null
+id_value id = if has_up_to NETWORK_ID_BYTES id then values.Octets id else values.Null
 
 -- LastNetworkingStatus and LastNetworkID
 abbrev pub last_steps : NetworkStatus → List ℕ → List NodeStep
@@ -95,11 +96,11 @@ found_place networks id = ok_or (place_among networks id) statuses.NetworkIdNotF
 
 abbrev pub put_place : ℕ → Option ℕ → Outcome
 put_place count (Some place) = Ok place
-put_place count None = if nat_le 4 count then Err statuses.BoundsExceeded else Ok count
+put_place count None = if nat_le NETWORKS count then Err statuses.BoundsExceeded else Ok count
 
 abbrev pub putting : List Network → List ℕ → List ℕ → Outcome
 putting networks id secret =
-    if has_up_to 32 id && nat_le (length secret) 64 then put_place (length networks) (place_among networks id)
+    if has_up_to NETWORK_ID_BYTES id && nat_le (length secret) NETWORK_SECRET_BYTES then put_place (length networks) (place_among networks id)
     else Err statuses.OutOfRange
 
 abbrev pub add_or_update_network : List Network → Place → Value → Effect
@@ -133,7 +134,7 @@ connect_network networks reachable command fields =
 
 abbrev pub if_place : ℕ → ℕ → Outcome → Outcome
 if_place count index (Err status) = Err status
-if_place count index (Ok place) = if nat_lt index count && nat_lt index 4 then Ok index else Err statuses.OutOfRange
+if_place count index (Ok place) = if nat_lt index count && nat_lt index NETWORKS then Ok index else Err statuses.OutOfRange
 
 abbrev pub reorder_network : List Network → Place → Value → Effect
 reorder_network networks command fields =

@@ -3,11 +3,12 @@
 use Rattle.std.specs.Prelude.{◌≡◌, ℕ, ◌≤◌, ◌==◌, ◌&&◌, ◌||◌, not, nat_lt, Bool, true, List, [], ◌∷◌, ◌++◌, length, filter, get_or, replicate, slice_set, if◌then◌else◌}
 use Rattle.std.specs.List.{list_all}
 use Rattle.circular_buffer.specs.Buffer.{keep_last}
+use Rattle.mt_model.specs.declared.limits.TheConstants.{FABRICS, PRIVATE_EVENTS, SHARED_EVENTS}
 use Rattle.mt_model.specs.declared.messages.message.Happened.{Happened}
 
 -- how many events the ring of a fabric keeps; that of fabric 0 has those that all may see
 abbrev pub capacity_of : ℕ → ℕ
-capacity_of fabric = if fabric == 0 then 128 else 32
+capacity_of fabric = if fabric == 0 then SHARED_EVENTS else PRIVATE_EVENTS
 
 abbrev pub ring_of : ℕ → List (List Happened) → List Happened
 ring_of fabric rings = get_or rings fabric []
@@ -36,7 +37,7 @@ pub record IsRing (fabric : ℕ) (ring : List Happened) : Type 0 where
 -- What holds of all: there is a ring for each fabric that there may be.
 pub record AreRings (rings : List (List Happened)) : Type 0 where
   pub all : length rings ≡ 17
-  pub each : (fabric : ℕ) → fabric ≤ 16 → IsRing fabric (ring_of fabric rings)
+  pub each : (fabric : ℕ) → fabric ≤ FABRICS → IsRing fabric (ring_of fabric rings)
 
 -- no event has happened
 abbrev pub empty : List (List Happened)
@@ -60,7 +61,7 @@ abbrev pub latest : ℕ → List Happened → List Happened
 latest fabric events = keep_last (capacity_of fabric) (filter (is_of fabric) events)
 
 pub record StandFor (rings : List (List Happened)) (events : List Happened) : Type 0 where
-  pub are : (fabric : ℕ) → fabric ≤ 16 → ring_of fabric rings ≡ latest fabric events
+  pub are : (fabric : ℕ) → fabric ≤ FABRICS → ring_of fabric rings ≡ latest fabric events
 
 -- those that stay where what is private to a fabric is forgotten
 abbrev pub is_remembered : ℕ → Happened → Bool

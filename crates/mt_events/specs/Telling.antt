@@ -3,6 +3,7 @@ use Rattle.std.specs.Prelude.{ℕ, ◌-◌, ◌==◌, ◌&&◌, nat_le, nat_lt, 
 use Rattle.mt_events.specs.Reading.{Asking, is_told, refusals}
 use Rattle.mt_events.specs.Rings.{ring_of}
 use Rattle.mt_model.specs.messages.Blocks.{item_block}
+use Rattle.mt_model.specs.declared.limits.TheConstants.{ITEM_BYTES}
 use Rattle.mt_model.specs.declared.messages.message.Happened.{Happened}
 use Rattle.mt_model.specs.declared.messages.message.Item.{Item}
 use Rattle.mt_model.specs.declared.messages.message.Item.TheVariants.{Event}
@@ -54,8 +55,8 @@ fitting room (e ∷ es) = if nat_le (size_of (Event e)) room then Event e ∷ fi
 
 -- the events that a report tells, whose items have at most 1,176 bytes
 abbrev pub told : Asking → List (List Happened) → List Item
-told asking rings = fitting 1176 (told_events asking rings)
+told asking rings = fitting ITEM_BYTES (told_events asking rings)
 
 -- the refused paths, and the events that then fit
 abbrev pub answered : Asking → List (List Happened) → List Item
-answered asking rings = refusals asking ++ fitting (1176 - bytes_of (refusals asking)) (told_events asking rings)
+answered asking rings = refusals asking ++ fitting (ITEM_BYTES - bytes_of (refusals asking)) (told_events asking rings)

@@ -2,6 +2,7 @@
 -- Exchanges, and section 4.11, Message Reliability Protocol).
 use Rattle.std.specs.Prelude.{ℕ, ◌==◌, ◌&&◌, nat_lt, Bool, true, false, not, List, [], filter, Option, Some, None, is_none, if◌then◌else◌}
 use Rattle.std.specs.Option.{unwrap_or}
+use Rattle.mt_model.specs.declared.limits.TheConstants.{EXCHANGES}
 use Rattle.mt_frame.specs.declared.header.ProtocolHeader.{ProtocolHeader}
 use Rattle.mt_session.specs.Opening.{Arrival}
 use Rattle.mt_exchange.specs.declared.exchange.Key.{Key}
@@ -69,7 +70,7 @@ confirming x success =
 abbrev pub taken_on : Exchange → ℕ → Arrival → Taken
 taken_on x count a =
     if not (is_open x) && not (begins a.header) then closed
-    else if not (is_open x) && not (nat_lt count 4) then busy x.key
+    else if not (is_open x) && not (nat_lt count EXCHANGES) then busy x.key
     else if not (is_interaction a.header) then acknowledged
     else if x.confirmation then confirming x (is_success a.header.opcode a.payload)
     else ask x.key a.header.opcode a.payload x.deadline

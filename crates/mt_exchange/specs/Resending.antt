@@ -2,6 +2,7 @@
 -- Protocol; the waits are this project's own, without jitter).
 use Rattle.std.specs.Prelude.{ℕ, ◌+◌, ◌==◌, ◌&&◌, nat_lt, nat_le, min, Bool, not, List, [], ◌∷◌, map, filter, Option, Some, None, option_to_list, if◌then◌else◌}
 use Rattle.std.specs.List.{flat_map, list_any}
+use Rattle.mt_model.specs.declared.limits.TheConstants.{LAST_WAIT, SENDINGS}
 use Rattle.mt_exchange.specs.declared.exchange.Owed.{Owed}
 use Rattle.mt_exchange.specs.declared.exchange.Exchange.{Exchange}
 use Rattle.mt_exchange.specs.declared.lists.EndTime.{EndTime}
@@ -10,16 +11,16 @@ use Rattle.mt_exchange.specs.declared.lists.EndTime.{EndTime}
 abbrev pub wait_after : ℕ → ℕ
 wait_after sendings = if nat_lt sendings 3 then 500 else if sendings == 3 then 800 else 1280
 
--- whether a message is due again: five sendings are the most
+-- whether a message is due again: so many sendings are the most
 abbrev pub is_due : ℕ → Owed → Bool
-is_due now o = nat_lt o.sendings 5 && nat_le (o.last + wait_after o.sendings) now
+is_due now o = nat_lt o.sendings SENDINGS && nat_le (o.last + wait_after o.sendings) now
 
--- from when on a message that was sent five times closes its exchange; no later time than the last can be told
+-- from when on a message that was sent so often closes its exchange; no later time than the last can be told
 abbrev pub close_of : Owed → ℕ
-close_of o = min (o.last + 2048) 18446744073709551615
+close_of o = min (o.last + LAST_WAIT) 18446744073709551615
 
 abbrev pub is_spent : ℕ → Owed → Bool
-is_spent now o = o.sendings == 5 && nat_le (o.last + 2048) now
+is_spent now o = o.sendings == SENDINGS && nat_le (o.last + LAST_WAIT) now
 
 -- whether a resend step closes an exchange
 abbrev pub closes : ℕ → Exchange → Bool
@@ -63,7 +64,7 @@ earlier None time = Some time
 earlier (Some before) time = Some (min before time)
 
 abbrev pub end_with : Option ℕ → Owed → Option ℕ
-end_with found o = if o.sendings == 5 then earlier found (close_of o) else found
+end_with found o = if o.sendings == SENDINGS then earlier found (close_of o) else found
 
 -- from when on an exchange closes, where a message of it was sent five times
 abbrev pub end_in : Option ℕ → List Owed → Option ℕ

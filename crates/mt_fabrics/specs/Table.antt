@@ -4,6 +4,7 @@ use Rattle.std.specs.Prelude.{◌≡◌, ℕ, ◌+◌, ◌<◌, ◌≤◌, ◌==
 use Rattle.std.specs.List.{list_all, list_any}
 use Rattle.mt_model.specs.texts.Config.{has_identity, have_one_identity, have_one_label, none_alike}
 use Rattle.mt_model.specs.rows.Order.{fabrics_ascend}
+use Rattle.mt_model.specs.declared.limits.TheConstants.{FABRICS}
 use Rattle.mt_model.specs.declared.tables.fabric.Credentials.{Credentials}
 use Rattle.mt_model.specs.declared.tables.fabric.Fabric.{Fabric}
 use Rattle.mt_fabrics.specs.declared.fault.FabricFault.{FabricFault}
@@ -24,7 +25,7 @@ has_index_up_to most fabric = nat_le fabric.index most
 -- no two have one label.
 pub record IsTable (fabrics : List Fabric) : Type 0 where
   pub rises : fabrics_ascend fabrics ≡ true
-  pub within : list_all (has_index_up_to 16) fabrics ≡ true
+  pub within : list_all (has_index_up_to FABRICS) fabrics ≡ true
   pub identities_differ : none_alike have_one_identity fabrics ≡ true
   pub labels_differ : none_alike have_one_label fabrics ≡ true
 
@@ -111,7 +112,7 @@ abbrev pub add_refusal : Fabric → List Fabric → Option FabricFault
 add_refusal fabric fabrics =
     if list_any (has_identity fabric.credentials.root_key fabric.credentials.fabric_id) fabrics then Some Conflict
     else if list_any (has_label fabric.label) fabrics then Some LabelConflict
-    else if nat_le 16 (length fabrics) then Some TableFull
+    else if nat_le FABRICS (length fabrics) then Some TableFull
     else None
 
 abbrev pub update_refusal : ℕ → Credentials → List Fabric → Option FabricFault

@@ -1,6 +1,7 @@
 -- What arming, renewing, completing and expiring answer, and what they make of the fail-safe (Matter Core Specification,
 -- chapter 11, General Commissioning Cluster). None stands for one that is not armed.
 use Rattle.std.specs.Prelude.{ℕ, ◌+◌, ◌-◌, ◌*◌, ◌^◌, ◌==◌, ◌&&◌, min, Bool, true, false, List, Option, Some, None, Result, Ok, Err, if◌then◌else◌}
+use Rattle.mt_model.specs.declared.limits.TheConstants.{LONGEST_FAILSAFE}
 use Rattle.mt_model.specs.declared.tables.access.Actor.{Actor}
 use Rattle.mt_model.specs.declared.tables.access.Auth.{Auth}
 use Rattle.mt_model.specs.declared.tables.access.Auth.TheVariants as auths
@@ -16,7 +17,7 @@ use Rattle.mt_failsafe.specs.declared.undo.Undo.{Undo}
 
 -- how long after its arming a fail-safe ends at the latest
 abbrev pub longest : ℕ
-longest = 900000
+longest = LONGEST_FAILSAFE
 
 -- past which time one that is armed now can't be renewed, at most the last of 64 bits
 abbrev pub limit_of : ℕ → ℕ

@@ -1,5 +1,6 @@
 -- What a key of durable state is: a kind, and behind it what it is of. Numbers are big-endian, and no byte stands behind them.
 use Rattle.std.specs.Prelude.{ℕ, ◌+◌, ◌*◌, ◌==◌, ◌&&◌, nat_le, Bool, List, [], ◌∷◌, Option, Some, None, length, slice_index, option_map, if◌then◌else◌}
+use Rattle.mt_model.specs.declared.limits.TheConstants.{FABRICS}
 use Rattle.mt_model.specs.declared.rows.place.Place.{Place}
 use Rattle.mt_grammar.specs.declared.keys.Key.{Key}
 use Rattle.mt_grammar.specs.declared.keys.Key.TheVariants as keys
@@ -20,9 +21,9 @@ place_in bytes = if length bytes == 10 then Some (record {
   leaf = four_bytes (slice_index bytes 6) (slice_index bytes 7) (slice_index bytes 8) (slice_index bytes 9);
 }) else None
 
--- the index of a fabric: there are at most 16
+-- the index of a fabric: there is none above the most fabrics
 abbrev pub is_index : ℕ → Bool
-is_index index = nat_le 1 index && nat_le index 16
+is_index index = nat_le 1 index && nat_le index FABRICS
 
 -- What stands behind the kind.
 

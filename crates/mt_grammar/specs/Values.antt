@@ -9,6 +9,7 @@ use Rattle.mt_model.specs.Optional.{is_that}
 use Rattle.mt_model.specs.Trees.{field_in}
 use Rattle.mt_model.specs.rows.Order.{row_at}
 use Rattle.mt_model.specs.tables.Entries.{entry_with, mode_numbered, privilege_numbered}
+use Rattle.mt_model.specs.declared.limits.TheConstants.{FABRICS}
 use Rattle.mt_model.specs.declared.rows.place.Place.{Place}
 use Rattle.mt_model.specs.declared.rows.place.Row.{Row}
 use Rattle.mt_model.specs.declared.tables.access.AclEntry.{AclEntry}
@@ -77,18 +78,14 @@ is_first StoredItems tree = false
 -- 03: a value of the attribute's form, and not the first, which has no key
 abbrev pub may_stand_in : Option AttributeRow → Value → Bool
 may_stand_in None value = false
-may_stand_in (Some row) value = is_single row.meta && (has_form row.meta.kind row.meta.limit value && not (is_first row.origin (tree value)))
+may_stand_in (Some row) value = is_single row.meta && (has_form row.meta 0 value && not (is_first row.origin (tree value)))
 
 abbrev pub may_stand : Place → Value → Bool
 may_stand place value = may_stand_in (table_row place) value
 
--- whether field 254 of an item is its fabric
-abbrev pub is_of : ℕ → Elements → Bool
-is_of fabric es = is_that fabric (option_and_then unsigned_in (field_in 254 es))
-
--- 04: an item of a fabric as a row, if it has the form of the list
+-- 04: an item of a fabric as a row, if it has the form of the list, which says whose it is
 abbrev pub item_in : Place → ℕ → Meta → Tree → Option Row
-item_in place fabric meta (structure es) = if is_of fabric es && has_form meta.kind meta.limit (values.Struct es) then Some (row_at place fabric (values.Struct es)) else None
+item_in place fabric meta (structure es) = if has_form meta fabric (values.Struct es) then Some (row_at place fabric (values.Struct es)) else None
 item_in place fabric meta tree = None
 
 -- as many as a fabric may have
@@ -111,6 +108,10 @@ whole_target_in tree = if is_some (fields_in (0 ∷ 1 ∷ 2 ∷ []) tree) then t
 
 abbrev pub targets_in : Tree → Option (List Target)
 targets_in tree = if is_null tree then Some [] else some_in whole_target_in tree
+
+-- whether field 254 of an entry is its fabric
+abbrev pub is_of : ℕ → Elements → Bool
+is_of fabric es = is_that fabric (option_and_then unsigned_in (field_in 254 es))
 
 abbrev pub entry_of : ℕ → Elements → Option AclEntry
 entry_of fabric es = if is_of fabric es
@@ -187,9 +188,10 @@ abbrev pub armed_with : Option ℕ → Option ℕ → Option Bool → Option Boo
 armed_with (Some owner) (Some context) (Some added) (Some updated) (Some credentials) (Some networks) = Some (record { owner = owner; context = context; until = 0; limit = 0; added = if_so added context; updated = if_so updated context; root = None; csr = None; saved_credentials = credentials; saved_networks = networks })
 armed_with _ _ _ _ _ _ = None
 
--- 0 owner, 1 context, 2 whether it was added, 3 whether it was updated, 4 saved credentials, 5 saved networks, if any
+-- 0 owner, 1 context, each the index of a fabric or 0, 2 whether it was added, 3 whether it was updated, 4 saved credentials,
+-- 5 saved networks, if any
 abbrev pub armed_of : Elements → Option Armed
-armed_of es = armed_with (number_at 255 0 es) (number_at 255 1 es) (truth_at 2 es) (truth_at 3 es) (option_and_then saved_in (field_in 4 es)) (option_and_then (all_in network_in) (field_in 5 es))
+armed_of es = armed_with (number_at FABRICS 0 es) (number_at FABRICS 1 es) (truth_at 2 es) (truth_at 3 es) (option_and_then saved_in (field_in 4 es)) (option_and_then (all_in network_in) (field_in 5 es))
 
 abbrev pub armed_in : Tree → Option Armed
 armed_in tree = option_and_then armed_of (fields_in (0 ∷ 1 ∷ 2 ∷ 3 ∷ 4 ∷ 5 ∷ []) tree)

@@ -5,10 +5,9 @@ ghost use Rattle.mt_tlv.specs.Scalars.{unsigned_in};
 ghost use Rattle.mt_tlv.specs.View.{elements, tree};
 ghost use Rattle.mt_model.specs.Trees.{field_in};
 ghost use Rattle.mt_grammar.specs.Fields.{fields_in, some_in};
-ghost use Rattle.mt_grammar.specs.Values.{entries_in, entry_in, entry_of, subjects_in, targets_in, whole_target_in};
+ghost use Rattle.mt_grammar.specs.Values.{entries_in, entry_in, entry_of, is_of, subjects_in, targets_in, whole_target_in};
 
-use crate::fields::{array_in, fields_in, if_some, is_null};
-use crate::rows::is_of;
+use crate::fields::{array_in, fields_in, if_some, is_null, unsigned_at};
 use mt_meta::clusters::access_control::{SUBJECTS, TARGETS};
 use mt_meta::target_of;
 use mt_model::{AclEntries, AclEntry, Subjects, Target, Targets, field, unsigned_of};
@@ -71,6 +70,16 @@ fn entry_of(
         targets,
         fabric,
     }))
+}
+
+// Whether field 254 of an entry is its fabric.
+fn is_of(fabric: u8, members: &[(Tag, Value)]) -> bool
+    ensures { result ≡ is_of fabric (elements members.now) }
+{
+    match unsigned_at(members, 254) {
+        Some(number) => number == fabric as u64,
+        None => false,
+    }
 }
 
 fn subjects_at(alloc: Global, members: &[(Tag, Value)]) -> Result<Option<Subjects>, AllocError>

@@ -5,7 +5,7 @@ ghost use Rattle.std.specs.List.{list_all, list_any};
 ghost use Rattle.mt_fabrics.specs.Table.{is_used};
 ghost use Rattle.mt_failsafe.specs.Facts.{is_updated_in};
 ghost use Rattle.mt_model.specs.texts.Config.{is_certificate, none_alike};
-ghost use Rattle.mt_grammar.specs.Facts.{are_entries, are_fabrics, are_networks, are_roots, are_rows, are_saved, commissioning_facts, fabric_facts, facts_hold, has_numbers, is_added, is_failsafe, is_idle, is_row_of, is_updated, most_idle};
+ghost use Rattle.mt_grammar.specs.Facts.{are_entries, are_fabrics, are_networks, are_roots, are_rows, are_saved, commissioning_facts, fabric_facts, facts_hold, has_numbers, is_added, is_failsafe, is_for_known, is_idle, is_row_of, is_updated, most_idle};
 ghost use Rattle.mt_model.specs.tables.Holding.{have_one_id, is_fabric_with, is_network, is_root_of, saves_identity};
 
 use crate::kept::MapContents;
@@ -197,13 +197,21 @@ fn is_failsafe(fabrics: &[Fabric], armed: &Option<Armed>) -> bool
 {
     match armed {
         Some(armed) => {
-            is_added(fabrics, armed)
+            is_for_known(fabrics, armed)
+                && is_added(fabrics, armed)
                 && is_updated(fabrics, armed)
                 && are_saved(&armed.saved_credentials)
                 && are_networks(armed.saved_networks.as_slice())
         },
         None => true,
     }
+}
+
+// Whether the fabric for which commissioning goes on is none or of the table.
+fn is_for_known(fabrics: &[Fabric], armed: &Armed) -> bool
+    ensures { result ≡ is_for_known fabrics.now armed.now }
+{
+    armed.context == 0 || is_used(armed.context, fabrics)
 }
 
 fn is_added(fabrics: &[Fabric], armed: &Armed) -> bool

@@ -7,7 +7,7 @@ ghost use Rattle.mt_grammar.specs.Fields.{all_in};
 ghost use Rattle.mt_grammar.specs.Values.{armed_in, armed_of, if_so, network_in, saved_in};
 
 use crate::fabrics::saved_in;
-use crate::fields::{byte_at, fields_in, truth_at};
+use crate::fields::{fields_in, index_at, truth_at};
 use crate::networks::all_networks_in;
 use mt_model::{Armed, Credentials, Networks, field};
 use mt_tlv::{Tag, Value};
@@ -26,10 +26,10 @@ pub(crate) fn armed_in(alloc: Global, value: &Value) -> Result<Option<Armed>, Al
 fn armed_of(alloc: Global, members: &[(Tag, Value)]) -> Result<Option<Armed>, AllocError>
     ensures { IfOk result (λ armed. armed ≡ armed_of (elements members.now)) }
 {
-    let Some(owner) = byte_at(members, 0) else {
+    let Some(owner) = index_at(members, 0) else {
         return Ok(None);
     };
-    let Some(context) = byte_at(members, 1) else {
+    let Some(context) = index_at(members, 1) else {
         return Ok(None);
     };
     let Some(added) = truth_at(members, 2) else {

@@ -9,8 +9,10 @@ ghost use Rattle.mt_tlv.specs.View.{elements, tree};
 ghost use Rattle.mt_tlv.specs.declared.value.Tag.{Tag};
 ghost use Rattle.mt_tlv.specs.declared.value.Value.{Value};
 ghost use Rattle.mt_model.specs.Trees.{field_in, is_context};
+ghost use Rattle.mt_model.specs.declared.limits.TheConstants.{FABRICS};
 ghost use Rattle.mt_grammar.specs.Fields.{are_untagged, array_in, fields_in, have_tags, if_some, is_null, number_at, number_in, octets_at, text_at, truth_at};
 
+use mt_model::limits::FABRICS;
 use mt_model::{Listed, field, unsigned_of};
 use mt_tlv::{Bytes, Tag, Value};
 use std::alloc::AllocError;
@@ -63,8 +65,8 @@ fn are_none(members: &[(Tag, Value)]) -> bool
     members.len() == 0
 }
 
-// Whether a tag is the context tag of this number.
-fn is_context(tag: Tag, number: u8) -> bool
+/// Whether a tag is the context tag of this number.
+pub(crate) fn is_context(tag: Tag, number: u8) -> bool
     ensures { result ≡ is_context number tag }
 {
     tag == Tag::Context(number)
@@ -97,18 +99,18 @@ pub(crate) fn unsigned_at(members: &[(Tag, Value)], number: u8) -> Option<u64>
     unsigned_of(field(members, number)?)
 }
 
-/// A number of 8 bits in a field.
-pub(crate) fn byte_at(members: &[(Tag, Value)], number: u8) -> Option<u8>
-    ensures { result ≡ number_at 255 number (elements members.now) }
+/// The index of a fabric in a field, or 0.
+pub(crate) fn index_at(members: &[(Tag, Value)], number: u8) -> Option<u8>
+    ensures { result ≡ number_at FABRICS number (elements members.now) }
 {
-    byte_in(field(members, number)?)
+    index_in(field(members, number)?)
 }
 
-fn byte_in(value: &Value) -> Option<u8>
-    ensures { result ≡ number_in 255 (tree value.now) }
+fn index_in(value: &Value) -> Option<u8>
+    ensures { result ≡ number_in FABRICS (tree value.now) }
 {
     match value {
-        Value::Uint(number) if *number <= 255 => Some(*number as u8),
+        Value::Uint(number) if *number <= FABRICS as u64 => Some(*number as u8),
         _ => None,
     }
 }

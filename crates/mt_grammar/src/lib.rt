@@ -2,7 +2,7 @@
 //!
 //! - `keys`: what a key is of;
 //! - `fields`: structures and arrays as durable state has them;
-//! - `forms`: the forms of values that are kept;
+//! - `forms`, `items`: the forms of values and of items that are kept;
 //! - `rows`, `entries`, `fabrics`, `networks`, `failsafe`: what stands under the keys;
 //! - `kept`: what a map keeps, read key by key;
 //! - `facts`: what holds between keys;
@@ -16,6 +16,7 @@ mod failsafe;
 mod fields;
 mod forms;
 mod grammar;
+mod items;
 mod kept;
 mod keys;
 mod networks;

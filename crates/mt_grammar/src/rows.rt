@@ -8,9 +8,9 @@ ghost use Rattle.mt_meta.specs.Finding.{find_of};
 ghost use Rattle.mt_meta.specs.Stored.{row_in};
 ghost use Rattle.mt_meta.specs.declared.rows.FirstValue.TheVariants as first;
 ghost use Rattle.mt_grammar.specs.Fields.{if_some};
-ghost use Rattle.mt_grammar.specs.Values.{has_items, if_few, is_acl, is_first, is_of, is_single, is_value, item_in, items_in, may_stand, may_stand_in, table_row};
+ghost use Rattle.mt_grammar.specs.Values.{has_items, if_few, is_acl, is_first, is_single, is_value, item_in, items_in, may_stand, may_stand_in, table_row};
 
-use crate::fields::{array_in, is_null, unsigned_at};
+use crate::fields::{array_in, is_null};
 use crate::forms::has_form;
 use crate::kept::KeptRows;
 use mt_meta::{AttributeRow, FirstValue, Kind, Meta, Origin, attributes_of, find};
@@ -77,9 +77,7 @@ pub(crate) fn may_stand(place: &Place, value: &Value) -> bool
 fn may_stand_in(row: &AttributeRow, value: &Value) -> bool
     ensures { result ≡ may_stand_in (Some row.now) value.now }
 {
-    is_single(&row.meta)
-        && has_form(row.meta.kind, row.meta.limit, value)
-        && !is_first(row.origin, value)
+    is_single(&row.meta) && has_form(&row.meta, 0, value) && !is_first(row.origin, value)
 }
 
 // Whether a value is the one with which an attribute begins.
@@ -222,10 +220,7 @@ fn if_item(
     requires members { item.now ≡ values.Struct (elements members.now) }
     ensures { IfOk result (λ row. row ≡ item_in place.now fabric meta.now (tree item.now)) }
 {
-    if !is_of(fabric, members) {
-        return Ok(None);
-    }
-    if !has_form(meta.kind, meta.limit, item) {
+    if !has_form(meta, fabric, item) {
         return Ok(None);
     }
     Ok(Some(Row {
@@ -233,14 +228,4 @@ fn if_item(
         fabric,
         value: item.copy()?,
     }))
-}
-
-/// Whether field 254 of an item is its fabric.
-pub(crate) fn is_of(fabric: u8, members: &[(Tag, Value)]) -> bool
-    ensures { result ≡ is_of fabric (elements members.now) }
-{
-    match unsigned_at(members, 254) {
-        Some(number) => number == fabric as u64,
-        None => false,
-    }
 }

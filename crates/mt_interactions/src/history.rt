@@ -9,7 +9,7 @@ ghost use Rattle.mt_ledger.specs.history.History.{happened, opened, recorded, re
 ghost use Rattle.mt_tlv.specs.declared.value.Tag.TheVariants.{Context};
 ghost use Rattle.mt_tlv.specs.declared.value.Value.TheVariants as kinds;
 ghost use Rattle.mt_tlv.specs.Tree.{uint, none, more};
-ghost use Rattle.mt_interactions.specs.Recording.{is_of_a_fabric, may_record};
+ghost use Rattle.mt_interactions.specs.Recording.{StartsMayRecord, is_of_a_fabric, may_record};
 
 use mt_events::{Numbers, Rings};
 use mt_ledger::{histories_grow_by_events, histories_stay_histories};
@@ -26,10 +26,15 @@ use std::marker::Model;
 const SOFTWARE_VERSION: u64 = 1;
 
 // So many events of one action are recorded at most, and none from this ceiling of the numbers on. No action tells so many,
-// and no node comes so far.
+// and no node comes so far: a boot begins at a stored ceiling of at most 2^61.
 const MOST_EVENTS: usize = 0x4_0000_0000_0000;
 
-const LAST_CEILING: u64 = 0x2000_0000_0000_0000;
+const LAST_CEILING: u64 = 0x3000_0000_0000_0000;
+
+/// Behind a start at any ceiling that may be stored, up to 2^61, all is recorded that an action may tell.
+pub fn starts_may_record()
+    ensures { StartsMayRecord }
+{}
 
 /// The rings of the latest events, and the numbers. Contracts see the history that they are.
 pub(crate) struct History {

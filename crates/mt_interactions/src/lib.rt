@@ -34,5 +34,6 @@ mod telling;
 mod ticks;
 mod wishes;
 
+pub use history::starts_may_record;
 pub use interactions::{Interactions, asked};
 pub use outcome::InteractionOutcome;

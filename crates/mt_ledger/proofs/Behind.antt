@@ -148,7 +148,7 @@ module _ (time : laws.TimeKeepsTheOwn) (no_events : histories.TimeTellsNothing) 
     told_now_same : (due : Due) → told_now (veil fabric s) (veiled_history fabric l.history) now fabric due ≡ told_now s l.history now fabric due
     told_now_same due =
         let events = due_events_same sees keeps_own keeps_events keeps_recent s l.history valid is.history fabric due.kept in
-        λ i kept. at_once due.kept.sub.actor (reported now s.changed (last_told due.kept.event (events i)) kept)
+        λ i kept. at_once due.kept.sub.actor (reported now (valid.newest_counts i) (last_told due.kept.event (events i)) kept)
 
     report_alike : (id : ℕ) (due : Option Due) → Alike fabric (behind_report (veil fabric s) (veiled_ledger fabric l) now fabric id due) (behind_report s l now fabric id due)
     report_alike id None = subs_same

@@ -12,7 +12,7 @@ use Rattle.mt_events.specs.Numbers.{begun, taken}
 use Rattle.mt_events.specs.Rings.{AreRings, capacity_of, empty, forgotten, is_below, is_new, pushed, ring_of}
 use Rattle.mt_events.specs.declared.numbers.Numbers.{Numbers}
 use Rattle.mt_machine.specs.Telling.{is_told_as}
-use Rattle.mt_ledger.specs.history.History.{History, IsHistory, happened, opened, recorded_all, start_up, with_event, without_left}
+use Rattle.mt_ledger.specs.history.History.{History, IsHistory, begun_at, happened, recorded_all, start_up, with_event, without_left}
 use Rattle.mt_ledger.proofs.Recording.{all_keep, fabric_for, told_cases}
 
 -- Numbers are above those of the events that are kept.
@@ -100,7 +100,7 @@ left_still forgotten_are (Some fabric) h is = record {
   within = is.within;
 }
 
--- That of a new node.
+-- That of a boot, whatever ceiling was stored.
 
-pub opens : AreRings empty → PushedAre → IsHistory opened
-opens empty_are pushed_are = one_more pushed_are start_up 2 0 0 _ (record { rings = empty; numbers = begun 0 }) (omega arith) (record { rings = empty_are; past = refl; within = omega arith })
+pub opens : AreRings empty → PushedAre → (ceiling : ℕ) → IsHistory (begun_at ceiling)
+opens empty_are pushed_are ceiling = one_more pushed_are start_up 2 0 0 _ (record { rings = empty; numbers = begun ceiling }) (omega arith) (record { rings = empty_are; past = refl; within = omega arith })

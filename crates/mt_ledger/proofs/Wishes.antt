@@ -86,7 +86,7 @@ module _ (sees : laws.SeesTheVeil) (keeps_own : laws.KeepsItsOwnPart) (keeps_eve
   told_alike : (now : ℕ) (wish : Wish) → first_told (veil wish.sub.actor.fabric s) (veiled_ledger wish.sub.actor.fabric l).history now wish ≡ first_told s l.history now wish
   told_alike now wish =
       let events = first_events_same sees keeps_own keeps_events keeps_recent s l.history valid is.history wish in
-      λ i kept. at_once wish.sub.actor (reported now s.changed (last_told (wish.minimum - 1) (events i)) kept)
+      λ i kept. at_once wish.sub.actor (reported now (valid.newest_counts i) (last_told (wish.minimum - 1) (events i)) kept)
 
   subscribed_alike : (now : ℕ) (wish : Wish) → Alike wish.sub.actor.fabric (subscribed (veil wish.sub.actor.fabric s) (veiled_ledger wish.sub.actor.fabric l) now wish) (subscribed s l now wish)
   subscribed_alike now wish =

@@ -18,13 +18,13 @@ use Rattle.mt_ledger.specs.history.Isolation.{recent}
 use Rattle.mt_ledger.specs.Asking.{full_line_reply, full_reply, line_response}
 use Rattle.mt_ledger.specs.Behind.{Activity, acts, confirms, ends, ledger_behind, reports, state_done}
 use Rattle.mt_ledger.specs.Isolation.{own_ledger, veiled_ledger}
-use Rattle.mt_ledger.specs.Ledger.{IsLedger, Ledger, opened}
+use Rattle.mt_ledger.specs.Ledger.{IsLedger, Ledger, opened_at}
 use Rattle.mt_ledger.specs.Reporting.{due_now, due_report, Due}
 
--- What every ledger keeps: that of a new node, and what is left by whatever is done.
+-- What every ledger keeps: that of a boot, whatever ceiling was stored before it, and what is left by whatever is done.
 
 abbrev pub OpensLedger : Type 0
-OpensLedger = (s : NodeState) → IsLedger s opened
+OpensLedger = (s : NodeState) (ceiling : ℕ) → IsLedger s (opened_at ceiling)
 
 abbrev pub StaysLedger : Type 0
 StaysLedger = (given : Environment) (s : NodeState) (activity : Activity) (now : ℕ) (l : Ledger) → KeepsRules given.judged → IsValid s → IsLedger s l → IsLedger (state_done given s activity now) (ledger_behind given s activity now l)

@@ -17,7 +17,7 @@ use mt_machine::{
     what_is_asked_is_the_same_on_the_veil,
 };
 
-/// The history of a new node is one, and an action leaves it so.
+/// The history of a boot is one, whatever ceiling was stored before it, and an action leaves it so.
 pub fn histories_stay_histories()
     ensures opens { OpensHistory }
     ensures stays { StaysHistory }

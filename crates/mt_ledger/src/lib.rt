@@ -28,8 +28,8 @@ use mt_machine::{
 };
 use mt_subs::valid_subscriptions_stay_valid;
 
-/// The ledger of a new node is one, and whatever is done leaves it so: subscriptions keep their rules, and whoever has
-/// subscribed is there.
+/// The ledger of a boot is one, and whatever is done leaves it so: subscriptions keep their rules, and whoever has
+/// subscribed is there, and each stands under its actor's fabric.
 pub fn ledgers_stay_ledgers()
     ensures opens { OpensLedger }
     ensures stays { StaysLedger }

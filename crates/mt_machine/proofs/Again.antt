@@ -143,7 +143,6 @@ view-again fabric s up = λ i. record {
   armed = bare_again (saved_for fabric s.armed) s.armed i;
   versions = s.versions;
   changes = s.changes;
-  changed = s.changed;
   boot = s.boot;
   clock = s.clock;
 }

@@ -21,7 +21,7 @@ use Rattle.mt_machine.proofs.Expired.{among-behind}
 use Rattle.mt_machine.proofs.JoinedValid.{placed-any}
 use Rattle.mt_machine.proofs.LeftValid.{among-left}
 use Rattle.mt_machine.proofs.OtherFabrics.{eq-turned, same_number}
-use Rattle.mt_machine.proofs.Writes.{impossible}
+use Rattle.mt_machine.proofs.Counting.{impossible}
 
 -- Every fabric but one at most is still there.
 abbrev StayBut : ℕ → List Fabric → List Fabric → Type 0

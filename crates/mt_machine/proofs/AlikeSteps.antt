@@ -29,7 +29,7 @@ use Rattle.mt_machine.proofs.AlikeTables.{among-veil, join-veil, label-veil, lea
 use Rattle.mt_machine.proofs.Expired.{among-behind}
 use Rattle.mt_machine.proofs.Ticks.{rolled_alike, swap}
 use Rattle.mt_machine.proofs.Untouched.{added-saves, armed-saves, completed-none, index-apart, joined-none, placed-mine, renewed-saves, request-own, saves-what, session-none, trusting-own}
-use Rattle.mt_machine.proofs.Writes.{impossible}
+use Rattle.mt_machine.proofs.Counting.{impossible}
 
 -- Lists.
 

@@ -1,5 +1,5 @@
 -- Steps on the fail-safe leave a valid state valid: arming, renewing, completing, a root certificate, a signing request.
-use Rattle.std.proofs.Common.{◌≡◌, ℕ, ◌==◌, ◌||◌, inl, inr, is_none, bytes_eq, Bool, true, false, List, Option, Some, None, option_map, refl, sym, ◌∙◌, map}
+use Rattle.std.proofs.Common.{◌≡◌, ℕ, ◌==◌, ◌||◌, inl, inr, is_none, nat_le, bytes_eq, Bool, true, false, List, length, Option, Some, None, option_map, refl, subst, sym, ◌∙◌, map}
 use Rattle.std.proofs.lemmas.Bool.{and_from, and_parts, both_ways, cond_both, eqb-true, eq-eqb, or_cases, or_left, or_right}
 use Rattle.std.proofs.lemmas.List.Folds.{list_all-map}
 use Rattle.std.specs.List.{list_any}
@@ -7,6 +7,7 @@ use Rattle.mt_failsafe.specs.Notes.{was_added}
 use Rattle.mt_failsafe.specs.Calls.{armed_by, renewed}
 use Rattle.mt_failsafe.specs.Notes as notes
 use Rattle.mt_model.specs.Optional.{is_that}
+use Rattle.mt_model.specs.texts.Config.{is_certificate}
 use Rattle.mt_model.specs.declared.node.state.NodeSession.{NodeSession}
 use Rattle.mt_model.specs.declared.node.state.NodeState.{NodeState}
 use Rattle.mt_model.specs.declared.node.state.Standing.{Standing}
@@ -17,12 +18,13 @@ use Rattle.mt_model.specs.declared.tables.fabric.Fabric.{Fabric}
 use Rattle.mt_model.specs.declared.tables.network.Armed.{Armed}
 use Rattle.mt_machine.specs.Effects.{armed_behind, completed, plain_without, session_completed, standing_completed, trusting, with_request, with_root}
 use Rattle.mt_machine.specs.Rollback.{roots_behind}
-use Rattle.mt_machine.specs.State.{IsValid, follows, is_added, is_among, is_given_root, is_plain_of, is_session, is_updated, is_used, keeps_facts, plain_follows, stands_rightly}
+use Rattle.mt_machine.specs.State.{IsValid, is_certificate_if, is_nonce_if, follows, is_added, is_among, is_given_root, is_plain_of, is_session, is_updated, is_used, keeps_facts, plain_follows, stands_rightly}
 use Rattle.mt_model.specs.tables.Holding.{is_root_of}
 use Rattle.mt_machine.proofs.Opening.{same_bytes, with_root_differ, with_root_used}
 use Rattle.mt_machine.proofs.Rolled.{all-passed, none-filter}
 use Rattle.mt_machine.proofs.ValidParts.{ArmedHolds, PlainHolds, RootsHold, SessionsHold, its_armed, its_entries, its_fabrics, its_networks, its_plain, its_roots, its_rows, its_sessions, with-parts}
-use Rattle.mt_machine.proofs.Writes.{all-weaker, impossible}
+use Rattle.mt_machine.proofs.Counting.{all-filter, all-weaker, impossible}
+use Rattle.mt_machine.proofs.Writes.{passes_among}
 
 -- What holds under a fail-safe.
 record Under (s : NodeState) (armed : Option Armed) (roots : List (List ℕ)) (sessions : List NodeSession) (plain : Option ℕ) : Type 0 where
@@ -43,29 +45,36 @@ valid-under s valid armed roots sessions plain u =
 -- Arming and renewing.
 
 module _ (s : NodeState) (valid : IsValid s) where
-  armed_under : (owner now seconds : ℕ) (armed : Option Armed) → Under s armed s.roots s.sessions s.plain → Under s (armed_behind owner now seconds s.networks armed) s.roots s.sessions s.plain
-  armed_under owner now seconds None u = record {
-    trusted = record { differ = u.trusted.differ; used = u.trusted.used };
+  -- who has no fabric, or one of the table, has an index that fits
+  index_fits : (owner : ℕ) → (owner == 0 || is_among s.fabrics owner) ≡ true → nat_le owner 16 ≡ true
+  index_fits owner known = elim (or_cases (owner == 0) (is_among s.fabrics owner) known) [
+    | inl none ↦ subst (λ n. nat_le n 16 ≡ true) (sym (eqb-true owner 0 none)) refl
+    | inr among ↦ passes_among (λ n. nat_le n 16) owner s.fabrics valid.indexes among
+  ]
+
+  armed_under : (owner now seconds : ℕ) → (owner == 0 || is_among s.fabrics owner) ≡ true → (armed : Option Armed) → Under s armed s.roots s.sessions s.plain → Under s (armed_behind owner now seconds s.networks armed) s.roots s.sessions s.plain
+  armed_under owner now seconds known None u = record {
+    trusted = record { differ = u.trusted.differ; forms = u.trusted.forms; used = u.trusted.used };
     open_ones = record { stand = u.open_ones.stand; follow = u.open_ones.follow };
     plain_one = record { stands = u.plain_one.stands; follows = plain s.plain u.plain_one.follows };
-    itself = record { facts = and_from _ _ (eq-eqb owner owner refl) refl; saved = and_from _ _ (its_networks s valid) refl };
+    itself = record { facts = and_from _ _ (eq-eqb owner owner refl) refl; names = and_from _ _ (index_fits owner known) known; saved = and_from _ _ (its_networks s valid) refl; given = refl };
   }
     where
       plain : (p : Option ℕ) → plain_follows None p ≡ true → plain_follows (Some (armed_by owner now seconds s.networks)) p ≡ true
       plain None follow = refl
       plain (Some fabric) follow = follow
-  armed_under owner now seconds (Some armed) u = u
+  armed_under owner now seconds known (Some armed) u = u
 
-  pub arm-valid : (owner seconds : ℕ) → IsValid (record s { armed = armed_behind owner s.clock seconds s.networks s.armed })
-  arm-valid owner seconds = valid-under s valid (armed_behind owner s.clock seconds s.networks s.armed) s.roots s.sessions s.plain (armed_under owner s.clock seconds s.armed (under s valid))
+  pub arm-valid : (owner seconds : ℕ) → (owner == 0 || is_among s.fabrics owner) ≡ true → IsValid (record s { armed = armed_behind owner s.clock seconds s.networks s.armed })
+  arm-valid owner seconds known = valid-under s valid (armed_behind owner s.clock seconds s.networks s.armed) s.roots s.sessions s.plain (armed_under owner s.clock seconds known s.armed (under s valid))
 
   renewed_under : (now seconds : ℕ) (armed : Option Armed) → Under s armed s.roots s.sessions s.plain → Under s (option_map (renewed now seconds) armed) s.roots s.sessions s.plain
   renewed_under now seconds None u = u
   renewed_under now seconds (Some armed) u = record {
-    trusted = record { differ = u.trusted.differ; used = u.trusted.used };
+    trusted = record { differ = u.trusted.differ; forms = u.trusted.forms; used = u.trusted.used };
     open_ones = record { stand = u.open_ones.stand; follow = u.open_ones.follow };
     plain_one = record { stands = u.plain_one.stands; follows = u.plain_one.follows };
-    itself = record { facts = u.itself.facts; saved = u.itself.saved };
+    itself = record { facts = u.itself.facts; names = u.itself.names; saved = u.itself.saved; given = u.itself.given };
   }
 
   pub renew-valid : (seconds : ℕ) → IsValid (record s { armed = option_map (renewed s.clock seconds) s.armed })
@@ -73,19 +82,19 @@ module _ (s : NodeState) (valid : IsValid s) where
 
   -- A signing request.
 
-  request_under : (nonce : List ℕ) (update : Bool) (armed : Option Armed) → Under s armed s.roots s.sessions s.plain → Under s (option_map (notes.with_csr nonce update) armed) s.roots s.sessions s.plain
-  request_under nonce update None u = u
-  request_under nonce update (Some armed) u = record {
-    trusted = record { differ = u.trusted.differ; used = u.trusted.used };
+  request_under : (nonce : List ℕ) (update : Bool) → (length nonce == 32) ≡ true → (armed : Option Armed) → Under s armed s.roots s.sessions s.plain → Under s (option_map (notes.with_csr nonce update) armed) s.roots s.sessions s.plain
+  request_under nonce update form None u = u
+  request_under nonce update form (Some armed) u = record {
+    trusted = record { differ = u.trusted.differ; forms = u.trusted.forms; used = u.trusted.used };
     open_ones = record { stand = u.open_ones.stand; follow = u.open_ones.follow };
     plain_one = record { stands = u.plain_one.stands; follows = u.plain_one.follows };
-    itself = record { facts = u.itself.facts; saved = u.itself.saved };
+    itself = record { facts = u.itself.facts; names = u.itself.names; saved = u.itself.saved; given = and_from _ _ (and_parts (is_certificate_if armed.root) (is_nonce_if armed.csr) u.itself.given).0 form };
   }
 
-  pub request-valid : (nonce : List ℕ) (update : Bool) → IsValid (with_request nonce update s)
-  request-valid nonce update =
+  pub request-valid : (nonce : List ℕ) (update : Bool) → (length nonce == 32) ≡ true → IsValid (with_request nonce update s)
+  request-valid nonce update form =
       cond_both (notes.may_note_csr update s.armed) (record s { armed = option_map (notes.with_csr nonce update) s.armed }) s IsValid
-      (λ may. valid-under s valid (option_map (notes.with_csr nonce update) s.armed) s.roots s.sessions s.plain (request_under nonce update s.armed (under s valid)))
+      (λ may. valid-under s valid (option_map (notes.with_csr nonce update) s.armed) s.roots s.sessions s.plain (request_under nonce update form s.armed (under s valid)))
       (λ may_not. valid)
 
   -- A root certificate.
@@ -95,12 +104,13 @@ module _ (s : NodeState) (valid : IsValid s) where
   by_fabric fabrics root None none used = elim (or_cases (list_any (is_root_of root) fabrics) false used) [ inl by ↦ by | inr not ↦ impossible not ]
   by_fabric fabrics root (Some given) none used = impossible none
 
-  root_under : (cert : List ℕ) (armed : Option Armed) → notes.may_note_root armed ≡ true → Under s armed s.roots s.sessions s.plain
+  root_under : (cert : List ℕ) → is_certificate cert ≡ true → (armed : Option Armed) → notes.may_note_root armed ≡ true → Under s armed s.roots s.sessions s.plain
       → Under s (option_map (notes.with_root cert) armed) (with_root s.roots cert) s.sessions s.plain
-  root_under cert None may u = impossible may
-  root_under cert (Some armed) may u = record {
+  root_under cert form None may u = impossible may
+  root_under cert form (Some armed) may u = record {
     trusted = record {
       differ = with_root_differ s.roots cert u.trusted.differ;
+      forms = with_root_used is_certificate s.roots cert u.trusted.forms form;
       used = with_root_used (is_used s.fabrics (Some (notes.with_root cert armed))) s.roots cert
           (all-weaker (is_used s.fabrics (Some armed)) (is_used s.fabrics (Some (notes.with_root cert armed)))
           (λ root used. or_left _ _ (by_fabric s.fabrics root armed.root none used)) s.roots u.trusted.used)
@@ -108,16 +118,16 @@ module _ (s : NodeState) (valid : IsValid s) where
     };
     open_ones = record { stand = u.open_ones.stand; follow = u.open_ones.follow };
     plain_one = record { stands = u.plain_one.stands; follows = u.plain_one.follows };
-    itself = record { facts = u.itself.facts; saved = u.itself.saved };
+    itself = record { facts = u.itself.facts; names = u.itself.names; saved = u.itself.saved; given = and_from _ _ form (and_parts (is_certificate_if armed.root) (is_nonce_if armed.csr) u.itself.given).1 };
   }
     where
       none : is_none armed.root ≡ true
       none = (and_parts (notes.is_unused armed) (is_none armed.root) may).1
 
-  pub root-valid : (cert : List ℕ) → IsValid (trusting cert s)
-  root-valid cert =
+  pub root-valid : (cert : List ℕ) → is_certificate cert ≡ true → IsValid (trusting cert s)
+  root-valid cert form =
       cond_both (notes.may_note_root s.armed) (record s { roots = with_root s.roots cert; armed = option_map (notes.with_root cert) s.armed }) s IsValid
-      (λ may. valid-under s valid (option_map (notes.with_root cert) s.armed) (with_root s.roots cert) s.sessions s.plain (root_under cert s.armed may (under s valid)))
+      (λ may. valid-under s valid (option_map (notes.with_root cert) s.armed) (with_root s.roots cert) s.sessions s.plain (root_under cert form s.armed may (under s valid)))
       (λ may_not. valid)
 
 -- Completing.
@@ -174,6 +184,7 @@ complete-valid s valid (Some armed) u =
     valid-under s valid None (roots_behind s.fabrics s.roots) (map (session_completed armed.context) s.sessions) (plain_without armed.context s.plain) (record {
       trusted = record {
         differ = none-filter bytes_eq (λ (root : List ℕ). list_any (is_root_of root) s.fabrics) s.roots u.trusted.differ;
+        forms = all-filter is_certificate (λ (root : List ℕ). list_any (is_root_of root) s.fabrics) s.roots u.trusted.forms;
         used = all-passed (λ (root : List ℕ). list_any (is_root_of root) s.fabrics) (is_used s.fabrics None) (λ root used. or_left _ _ used) s.roots;
       };
       open_ones = record {
@@ -189,7 +200,7 @@ complete-valid s valid (Some armed) u =
         stands = plain_stands s.fabrics armed facts s.plain u.plain_one.stands;
         follows = plain_none s.fabrics armed facts s.plain u.plain_one.follows;
       };
-      itself = record { facts = refl; saved = refl };
+      itself = record { facts = refl; names = refl; saved = refl; given = refl };
     })
 
 pub completes-valid : (s : NodeState) → IsValid s → IsValid (completed s.armed s)

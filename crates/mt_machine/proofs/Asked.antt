@@ -1,6 +1,8 @@
 -- What whoever asks makes of a valid state: its fabric is in the table, or it has none and sets nothing that is scoped.
-use Rattle.std.proofs.Common.{◌≡◌, ℕ, ◌≤◌, ◌^◌, inl, inr, Bool, true, false, not, ◌&&◌, ◌||◌, ◌==◌, nat_le, nat_lt, List, [], ◌∷◌, length, Option, Some, None, Ok, is_some, refl, sym, ap, ◌∙◌, subst, filter, map, if◌then◌else◌, arith}
-use Rattle.std.proofs.lemmas.Bool.{and_from, and_parts, cases_Bool, eqb-true, leb-true, lt-ltb, or_cases, or_left, or_right}
+use Rattle.mt_meta.specs.Places.{all_places}
+use Rattle.mt_model.specs.rows.Setting.{is_at}
+use Rattle.std.proofs.Common.{◌≡◌, ℕ, ◌≤◌, ◌^◌, inl, inr, Bool, true, false, not, ◌&&◌, ◌||◌, ◌==◌, nat_le, nat_lt, List, [], ◌∷◌, length, Option, Some, None, Ok, is_some, refl, sym, ap, ◌∙◌, subst, filter, map, if◌then◌else◌, arith, suc}
+use Rattle.std.proofs.lemmas.Bool.{and_from, and_parts, cases_Bool, eqb-true, leb-true, lt-ltb, or_cases, or_left, or_right, cond_both, le-leb, le-ltb}
 use Rattle.std.proofs.lemmas.List.Sums.{length-filter}
 use Rattle.std.specs.List.{count_by, find, list_all, list_any}
 use Rattle.std.specs.Option.{option_and_then, option_map}
@@ -12,7 +14,7 @@ use Rattle.mt_meta.specs.declared.meta.Meta.{Meta}
 use Rattle.mt_model.specs.texts.Config.{ascend_from, has_identity, is_entry, is_pase}
 use Rattle.mt_model.specs.rows.Order.{fabrics_ascend, in_order, is_higher, is_lower, is_own}
 use Rattle.mt_model.specs.rows.Seen.{Observation, own_entries}
-use Rattle.mt_model.specs.rows.Sight.{seen_by, stands_at}
+use Rattle.mt_model.specs.rows.Sight.{seen_by, stands_at, same_place, bare_value}
 use Rattle.mt_model.specs.declared.tables.access.AclEntry.{AclEntry}
 use Rattle.mt_model.specs.declared.tables.access.Actor.{Actor}
 use Rattle.mt_model.specs.declared.tables.access.Auth.{Auth}
@@ -44,20 +46,21 @@ use Rattle.mt_model.specs.tables.Known.{bare_armed, bare_network, known_to}
 use Rattle.mt_opcreds.specs.Laws.{KeepsRules, StepsAreWellFormed, StepsFit, is_well_formed}
 use Rattle.mt_opcreds.specs.Moves.{IsMove, StepsAreMoves}
 use Rattle.mt_subs.specs.Changes.{IsChanges, newest_of, noted}
-use Rattle.mt_machine.specs.Changes.{differing}
+use Rattle.mt_machine.specs.Changes.{differing, differs}
 use Rattle.mt_machine.specs.Commands.{command_effect, nobodys_rows}
 use Rattle.mt_machine.specs.Environment.{Environment}
 use Rattle.mt_machine.specs.Effects.{after, after_all}
 use Rattle.mt_machine.specs.Observation.{observation}
 use Rattle.mt_machine.specs.Rollback.{is_due}
-use Rattle.mt_machine.specs.State.{IsValid, is_among, is_plain_of, is_row, is_row_at, is_row_of, is_session, rows_of, stands_rightly}
+use Rattle.mt_machine.specs.State.{IsValid, is_among, is_plain_of, is_row, is_row_at, is_row_of, is_session, rows_of, stands_rightly, has_change}
 use Rattle.mt_machine.specs.Taking.{fits, may_take_all}
 use Rattle.mt_machine.specs.Step.{after_steps, asked_steps, asker, asker_of, asker_on, at_time, is_late, live_actor, pase_actor, plain_asker, steps_of, steps_to, with_events}
 use Rattle.mt_machine.proofs.Carried.{command_by}
 use Rattle.mt_machine.proofs.Commands.{fitting_events, fitting_invoked, own_invoked}
 use Rattle.mt_machine.proofs.Good.{in_time, own_written, requested, with_its_events}
 use Rattle.mt_machine.proofs.Moving.{all_fit, all_well, moved_taken, sound_taken}
-use Rattle.mt_machine.proofs.Writes.{all-filter, all-kept, all-three, any-weaker, impossible, keeps_fabrics, members_are_positive, passes_among, place-same, settled_valid, timed_valid}
+use Rattle.mt_machine.proofs.Counting.{all-filter, all-kept, all-three, any-weaker, impossible, place-same, count, count-three, count-without, counted}
+use Rattle.mt_machine.proofs.Writes.{keeps_fabrics, members_are_positive, passes_among, settled_valid, timed_valid}
 
 -- Whoever is taken as asking has no fabric, or one of the table.
 
@@ -110,14 +113,14 @@ known_on s actor None valid = plain_known s actor actor.auth valid
 
 -- What a fabric observes as its own, or nobody's, has its form.
 
-module _ (test : Value → Bool) (fabric whose : ℕ) (seen_whole : (n : ℕ) → (n == whose) ≡ true → (n == fabric || n == 0) ≡ true) where
-  own_pass : (rows : List Row) → list_all (λ (row : Row). test row.value) rows ≡ true → list_all test (own_values whose (map (seen_by fabric) rows)) ≡ true
+module _ (test : ℕ → Value → Bool) (fabric whose : ℕ) (seen_whole : (n : ℕ) → (n == whose) ≡ true → (n == fabric || n == 0) ≡ true) where
+  own_pass : (rows : List Row) → list_all (λ (row : Row). test row.fabric row.value) rows ≡ true → list_all (test whose) (own_values whose (map (seen_by fabric) rows)) ≡ true
   own_pass [] all = refl
   own_pass (row ∷ rows) all =
-      let both = and_parts (test row.value) (list_all (λ (r : Row). test r.value) rows) all in
+      let both = and_parts (test row.fabric row.value) (list_all (λ (r : Row). test r.fabric r.value) rows) all in
       elim (cases_Bool (row.fabric == fabric || row.fabric == 0)) [
         | inl whole ↦ rw whole (elim (cases_Bool (row.fabric == whose)) [
-          | inl own ↦ rw own (and_from _ _ both.0 (own_pass rows both.1))
+          | inl own ↦ rw own (and_from _ _ (subst (λ n. test n row.value ≡ true) (eqb-true row.fabric whose own) both.0) (own_pass rows both.1))
           | inr other ↦ rw other (own_pass rows both.1)
         ])
         | inr bare ↦ rw bare (elim (cases_Bool (row.fabric == whose)) [
@@ -131,30 +134,96 @@ in_order_pass test fabric rows all =
     all-three test (filter (is_lower fabric) rows) (filter (is_own fabric) rows) (filter (is_higher fabric) rows)
     (all-filter test (is_lower fabric) rows all) (all-filter test (is_own fabric) rows all) (all-filter test (is_higher fabric) rows all)
 
+-- How many rows a fabric sees as its own.
+
+seen-fabric : (fabric : ℕ) (row : Row) → (seen_by fabric row).fabric ≡ row.fabric
+seen-fabric fabric row = cond_both (row.fabric == fabric || row.fabric == 0) row (record row { value = bare_value row.place row.value }) (λ (r : Row). r.fabric ≡ row.fabric) (λ whole. refl) (λ bare. refl)
+
+length-values : (rows : List Row) → length (map (λ (row : Row). row.value) rows) ≡ length rows
+length-values [] = refl
+length-values (row ∷ rows) = ap suc (length-values rows)
+
+count-seen : (fabric : ℕ) (rows : List Row) → count (is_own fabric) (map (seen_by fabric) rows) ≡ count (is_own fabric) rows
+count-seen fabric [] = refl
+count-seen fabric (row ∷ rows) =
+    let rest = count-seen fabric rows in
+    let same : is_own fabric (seen_by fabric row) ≡ is_own fabric row = ap (λ n. n == fabric) (seen-fabric fabric row) in
+    elim (cases_Bool (is_own fabric row)) [
+      | inl own ↦
+          let seen : is_own fabric (seen_by fabric row) ≡ true = same ∙ own in
+          rw (seen, own) (ap suc rest)
+      | inr other ↦
+          let seen : is_own fabric (seen_by fabric row) ≡ false = same ∙ other in
+          rw (seen, other) rest
+    ]
+
+count-own : (fabric : ℕ) (rows : List Row) → count (is_own fabric) (filter (is_own fabric) rows) ≡ count (is_own fabric) rows
+count-own fabric [] = refl
+count-own fabric (row ∷ rows) = elim (cases_Bool (is_own fabric row)) [
+  | inl own ↦ rw (own, own) (ap suc (count-own fabric rows))
+  | inr other ↦ rw other (count-own fabric rows)
+]
+
+count-order : (fabric : ℕ) (rows : List Row) → count (is_own fabric) (in_order fabric rows) ≡ count (is_own fabric) rows
+count-order fabric rows =
+    let parts = count-three (is_own fabric) (filter (is_lower fabric) rows) (filter (is_own fabric) rows) (filter (is_higher fabric) rows) in
+    let lower = count-without (is_own fabric) (is_lower fabric) (λ row own. le-ltb row.fabric fabric (omega (arith, eqb-true row.fabric fabric own))) rows in
+    let higher = count-without (is_own fabric) (is_higher fabric) (λ row own. le-ltb fabric row.fabric (omega (arith, eqb-true row.fabric fabric own))) rows in
+    omega (arith, parts, lower, higher, count-own fabric rows)
+
+own-count : (fabric : ℕ) (rows : List Row) → length (own_values fabric (map (seen_by fabric) (in_order fabric rows))) ≡ count (is_own fabric) rows
+own-count fabric rows = length-values (filter (is_own fabric) (map (seen_by fabric) (in_order fabric rows))) ∙ count-seen fabric (in_order fabric rows) ∙ count-order fabric rows
+
 seen_as_whole : (scoped : Bool) (fabric n : ℕ) → (n == (if scoped then fabric else 0)) ≡ true → (n == fabric || n == 0) ≡ true
 seen_as_whole true fabric n own = or_left _ _ own
 seen_as_whole false fabric n own = or_right _ _ own
 
 module _ (s : NodeState) (valid : IsValid s) (actor : Actor) where
-  row_form : (place : Place) (meta : Meta) → find_of place ≡ Ok meta → (row : Row) → stands_at place row ≡ true → is_row s.fabrics row ≡ true → has_form meta.kind meta.limit row.value ≡ true
+  row_form : (place : Place) (meta : Meta) → find_of place ≡ Ok meta → (row : Row) → stands_at place row ≡ true → is_row s.fabrics row ≡ true → has_form meta row.fabric row.value ≡ true
   row_form place meta there row at is =
       let found : find_of row.place ≡ Ok meta = ap find_of (place-same row.place place at) ∙ there in
       let here : is_row_at s.fabrics row (find_of row.place) ≡ true = (and_parts _ _ is).1 in
       let is_at : is_row_at s.fabrics row (Ok meta) ≡ true = subst (λ r. is_row_at s.fabrics row r ≡ true) found here in
-      (and_parts (has_form meta.kind meta.limit row.value) (is_row_of s.fabrics meta.scoped row.fabric) is_at).0
+      (and_parts (has_form meta row.fabric row.value) (is_row_of s.fabrics meta.scoped row.fabric) is_at).0
 
   rows_at : (place : Place) → is_stored place ≡ true → rows_of s place ≡ filter (stands_at place) s.rows
   rows_at place stored = rw stored refl
 
   seen_forms : (place : Place) (meta : Meta) → find_of place ≡ Ok meta → is_stored place ≡ true
-      → list_all (has_form meta.kind meta.limit) (own_values (fabric_of actor meta) (map (seen_by actor.fabric) (in_order actor.fabric (rows_of s place)))) ≡ true
+      → list_all (has_form meta (fabric_of actor meta)) (own_values (fabric_of actor meta) (map (seen_by actor.fabric) (in_order actor.fabric (rows_of s place)))) ≡ true
   seen_forms place meta there stored =
-      let all : list_all (λ (row : Row). has_form meta.kind meta.limit row.value) (filter (stands_at place) s.rows) ≡ true =
-      all-kept (is_row s.fabrics) (λ (row : Row). has_form meta.kind meta.limit row.value) (stands_at place) (row_form place meta there) s.rows (all-filter (is_row s.fabrics) (stands_at place) s.rows valid.row_forms) in
-      let there_all : list_all (λ (row : Row). has_form meta.kind meta.limit row.value) (rows_of s place) ≡ true =
-      subst (λ (rows : List Row). list_all (λ (row : Row). has_form meta.kind meta.limit row.value) rows ≡ true) (sym (rows_at place stored)) all in
-      own_pass (has_form meta.kind meta.limit) actor.fabric (fabric_of actor meta) (seen_as_whole meta.scoped actor.fabric) (in_order actor.fabric (rows_of s place))
-      (in_order_pass (λ (row : Row). has_form meta.kind meta.limit row.value) actor.fabric (rows_of s place) there_all)
+      let all : list_all (λ (row : Row). has_form meta row.fabric row.value) (filter (stands_at place) s.rows) ≡ true =
+      all-kept (is_row s.fabrics) (λ (row : Row). has_form meta row.fabric row.value) (stands_at place) (row_form place meta there) s.rows (all-filter (is_row s.fabrics) (stands_at place) s.rows valid.row_forms) in
+      let there_all : list_all (λ (row : Row). has_form meta row.fabric row.value) (rows_of s place) ≡ true =
+      subst (λ (rows : List Row). list_all (λ (row : Row). has_form meta row.fabric row.value) rows ≡ true) (sym (rows_at place stored)) all in
+      own_pass (has_form meta) actor.fabric (fabric_of actor meta) (seen_as_whole meta.scoped actor.fabric) (in_order actor.fabric (rows_of s place))
+      (in_order_pass (λ (row : Row). has_form meta row.fabric row.value) actor.fabric (rows_of s place) there_all)
+
+  -- of a scoped list it has no more items than it may
+
+  own_rows : (place : Place) → count (is_own actor.fabric) (filter (stands_at place) s.rows) ≡ count (is_at place actor.fabric) s.rows
+  own_rows place = both_tests s.rows
+    where
+      both_tests : (rows : List Row) → count (is_own actor.fabric) (filter (stands_at place) rows) ≡ count (is_at place actor.fabric) rows
+      both_tests [] = refl
+      both_tests (row ∷ rows) =
+          let rest = both_tests rows in
+          elim (cases_Bool (same_place row.place place)) [
+            | inl here ↦ elim (cases_Bool (row.fabric == actor.fabric)) [ inl own ↦ rw (here, own) (ap suc rest) | inr other ↦ rw (here, other) rest ]
+            | inr elsewhere ↦ rw elsewhere rest
+          ]
+
+  seen_few : (place : Place) (meta : Meta) → find_of place ≡ Ok meta → is_stored place ≡ true → meta.scoped ≡ true
+      → nat_le (length (own_values (fabric_of actor meta) (map (seen_by actor.fabric) (in_order actor.fabric (rows_of s place))))) meta.limit ≡ true
+  seen_few place meta there stored scoped =
+      let whose : fabric_of actor meta ≡ actor.fabric = subst (λ b. (if b then actor.fabric else 0) ≡ actor.fabric) (sym scoped) refl in
+      let seen : length (own_values actor.fabric (map (seen_by actor.fabric) (in_order actor.fabric (rows_of s place)))) ≡ count (is_own actor.fabric) (rows_of s place) = own-count actor.fabric (rows_of s place) in
+      let stands : count (is_own actor.fabric) (rows_of s place) ≡ count (is_at place actor.fabric) s.rows =
+      subst (λ (rows : List Row). count (is_own actor.fabric) rows ≡ count (is_at place actor.fabric) s.rows) (sym (rows_at place stored)) (own_rows place) in
+      let most = leb-true (count_by (is_at place actor.fabric) s.rows) meta.limit (valid.row_counts place meta actor.fabric there scoped) in
+      let few : nat_le (length (own_values actor.fabric (map (seen_by actor.fabric) (in_order actor.fabric (rows_of s place))))) meta.limit ≡ true =
+      le-leb _ _ (omega (arith, seen, stands, most, counted (is_at place actor.fabric) s.rows)) in
+      subst (λ n. nat_le (length (own_values n (map (seen_by actor.fabric) (in_order actor.fabric (rows_of s place))))) meta.limit ≡ true) (sym whose) few
 
 none_of_nobody : (least : ℕ) (entries : List AclEntry) → 1 ≤ least → ascend_from least entries ≡ true → own_entries 0 entries ≡ []
 none_of_nobody least [] some rise = refl
@@ -173,15 +242,10 @@ few_entries s fabric valid among =
     subst (λ n. nat_le n 4 ≡ true) (sym (length-filter (λ (entry : AclEntry). entry.fabric == fabric) s.entries))
     (passes_among (λ index. nat_le (count_by (λ (entry : AclEntry). entry.fabric == index) s.entries) 4) fabric s.fabrics valid.entry_counts among)
 
-is_small : (s : NodeState) (fabric : ℕ) → IsValid s → is_among s.fabrics fabric ≡ true → nat_lt fabric (2 ^ 8) ≡ true
-is_small s fabric valid among =
-    let most : fabric ≤ 16 = leb-true fabric 16 (passes_among (λ index. nat_le index 16) fabric s.fabrics valid.indexes among) in
-    lt-ltb fabric (2 ^ 8) (omega arith)
-
 member_sight : (s : NodeState) (actor : Actor) → IsValid s → is_among s.fabrics actor.fabric ≡ true → IsSoundSight (observation actor.fabric s).seen actor
 member_sight s actor valid among = record {
-  fabric = is_small s actor.fabric valid among;
   rows = seen_forms s valid actor;
+  few = seen_few s valid actor;
   entries = and_from _ _ (own_forms actor.fabric s.entries valid.entry_forms) (few_entries s actor.fabric valid among);
 }
 
@@ -190,8 +254,8 @@ no_entries s fabric valid zero = subst (λ (f : ℕ). own_entries f s.entries �
 
 nobody_sight : (s : NodeState) (actor : Actor) → IsValid s → actor.fabric ≡ 0 → IsSoundSight (observation actor.fabric s).seen actor
 nobody_sight s actor valid zero = record {
-  fabric = subst (λ (f : ℕ). nat_lt f (2 ^ 8) ≡ true) (sym zero) refl;
   rows = seen_forms s valid actor;
+  few = seen_few s valid actor;
   entries = subst (λ (entries : List AclEntry). are_entries_of actor.fabric entries ≡ true) (sym (no_entries s actor.fabric valid zero)) refl;
 }
 
@@ -360,7 +424,7 @@ module _ (own : TouchesItsOwn) (sound : LeavesSound) (nobody : NobodySetsScoped)
       let timed = at_time now s in
       asked_by s valid actor (λ (steps : List NodeStep). may_take_all (Some actor) steps timed ≡ true) refl
       (λ steps its fit_all. fitting_taken (Some actor) steps timed fit_all)
-      (λ steps sound_all first. sound_taken (map bare_network s.networks) (option_map bare_armed s.armed) actor.fabric (Some actor) steps timed sound_all)
+      (λ steps sound_all first. sound_taken (map bare_network s.networks) (option_map bare_armed s.armed) actor.fabric (Some actor) steps timed known first sound_all)
       (λ steps good fit_all move. moved_taken timed (timed_valid s now valid) actor.fabric (Some actor) steps good fit_all move)
       known asks request deadline now
 
@@ -381,3 +445,4 @@ stays_valid noted_stands all_valid asking steps s now valid taken =
     let timed = at_time now s in
     let its = timed_valid s now valid in
     settled_valid noted_stands (differing timed (after_all asking steps timed)) timed (after_all asking steps timed) its (all_valid asking steps timed its taken)
+    (all-filter (has_change timed.changes) (differs timed (after_all asking steps timed)) all_places its.changes_of_all)

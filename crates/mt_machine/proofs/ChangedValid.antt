@@ -1,5 +1,5 @@
 -- A label and new credentials leave a valid state valid.
-use Rattle.std.proofs.Common.{◌≡◌, ℕ, suc, ◌==◌, ◌&&◌, ◌||◌, inl, inr, not, is_none, nat_le, bytes_eq, Bool, true, List, [], ◌∷◌, length, Option, Some, None, option_map, refl, sym, ap, ◌∙◌, subst, map}
+use Rattle.std.proofs.Common.{◌≡◌, ℕ, suc, ◌^◌, ◌==◌, ◌&&◌, ◌||◌, inl, inr, not, is_none, nat_le, nat_lt, bytes_eq, Bool, true, List, [], ◌∷◌, length, Option, Some, None, option_map, refl, sym, ap, ◌∙◌, subst, map}
 use Rattle.std.proofs.lemmas.Bool.{and_from, and_parts, cases_Bool, cond_both, eqb-true, or_cases}
 use Rattle.std.proofs.lemmas.List.Folds.{list_all-map}
 use Rattle.std.proofs.lemmas.Slice.Eq.{bytes_eq-Decides}
@@ -19,10 +19,10 @@ use Rattle.mt_machine.specs.Effects.{is_renewed_by, labelled_in, may_update, upd
 use Rattle.mt_opcreds.specs.Laws.{are_credentials_if}
 use Rattle.mt_machine.specs.State.{IsValid, are_networks, has_entries_up_to, is_added, is_among, is_awaited_root, is_row, is_session, is_updated, is_used}
 use Rattle.mt_model.specs.tables.Holding.{is_owned, is_root_of, saves_identity}
-use Rattle.mt_machine.proofs.OtherFabrics.{entry-among, facts-still, is_its, none-is, plain-still, row-among, same_number, stands-still}
+use Rattle.mt_machine.proofs.OtherFabrics.{entry-among, facts-still, is_its, names-still, none-is, plain-still, row-among, same_number, stands-still}
 use Rattle.mt_machine.proofs.Rolled.{all-true, only-one}
 use Rattle.mt_machine.proofs.ValidParts.{ArmedHolds, EntriesHold, FabricsHold, PlainHolds, RootsHold, RowsHold, SessionsHold, fabrics_of, its_armed, its_entries, its_fabrics, its_networks, its_plain, its_roots, its_rows, its_sessions, table_of, with-parts}
-use Rattle.mt_machine.proofs.Writes.{all-weaker, impossible}
+use Rattle.mt_machine.proofs.Counting.{all-weaker, impossible}
 
 length-changed : (h : Fabric → Fabric) (fabrics : List Fabric) → length (map h fabrics) ≡ length fabrics
 length-changed h [] = refl
@@ -76,11 +76,13 @@ module _ (h : Fabric → Fabric) (good : Fabric → Bool)
       rise = r.rise;
       forms = all-weaker (is_row fabrics) (is_row now) (λ row. row-among fabrics now row (λ there. same_among row.fabric ∙ there)) rows r.forms;
       stand = r.stand;
+      few = r.few;
     }
 
     roots_hold : (armed : Option Armed) (roots : List (List ℕ)) → RootsHold fabrics armed roots → RootsHold now armed roots
     roots_hold armed roots t = record {
       differ = t.differ;
+      forms = t.forms;
       used = all-weaker (is_used fabrics armed) (is_used now armed) (λ root used. ap (λ b. b || is_awaited_root root armed) (same_root_of root) ∙ used) roots t.used;
     }
 
@@ -98,7 +100,9 @@ module _ (h : Fabric → Fabric) (good : Fabric → Bool)
     armed_holds : (armed : Option Armed) → ArmedHolds fabrics armed → ArmedHolds now armed
     armed_holds armed a = record {
       facts = facts-still fabrics now armed (λ n context there. same_among n ∙ there) (λ n key id context there. same_its key id n ∙ there) a.facts;
+      names = names-still fabrics now armed (λ n context there. same_among n ∙ there) a.names;
       saved = a.saved;
+      given = a.given;
     }
 
     changed-valid : (s : NodeState) → IsValid s → s.fabrics ≡ fabrics → FabricsHold now → (armed : Option Armed)
@@ -156,7 +160,9 @@ module _ (table_labelled : (index : ℕ) (label : List ℕ) (fabrics : List Fabr
         changed-valid relabelled any index_stays root_stays key_stays id_stays s.fabrics all_any s valid refl
         (fabrics_of (labelled index label s.fabrics) (table_labelled index label s.fabrics (table_of s.fabrics table_holds) not_refused)
         (subst (λ n. nat_le n 16 ≡ true) (sym (length-changed relabelled s.fabrics)) table_holds.few)
-        (changed_forms index (with_label label) (λ f form. and_from _ _ (and_parts (are_credentials f.credentials) (is_label f.label) form).0 text) s.fabrics table_holds.forms))
+        (changed_forms index (with_label label) (λ f form.
+        let outer = and_parts (are_credentials f.credentials && is_label f.label) (nat_lt f.vendor (2 ^ 16)) form in
+        and_from _ _ (and_from _ _ (and_parts (are_credentials f.credentials) (is_label f.label) outer.0).0 text) outer.1) s.fabrics table_holds.forms))
         s.armed
         (roots_hold relabelled any index_stays root_stays key_stays id_stays s.fabrics all_any s.armed s.roots (its_roots s valid))
         (sessions_hold relabelled any index_stays root_stays key_stays id_stays s.fabrics all_any s.armed s.sessions (its_sessions s valid))
@@ -193,7 +199,7 @@ found_form index old (f ∷ fabrics) found all =
       | inl this ↦
           let here : Some f.credentials ≡ Some old = rw this at found in
           let same : f.credentials ≡ old = cc in
-          subst (λ c. are_credentials c ≡ true) same (and_parts (are_credentials f.credentials) (is_label f.label) both.0).0
+          subst (λ c. are_credentials c ≡ true) same (and_parts (are_credentials f.credentials) (is_label f.label) (and_parts (are_credentials f.credentials && is_label f.label) (nat_lt f.vendor (2 ^ 16)) both.0).0).0
       | inr other ↦
           let later : credentials_at index fabrics ≡ Some old = rw other at found in
           found_form index old fabrics later both.1
@@ -248,7 +254,9 @@ module _ (table_updated : (index : ℕ) (given : Credentials) (fabrics : List Fa
       fabrics_hold =
           fabrics_of behind (table_updated index given s.fabrics (table_of s.fabrics hold) not_refused)
           (subst (λ n. nat_le n 16 ≡ true) (sym (length-changed h s.fabrics)) hold.few)
-          (changed_forms index (with_credentials given) (λ f its_form. and_from _ _ form (and_parts (are_credentials f.credentials) (is_label f.label) its_form).1) s.fabrics hold.forms)
+          (changed_forms index (with_credentials given) (λ f its_form.
+          let outer = and_parts (are_credentials f.credentials && is_label f.label) (nat_lt f.vendor (2 ^ 16)) its_form in
+          and_from _ _ (and_from _ _ form (and_parts (are_credentials f.credentials) (is_label f.label) outer.0).1) outer.1) s.fabrics hold.forms)
 
       -- what the fail-safe notes
       record Noted (armed : Option Armed) : Type 0 where
@@ -285,12 +293,14 @@ module _ (table_updated : (index : ℕ) (given : Credentials) (fabrics : List Fa
           let none = (and_parts (is_none armed.added) (is_none armed.updated) unused).0 in
           let is = (and_parts (is_added behind armed armed.added) (is_updated behind armed armed.added armed.updated) n.itself.facts).0 in
           record {
-            trusted = record { differ = n.trusted.differ; used = n.trusted.used };
+            trusted = record { differ = n.trusted.differ; forms = n.trusted.forms; used = n.trusted.used };
             open_ones = record { stand = n.open_ones.stand; follow = n.open_ones.follow };
             plain_one = record { stands = n.plain_one.stands; follows = n.plain_one.follows };
             itself = record {
               facts = facts armed owner old found armed.added none is;
               saved = and_from _ _ (and_parts (are_networks armed.saved_networks) (are_credentials_if armed.saved_credentials) n.itself.saved).0 (found_form index old s.fabrics found hold.forms);
+              names = n.itself.names;
+              given = n.itself.given;
             };
           }
 

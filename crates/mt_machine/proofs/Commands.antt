@@ -44,7 +44,7 @@ missing_at endpoint cluster = if not (is_endpoint endpoint) then Some Unsupporte
     else None
 
 abbrev pub on_off_meta : Meta
-on_off_meta = record { kind = kinds.Bool; read = View; write = None; scoped = false; timed = false; kept = true; limit = 0 }
+on_off_meta = record { kind = kinds.Bool; read = View; write = None; scoped = false; timed = false; kept = true; least = 0; limit = 0 }
 
 on_off_found : (endpoint : ℕ) → missing_of (on_off_at endpoint) ≡ None → find_of (on_off_at endpoint) ≡ Ok on_off_meta
 unfolding attributes_of globals extensions_of

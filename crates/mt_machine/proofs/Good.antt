@@ -31,7 +31,7 @@ use Rattle.mt_machine.specs.Step.{is_untimely, steps_to, with_events}
 use Rattle.mt_machine.specs.Environment.{Environment}
 use Rattle.mt_machine.proofs.Commands.{own_events}
 use Rattle.mt_machine.proofs.Steps.{is_step_of}
-use Rattle.mt_machine.proofs.Writes.{all-weaker}
+use Rattle.mt_machine.proofs.Counting.{all-weaker}
 use Rattle.mt_machine.specs.Laws.{TakenValuesFit}
 use Rattle.mt_machine.specs.Taking.{fits, fits_row, may_take, may_take_all}
 use Rattle.mt_model.specs.declared.node.state.NodeState.{NodeState}
@@ -78,7 +78,7 @@ module _ (kept : (place : Place) → is_stored_place place ≡ (is_stored place 
   -- what fits is stored and found
   row_fits : (fabrics : List Fabric) (whose : ℕ) (stored : Bool) (values : List Value) (found : Result Meta Status) → fits_row fabrics whose stored values found ≡ true → (stored && is_ok found) ≡ true
   row_fits fabrics whose stored values (Err status) fit = absurd (cc)
-  row_fits fabrics whose stored values (Ok meta) fit = and_from stored true (and_parts stored _ (and_parts (is_sound_row stored values (Ok meta)) _ fit).0).0 refl
+  row_fits fabrics whose stored values (Ok meta) fit = and_from stored true (and_parts stored _ (and_parts (is_sound_row stored whose values (Ok meta)) _ fit).0).0 refl
 
   setting_step : (fabrics : List Fabric) (step : NodeStep) → fits fabrics step ≡ true → is_setting_step step ≡ true
   setting_step fabrics (SetRow place whose values) fit = kept place ∙ row_fits fabrics whose (is_stored place) values (find_of place) fit

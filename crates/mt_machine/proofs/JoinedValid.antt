@@ -24,8 +24,9 @@ use Rattle.mt_machine.specs.Effects.{is_on, is_pase, is_plain, joined, joined_as
 use Rattle.mt_machine.specs.State.{IsValid, follows, has_entries_up_to, is_added, is_among, is_awaited_root, is_plain_of, is_row, is_session, is_updated, is_used, plain_follows, stands_rightly}
 use Rattle.mt_model.specs.tables.Holding.{is_owned, is_root_of}
 use Rattle.mt_machine.proofs.OtherFabrics.{either-among, entry-among, is_its, none-is, owned_among, plain-still, row-among, same_number}
+use Rattle.mt_machine.proofs.Writes.{passes_among}
 use Rattle.mt_machine.proofs.ValidParts.{ArmedHolds, EntriesHold, FabricsHold, PlainHolds, RootsHold, RowsHold, SessionsHold, fabrics_of, its_armed, its_fabrics, its_networks, its_plain, its_roots, its_sessions, table_of, with-parts}
-use Rattle.mt_machine.proofs.Writes.{all-weaker, impossible}
+use Rattle.mt_machine.proofs.Counting.{all-weaker, impossible}
 
 -- A fabric among others.
 
@@ -132,6 +133,7 @@ module _
         rise = valid.rows_rise;
         forms = all-weaker (is_row s.fabrics) (is_row more) (λ row. row-among s.fabrics more row (among_still row.fabric)) s.rows valid.row_forms;
         stand = valid.rows_stand;
+        few = valid.row_counts;
       }
 
       -- Sessions.
@@ -227,9 +229,13 @@ module _
           | inr awaited ↦ or_right (list_any (is_root_of root) more) _ awaited
         ]
 
+        owner_fits : (pase : Bool) → nat_le armed.owner 16 ≡ true → nat_le (notes.owner_behind index pase armed.owner) 16 ≡ true
+        owner_fits true fits_still = passes_among (λ n. nat_le n 16) index more fabrics_hold.indexes among_new
+        owner_fits false fits_still = fits_still
+
         noted_now : RootsHold s.fabrics (Some armed) s.roots → SessionsHold s.fabrics (Some armed) s.sessions → PlainHolds s.fabrics (Some armed) s.plain → ArmedHolds s.fabrics (Some armed) → Noted (Some noting)
         noted_now t c p a = record {
-          trusted = record { differ = t.differ; used = all-weaker (is_used s.fabrics (Some armed)) (is_used more (Some noting)) root_used s.roots t.used };
+          trusted = record { differ = t.differ; forms = t.forms; used = all-weaker (is_used s.fabrics (Some armed)) (is_used more (Some noting)) root_used s.roots t.used };
           open_ones = record {
             stand = list_all-map (is_session more) joined_session s.sessions
                 ∙ all-weaker (is_session s.fabrics) (λ session. is_session more (joined_session session)) (λ session stood. stands session session.auth session.standing stood) s.sessions c.stand;
@@ -241,7 +247,9 @@ module _
           plain_one = record { stands = plain_stands s.plain p.stands; follows = plain_noted s.plain p.follows };
           itself = record {
             facts = and_from _ _ (and_from _ _ (same_number index) among_new) (not_updated armed.added armed.updated none_updated (and_parts (is_added s.fabrics armed armed.added) (is_updated s.fabrics armed armed.added armed.updated) a.facts).1);
+            names = and_from _ _ (owner_fits (is_pase asker) (and_parts (nat_le armed.owner 16) (armed.context == 0 || is_among s.fabrics armed.context) a.names).0) (or_right (index == 0) _ among_new);
             saved = a.saved;
+            given = a.given;
           };
         }
 

@@ -32,7 +32,7 @@ use Rattle.mt_machine.specs.Isolation as isolation
 use Rattle.mt_machine.specs.Isolation.{own_of_whole}
 use Rattle.mt_machine.specs.Laws.{RemovalsSeeTheVeil, StepsSeeTheVeil}
 use Rattle.mt_im.specs.declared.fault.ImFault.{ImFault}
-use Rattle.mt_machine.specs.Lines.{action_of, behind_action, fabric_of, is_tick, next}
+use Rattle.mt_machine.specs.Lines.{action_of, behind_action, fabric_of, is_tick, plain_next}
 use Rattle.mt_machine.specs.State.{IsValid, State, is_among}
 use Rattle.mt_machine.specs.Step.{after_action, asked_steps, asker, at_time}
 use Rattle.mt_machine.specs.Taking.{may_take}
@@ -43,7 +43,8 @@ use Rattle.mt_machine.proofs.OnVeil.{commission_alike, moved_alike, setting_alik
 use Rattle.mt_machine.proofs.Sparing.{commission_kept, moved_kept, values_kept}
 use Rattle.mt_machine.proofs.ValidParts.{its_fabrics, table_of}
 use Rattle.mt_machine.proofs.Veiled as veiled
-use Rattle.mt_machine.proofs.Writes.{impossible, timed_valid}
+use Rattle.mt_machine.proofs.Counting.{impossible}
+use Rattle.mt_machine.proofs.Writes.{timed_valid}
 
 -- the least index that no fabric has is neither 0 nor that of a fabric
 new_is_other : (s : NodeState) (fabric : ℕ) → IsLeastUnused (least_unused s.fabrics) s.fabrics → (fabric == 0 || is_among s.fabrics fabric) ≡ true → not (fabric == least_unused s.fabrics) ≡ true
@@ -81,7 +82,7 @@ module _ (touches : TouchesItsOwn) (sound : LeavesSound) (nobody : NobodySetsSco
           (λ steps own_all fit_all there.
           values_kept fabric asking.fabric apart rows_stay entries_stay rows_ascend rows_apart entries_ascend entries_apart least still asking.fabric (Some asking) steps t apart its (steps_of_its asking s.fabrics steps own_all fit_all))
           (λ steps sound_all first.
-          commission_kept fabric asking.fabric apart rows_stay entries_stay rows_ascend rows_apart entries_ascend entries_apart least still (map bare_network s.networks) t its (Some asking) steps sound_all first)
+          commission_kept fabric asking.fabric apart rows_stay entries_stay rows_ascend rows_apart entries_ascend entries_apart least still (map bare_network s.networks) t its known (Some asking) steps sound_all first)
           (λ steps good fit_all move.
           moved_kept fabric asking.fabric apart rows_stay entries_stay rows_ascend rows_apart entries_ascend entries_apart least still t its (Some asking) steps good fit_all move)
           known asks request deadline ms
@@ -98,8 +99,8 @@ module _ (touches : TouchesItsOwn) (sound : LeavesSound) (nobody : NobodySetsSco
             nobody = λ zero. ap (λ (o : Option Actor). (behind o).armed) (sym is) ∙ there.nobody zero;
           })
 
-      pub keeps_own : (given : Environment) (fabric : ℕ) (s : State) (e : Event) → KeepsRules given.judged → IsValid s.node → is_tick e ≡ false → fabric ≢ fabric_of s.node e → StaysThere fabric s.node (next given s e).node
-          → own_of_whole fabric (next given s e) ≡ own_of_whole fabric s
+      pub keeps_own : (given : Environment) (fabric : ℕ) (s : State) (e : Event) → KeepsRules given.judged → IsValid s.node → is_tick e ≡ false → fabric ≢ fabric_of s.node e → StaysThere fabric s.node (plain_next given s e).node
+          → own_of_whole fabric (plain_next given s e) ≡ own_of_whole fabric s
       keeps_own given fabric s e keeps valid no_tick differ there =
           veiled.keeps_own given fabric s valid (λ actor asking request deadline ms is apart. action_kept given keeps s.node valid fabric actor asking request deadline ms is apart) e no_tick differ there
 

@@ -12,7 +12,7 @@ use Rattle.mt_meta.specs.Stored.{is_stored}
 use Rattle.mt_model.specs.rows.Order.{are_ascending}
 use Rattle.mt_model.specs.rows.Sight.{stands_at}
 use Rattle.mt_model.specs.tables.Leaving.{stays}
-use Rattle.mt_model.specs.texts.Config.{ascend_from, has_identity, is_entry, is_fabric, is_of}
+use Rattle.mt_model.specs.texts.Config.{ascend_from, has_identity, is_entry, is_fabric, is_of, is_certificate}
 use Rattle.mt_model.specs.declared.node.state.NodeSession.{NodeSession}
 use Rattle.mt_model.specs.declared.node.state.NodeState.{NodeState}
 use Rattle.mt_model.specs.declared.node.state.Standing.{Standing}
@@ -30,10 +30,11 @@ use Rattle.mt_machine.specs.State.{IsValid, follows, has_entries_up_to, has_one_
 use Rattle.mt_model.specs.tables.Holding.{is_owned}
 use Rattle.mt_machine.specs.State as states
 use Rattle.mt_machine.proofs.NetworksValid.{all-passing, length-kept}
-use Rattle.mt_machine.proofs.OtherFabrics.{entry-among, eq-turned, facts-still, is_its, plain-still, row-among, stands-still}
+use Rattle.mt_machine.proofs.OtherFabrics.{entry-among, eq-turned, facts-still, is_its, plain-still, row-among, stands-still, names-still}
 use Rattle.mt_machine.proofs.Rolled.{all-staying, any-filter, count-filter, none-filter, pass-stay}
 use Rattle.mt_machine.proofs.ValidParts.{ArmedHolds, EntriesHold, FabricsHold, PlainHolds, RootsHold, RowsHold, SessionsHold, fabrics_of, its_fabrics, its_networks, table_of, with-parts}
-use Rattle.mt_machine.proofs.Writes.{all-filter, all-kept, all-weaker, impossible, members_are_positive, nobodys, place-same}
+use Rattle.mt_machine.proofs.Counting.{all-filter, all-kept, all-weaker, impossible, place-same, few-filter}
+use Rattle.mt_machine.proofs.Writes.{members_are_positive, nobodys}
 
 -- Another index.
 
@@ -130,6 +131,7 @@ module _
         rise = rows_stay keeps s.rows valid.rows_rise;
         forms = all-staying (is_row s.fabrics) (is_row left) keeps (λ row stay. row-among s.fabrics left row (among-left index s.fabrics row.fabric (stays-other index row.fabric stay))) s.rows valid.row_forms;
         stand = all-kept (stands_once s.rows) (stands_once rows_left) has_one_row stands_left all_places valid.rows_stand;
+        few = few-filter keeps s.rows valid.row_counts;
       }
 
       -- Entries.
@@ -156,6 +158,7 @@ module _
       roots_hold : RootsHold left s.armed (filter (states.is_used left s.armed) s.roots)
       roots_hold = record {
         differ = none-filter bytes_eq (states.is_used left s.armed) s.roots valid.roots_differ;
+        forms = all-filter is_certificate (states.is_used left s.armed) s.roots valid.root_forms;
         used = all-passing (states.is_used left s.armed) s.roots;
       }
 
@@ -201,7 +204,9 @@ module _
         facts = facts-still s.fabrics left s.armed
             (λ n is. among-left index s.fabrics n (context-other index n s.armed not_context is))
             (λ n key id is. its-left index s.fabrics key id n (context-other index n s.armed not_context is)) valid.failsafe_facts;
+        names = names-still s.fabrics left s.armed (λ n is. among-left index s.fabrics n (context-other index n s.armed not_context is)) valid.failsafe_names;
         saved = valid.saved_stand;
+        given = valid.given_stand;
       }
 
       left-valid : IsValid (record s {

@@ -1,8 +1,10 @@
 pub mod Carried
 pub mod Commands
+pub mod Counting
 pub mod Again
 pub mod Asked
 pub mod Deadlines
+pub mod DeadlinesStand
 pub mod Entries
 pub mod Fabrics
 pub mod Good
@@ -26,6 +28,7 @@ pub mod Times
 pub mod Veiled
 pub mod Writes
 pub mod Expired
+pub mod Expiries
 pub mod Ticks
 pub mod Untouched
 pub mod ValidParts

@@ -1,5 +1,5 @@
 -- A valid state takes the steps of commands of commissioning, one after the other.
-use Rattle.std.proofs.Common.{◌≡◌, ℕ, ◌≤◌, ◌==◌, ◌&&◌, ◌||◌, not, nat_le, nat_lt, Bool, true, false, List, [], ◌∷◌, length, Option, Some, None, is_none, Result, Ok, Err, refl, sym, ap, ◌∙◌, subst, arith}
+use Rattle.std.proofs.Common.{◌≡◌, ℕ, ◌≤◌, ◌==◌, ◌&&◌, ◌||◌, not, nat_le, nat_lt, Bool, true, false, List, [], ◌∷◌, length, Option, Some, None, is_none, Result, Ok, Err, refl, sym, ap, ◌∙◌, subst, arith, if◌then◌else◌}
 use Rattle.std.proofs.lemmas.Bool.{and_from, and_parts, eqb-true, false_from_ne_true, or_left}
 use Rattle.std.specs.List.{list_all}
 use Rattle.mt_tlv.specs.declared.value.Value.{Value}
@@ -14,7 +14,7 @@ use Rattle.mt_meta.specs.clusters.OperationalCredentials as table
 use Rattle.mt_meta.specs.declared.meta.Meta.{Meta}
 use Rattle.mt_model.specs.rows.Setting as setting
 use Rattle.mt_model.specs.tables.Known.{Known, known_to}
-use Rattle.mt_model.specs.texts.Config.{are_credentials, has_up_to, is_entry, is_fabric, is_label, is_pase}
+use Rattle.mt_model.specs.texts.Config.{are_credentials, has_up_to, is_entry, is_fabric, is_label, is_pase, is_certificate}
 use Rattle.mt_model.specs.declared.messages.status.Status.{Status}
 use Rattle.mt_model.specs.declared.node.action.NodeStep.{NodeStep}
 use Rattle.mt_model.specs.declared.node.action.NodeStep.TheVariants.{SetRow, SetEntries, PutNetwork, RemoveNetwork, ConnectNetwork, MoveNetwork, Arm, Renew, Expire, Complete, AddRoot, Csr, AddFabric, UpdateFabric, RemoveFabric, Label, Emit}
@@ -35,11 +35,12 @@ use Rattle.mt_opcreds.specs.Moves.{IsMove, StepsAreMoves, expires, expires_and_l
 use Rattle.mt_write.specs.Laws as writes
 use Rattle.mt_machine.specs.Effects.{after, joined, joined_as, may_join}
 use Rattle.mt_machine.specs.State.{IsValid, is_among, is_row_of}
-use Rattle.mt_machine.specs.Taking.{fits_row, may_take, may_take_all}
+use Rattle.mt_machine.specs.Taking.{fits_row, may_take, may_take_all, names_known}
 use Rattle.mt_machine.proofs.ChangedValid.{found_form}
 use Rattle.mt_machine.proofs.JoinedValid.{placed-any}
 use Rattle.mt_machine.proofs.Knowing.{credentials-known, least-known, noted-known, refusal-known, used-known}
-use Rattle.mt_machine.proofs.Writes.{impossible, members_are_positive}
+use Rattle.mt_machine.proofs.Counting.{impossible}
+use Rattle.mt_machine.proofs.Writes.{members_are_positive}
 
 same_number : (n : ℕ) → (n == n) ≡ true
 same_number n = grind arith
@@ -49,46 +50,64 @@ same_number n = grind arith
 row_taken : (fabrics : List Fabric) (fabric : ℕ) (stored : Bool) (values : List Value) (found : Result Meta Status) → commission.is_sound_row stored fabric values found ≡ true → fits_row fabrics fabric stored values found ≡ true
 row_taken fabrics fabric stored values (Err status) sound = impossible sound
 row_taken fabrics fabric stored values (Ok meta) sound =
-    let one = and_parts stored (not meta.scoped && (fabric == 0 && (length values == 1 && list_all (has_form meta.kind meta.limit) values))) sound in
-    let two = and_parts (not meta.scoped) (fabric == 0 && (length values == 1 && list_all (has_form meta.kind meta.limit) values)) one.1 in
-    let three = and_parts (fabric == 0) (length values == 1 && list_all (has_form meta.kind meta.limit) values) two.1 in
-    let four = and_parts (length values == 1) (list_all (has_form meta.kind meta.limit) values) three.1 in
+    let one = and_parts stored (not meta.scoped && (fabric == 0 && (length values == 1 && list_all (has_form meta fabric) values))) sound in
+    let two = and_parts (not meta.scoped) (fabric == 0 && (length values == 1 && list_all (has_form meta fabric) values)) one.1 in
+    let three = and_parts (fabric == 0) (length values == 1 && list_all (has_form meta fabric) values) two.1 in
+    let four = and_parts (length values == 1) (list_all (has_form meta fabric) values) three.1 in
     row_by meta.scoped two.0 one.0 three.0 four.0 four.1
   where
-    row_by : (scoped : Bool) → not scoped ≡ true → stored ≡ true → (fabric == 0) ≡ true → (length values == 1) ≡ true → list_all (has_form meta.kind meta.limit) values ≡ true
-        → ((stored && (list_all (has_form meta.kind meta.limit) values && (scoped || length values == 1))) && is_row_of fabrics scoped fabric) ≡ true
+    row_by : (scoped : Bool) → not scoped ≡ true → stored ≡ true → (fabric == 0) ≡ true → (length values == 1) ≡ true → list_all (has_form meta fabric) values ≡ true
+        → ((stored && (list_all (has_form meta fabric) values && (if scoped then nat_le (length values) meta.limit else length values == 1))) && is_row_of fabrics scoped fabric) ≡ true
     row_by true unscoped is nobodys one form = impossible unscoped
     row_by false unscoped is nobodys one form = and_from _ _ (and_from _ _ is (and_from _ _ form one)) nobodys
 
-pub step_taken : (networks : List Network) (armed : Option Armed) (fabric : ℕ) (step : NodeStep) (s : NodeState) → commission.is_sound_step networks armed fabric step ≡ true → may_take s step ≡ true
-step_taken networks armed fabric (SetRow place whose values) s sound = or_left _ _ (row_taken s.fabrics whose (is_stored place) values (find_of place) sound)
-step_taken networks armed fabric (SetEntries whose entries) s sound = impossible sound
-step_taken networks armed fabric (PutNetwork id secret) s sound =
+pub step_taken : (networks : List Network) (armed : Option Armed) (fabric : ℕ) (step : NodeStep) (s : NodeState) → names_known s.fabrics step ≡ true → commission.is_sound_step networks armed fabric step ≡ true → may_take s step ≡ true
+step_taken networks armed fabric (SetRow place whose values) s known sound = or_left _ _ (row_taken s.fabrics whose (is_stored place) values (find_of place) sound)
+step_taken networks armed fabric (SetEntries whose entries) s known sound = impossible sound
+step_taken networks armed fabric (PutNetwork id secret) s known sound =
     let room = commission.is_there networks id || nat_lt (length networks) 4 in
     let one = and_parts (has_up_to 32 id) (nat_le (length secret) 64 && room) sound in
     let two = and_parts (nat_le (length secret) 64) room one.1 in
-    and_from (has_up_to 32 id) (nat_le (length secret) 64) one.0 two.0
-step_taken networks armed fabric (RemoveNetwork id) s sound = refl
-step_taken networks armed fabric (ConnectNetwork id) s sound = refl
-step_taken networks armed fabric (MoveNetwork id index) s sound = refl
-step_taken networks armed fabric (Arm owner seconds) s sound = refl
-step_taken networks armed fabric (Renew seconds) s sound = refl
-step_taken networks armed fabric Expire s sound = refl
-step_taken networks armed fabric Complete s sound = refl
-step_taken networks armed fabric (AddRoot cert) s sound = impossible sound
-step_taken networks armed fabric (Csr nonce update) s sound = impossible sound
-step_taken networks armed fabric (AddFabric new) s sound = impossible sound
-step_taken networks armed fabric (UpdateFabric index given) s sound = impossible sound
-step_taken networks armed fabric (RemoveFabric index) s sound = impossible sound
-step_taken networks armed fabric (Label index label) s sound = impossible sound
-step_taken networks armed fabric (Emit place priority whose value) s sound = impossible sound
+    and_from (has_up_to 32 id && nat_le (length secret) 64) true (and_from (has_up_to 32 id) (nat_le (length secret) 64) one.0 two.0) refl
+step_taken networks armed fabric (RemoveNetwork id) s known sound = refl
+step_taken networks armed fabric (ConnectNetwork id) s known sound = refl
+step_taken networks armed fabric (MoveNetwork id index) s known sound = refl
+step_taken networks armed fabric (Arm owner seconds) s known sound = known
+step_taken networks armed fabric (Renew seconds) s known sound = refl
+step_taken networks armed fabric Expire s known sound = refl
+step_taken networks armed fabric Complete s known sound = refl
+step_taken networks armed fabric (AddRoot cert) s known sound = impossible sound
+step_taken networks armed fabric (Csr nonce update) s known sound = impossible sound
+step_taken networks armed fabric (AddFabric new) s known sound = impossible sound
+step_taken networks armed fabric (UpdateFabric index given) s known sound = impossible sound
+step_taken networks armed fabric (RemoveFabric index) s known sound = impossible sound
+step_taken networks armed fabric (Label index label) s known sound = impossible sound
+step_taken networks armed fabric (Emit place priority whose value) s known sound = impossible sound
 
-pub sound_taken : (networks : List Network) (armed : Option Armed) (fabric : ℕ) (asker : Option Actor) (steps : List NodeStep) (s : NodeState)
-    → list_all (commission.is_sound_step networks armed fabric) steps ≡ true → may_take_all asker steps s ≡ true
-sound_taken networks armed fabric asker [] s sound = refl
-sound_taken networks armed fabric asker (step ∷ steps) s sound =
-    let both = and_parts (commission.is_sound_step networks armed fabric step) (list_all (commission.is_sound_step networks armed fabric) steps) sound in
-    and_from _ _ (step_taken networks armed fabric step s both.0) (sound_taken networks armed fabric asker steps (after asker step s) both.1)
+-- The fail-safe is armed by whoever asks, who has no fabric or one of the table, and in the first step alone.
+
+named_value : (fabrics : List Fabric) (step : NodeStep) → commission.sets_value step ≡ true → names_known fabrics step ≡ true
+named_value fabrics (Arm owner seconds) sets = impossible sets
+named_value fabrics step sets = refl
+
+pub named_first : (networks : List Network) (armed : Option Armed) (fabric : ℕ) (fabrics : List Fabric) (step : NodeStep) → (fabric == 0 || is_among fabrics fabric) ≡ true → commission.is_sound_step networks armed fabric step ≡ true → names_known fabrics step ≡ true
+named_first networks armed fabric fabrics (Arm owner seconds) known sound = subst (λ n. (n == 0 || is_among fabrics n) ≡ true) (sym (eqb-true owner fabric (and_parts (owner == fabric) (is_none armed) sound).0)) known
+named_first networks armed fabric fabrics step known sound = refl
+
+module _ (networks : List Network) (armed : Option Armed) (fabric : ℕ) where
+  values_taken : (asker : Option Actor) (steps : List NodeStep) (s : NodeState) → list_all commission.sets_value steps ≡ true → list_all (commission.is_sound_step networks armed fabric) steps ≡ true → may_take_all asker steps s ≡ true
+  values_taken asker [] s sets sound = refl
+  values_taken asker (step ∷ steps) s sets sound =
+      let values = and_parts (commission.sets_value step) (list_all commission.sets_value steps) sets in
+      let both = and_parts (commission.is_sound_step networks armed fabric step) (list_all (commission.is_sound_step networks armed fabric) steps) sound in
+      and_from _ _ (step_taken networks armed fabric step s (named_value s.fabrics step values.0) both.0) (values_taken asker steps (after asker step s) values.1 both.1)
+
+  pub sound_taken : (asker : Option Actor) (steps : List NodeStep) (s : NodeState) → (fabric == 0 || is_among s.fabrics fabric) ≡ true → commission.sets_values_behind steps ≡ true
+      → list_all (commission.is_sound_step networks armed fabric) steps ≡ true → may_take_all asker steps s ≡ true
+  sound_taken asker [] s known behind sound = refl
+  sound_taken asker (step ∷ steps) s known behind sound =
+      let both = and_parts (commission.is_sound_step networks armed fabric step) (list_all (commission.is_sound_step networks armed fabric) steps) sound in
+      and_from _ _ (step_taken networks armed fabric step s (named_first networks armed fabric s.fabrics step known both.0) both.0) (values_taken asker steps (after asker step s) behind both.1)
 
 -- Operational Credentials.
 
@@ -165,23 +184,27 @@ module _ (s : NodeState) (valid : IsValid s) (fabric : ℕ) where
       let may = may_be_added fabric new s (and_parts (credentials.fits known (AddFabric new)) (credentials.fits known (SetEntries new.index entries) && true) fits_all).0 in
       let there : is_among (joined asker new s).fabrics new.index ≡ true = ap (is_among (joined asker new s).fabrics) may.1 ∙ among_joined asker new s may.0 in
       let entries_good = and_from _ _ (entries_taken new.index entries three.0 four.0) four.1 in
-      and_from _ _ one.0 (and_from _ _ (or_left _ _ (and_from _ _ entries_good there)) refl)
+      and_from _ _ (and_from _ _ one.0 refl) (and_from _ _ (or_left _ _ (and_from _ _ entries_good there)) refl)
 
   abbrev Taken : Option Actor → List NodeStep → Type 0
   Taken asker all = may_take_all asker all s ≡ true
 
   pub moved_taken : (asker : Option Actor) (all : List NodeStep) → list_all is_well_formed all ≡ true → list_all (credentials.fits known) all ≡ true → IsMove known fabric all → Taken asker all
   moved_taken asker all good fits_all (nothing is) = subst (Taken asker) (sym is) refl
-  moved_taken asker all good fits_all (requests nonce update is) = subst (Taken asker) (sym is) refl
-  moved_taken asker all good fits_all (trusts cert is) = subst (Taken asker) (sym is) refl
+  moved_taken asker all good fits_all (requests nonce update is) =
+      let its : ((length nonce == 32) && true) ≡ true = subst (λ l. list_all is_well_formed l ≡ true) is good in
+      subst (Taken asker) (sym is) (and_from _ _ its refl)
+  moved_taken asker all good fits_all (trusts cert is) =
+      let its : (is_certificate cert && true) ≡ true = subst (λ l. list_all is_well_formed l ≡ true) is good in
+      subst (Taken asker) (sym is) (and_from _ _ its refl)
   moved_taken asker all good fits_all (joins new entries own is) =
       subst (Taken asker) (sym is) (joined_taken asker new entries (subst (λ l. list_all is_well_formed l ≡ true) is good) (subst (λ l. list_all (credentials.fits known) l ≡ true) is fits_all))
   moved_taken asker all good fits_all (renews given is) =
       let its : (are_credentials given && true) ≡ true = subst (λ l. list_all is_well_formed l ≡ true) is good in
-      subst (Taken asker) (sym is) its
+      subst (Taken asker) (sym is) (and_from _ _ its refl)
   moved_taken asker all good fits_all (names label is) =
       let its : (is_label label && true) ≡ true = subst (λ l. list_all is_well_formed l ≡ true) is good in
-      subst (Taken asker) (sym is) its
+      subst (Taken asker) (sym is) (and_from _ _ its refl)
   moved_taken asker all good fits_all (leaves index free is) = subst (Taken asker) (sym is) refl
   moved_taken asker all good fits_all (expires index context was is) = subst (Taken asker) (sym is) refl
   moved_taken asker all good fits_all (expires_and_leaves index context was_not is) = subst (Taken asker) (sym is) refl

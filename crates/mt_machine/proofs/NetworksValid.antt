@@ -14,7 +14,7 @@ use Rattle.mt_machine.specs.State.{IsValid, are_networks}
 use Rattle.mt_model.specs.tables.Holding.{have_one_id, is_network}
 use Rattle.mt_machine.proofs.Rolled.{none-filter, none-map}
 use Rattle.mt_machine.proofs.ValidParts.{its_armed, its_entries, its_fabrics, its_plain, its_roots, its_rows, its_sessions, with-parts}
-use Rattle.mt_machine.proofs.Writes.{all-filter, all-weaker}
+use Rattle.mt_machine.proofs.Counting.{all-filter, all-weaker}
 
 -- Lists.
 

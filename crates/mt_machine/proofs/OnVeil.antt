@@ -9,7 +9,7 @@ use Rattle.mt_meta.specs.Stored.{is_stored}
 use Rattle.mt_meta.specs.declared.meta.Meta.{Meta}
 use Rattle.mt_model.specs.rows.Stored.{is_stored_place}
 use Rattle.mt_model.specs.tables.Known.{Known}
-use Rattle.mt_model.specs.texts.Config.{are_credentials, is_fabric, is_label}
+use Rattle.mt_model.specs.texts.Config.{are_credentials, is_certificate, is_fabric, is_label}
 use Rattle.mt_model.specs.declared.messages.status.Status.{Status}
 use Rattle.mt_model.specs.declared.node.action.NodeStep.{NodeStep}
 use Rattle.mt_model.specs.declared.node.action.NodeStep.TheVariants.{SetRow, SetEntries, PutNetwork, RemoveNetwork, ConnectNetwork, MoveNetwork, Arm, Renew, Expire, Complete, AddRoot, Csr, AddFabric, UpdateFabric, RemoveFabric, Label, Emit}
@@ -28,7 +28,7 @@ use Rattle.mt_machine.specs.State.{IsValid}
 use Rattle.mt_machine.specs.Touching.{is_its_step}
 use Rattle.mt_machine.proofs.Again.{own-again}
 use Rattle.mt_machine.proofs.Steps.{own-alike}
-use Rattle.mt_machine.proofs.Writes.{impossible}
+use Rattle.mt_machine.proofs.Counting.{impossible}
 
 same_number : (n : ℕ) → (n == n) ≡ true
 same_number n = grind arith
@@ -114,8 +114,12 @@ module _ (kept : (place : Place) → is_stored_place place ≡ (is_stored place 
 
   pub moved_alike : (known : Known) (steps : List NodeStep) → Good steps → ((new : Fabric) → is_its_step s (AddFabric new) fabric ≡ true) → IsMove known fabric steps → Alike steps
   moved_alike known steps good new_is_other (nothing is) = subst Alike (sym is) (own-again fabric s valid.fabrics_rise)
-  moved_alike known steps good new_is_other (requests nonce update is) = subst Alike (sym is) (each fabric asker (Csr nonce update) s valid refl refl)
-  moved_alike known steps good new_is_other (trusts cert is) = subst Alike (sym is) (each fabric asker (AddRoot cert) s valid refl refl)
+  moved_alike known steps good new_is_other (requests nonce update is) =
+      let good_ones : (length nonce == 32 && true) ≡ true = subst Good is good in
+      subst Alike (sym is) (each fabric asker (Csr nonce update) s valid (and_parts (length nonce == 32) true good_ones).0 refl)
+  moved_alike known steps good new_is_other (trusts cert is) =
+      let good_ones : (is_certificate cert && true) ≡ true = subst Good is good in
+      subst Alike (sym is) (each fabric asker (AddRoot cert) s valid (and_parts (is_certificate cert) true good_ones).0 refl)
   moved_alike known steps good new_is_other (joins new entries own_ones is) =
       let good_ones = subst Good is good in
       subst Alike (sym is)

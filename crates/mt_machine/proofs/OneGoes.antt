@@ -39,7 +39,8 @@ use Rattle.mt_machine.proofs.Good.{setting_steps}
 use Rattle.mt_machine.proofs.Sparing.{left_alone}
 use Rattle.mt_machine.proofs.Times.{fabrics-stay}
 use Rattle.mt_machine.proofs.Veiled.{steps_same}
-use Rattle.mt_machine.proofs.Writes.{impossible, timed_valid}
+use Rattle.mt_machine.proofs.Counting.{impossible}
+use Rattle.mt_machine.proofs.Writes.{timed_valid}
 
 abbrev LeftOne : NodeState → NodeState → Type 0
 LeftOne s t = (fabric : ℕ) → has_left s t fabric ≡ is_that fabric (gone_between s.fabrics t.fabrics)

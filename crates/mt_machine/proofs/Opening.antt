@@ -1,5 +1,12 @@
 -- The state in which a new node begins is valid.
-use Rattle.std.proofs.Common.{◌≡◌, ℕ, ◌+◌, ◌<◌, ◌≤◌, inl, inr, Bool, true, false, not, ◌&&◌, ◌||◌, ◌==◌, nat_le, List, [], ◌∷◌, ◌++◌, length, Option, Some, None, refl, sym, ◌∙◌, bytes_eq, filter, map, arith}
+use Rattle.mt_model.specs.declared.rows.place.Row.{Row}
+use Rattle.mt_model.specs.declared.messages.status.Status.{Status}
+use Rattle.mt_meta.specs.declared.meta.Meta.{Meta}
+use Rattle.mt_meta.specs.Finding.{find_of}
+use Rattle.mt_model.specs.rows.Sight.{same_place}
+use Rattle.mt_model.specs.rows.Setting.{is_at}
+use Rattle.mt_machine.proofs.Counting.{all-weaker, count-none, counted, impossible, place-itself, place-same}
+use Rattle.std.proofs.Common.{◌≡◌, ℕ, ◌+◌, ◌<◌, ◌≤◌, inl, inr, Bool, true, false, not, ◌&&◌, ◌||◌, ◌==◌, nat_le, List, [], ◌∷◌, ◌++◌, length, Option, Some, None, refl, sym, ap, ◌∙◌, bytes_eq, filter, map, arith, Result, Ok, Err, ◌^◌, nat_lt, subst}
 use Rattle.std.proofs.lemmas.Bool.{and_from, and_parts, both_ways, cases_Bool, false_from_ne_true, eqb-true, eq-eqb, le-leb, leb-true, ltb-true, not_from_false, not-true, or_cases, or_from, or_left, or_parts, or_right}
 use Rattle.std.proofs.lemmas.List.Folds.{list_any-append}
 use Rattle.std.proofs.lemmas.Slice.Eq.{bytes_eq-Decides}
@@ -10,7 +17,7 @@ use Rattle.mt_fabrics.specs.Table.{has_index_up_to}
 use Rattle.mt_meta.specs.Places.{all_places}
 use Rattle.mt_meta.specs.Stored.{first_rows, is_stored}
 use Rattle.mt_meta.specs.Table.{attributes_of, clusters_of, endpoints, extensions_of, globals}
-use Rattle.mt_model.specs.texts.Config.{are_entries, are_fabrics, are_numbered_from, ascend_from, is_of, none_alike, has_identity}
+use Rattle.mt_model.specs.texts.Config.{are_entries, are_fabrics, are_numbered_from, ascend_from, is_of, none_alike, has_identity, are_credentials, is_certificate, is_fabric, is_label}
 use Rattle.mt_model.specs.rows.Order.{are_ascending, fabrics_ascend, rise_above}
 use Rattle.mt_model.specs.declared.tables.access.AclEntry.{AclEntry}
 use Rattle.mt_model.specs.declared.tables.access.Auth.{Auth}
@@ -18,11 +25,11 @@ use Rattle.mt_model.specs.declared.tables.access.Auth.TheVariants.{Pase, Case, G
 use Rattle.mt_model.specs.declared.rows.place.Place.{Place}
 use Rattle.mt_model.specs.declared.texts.config.SessionRow.{SessionRow}
 use Rattle.mt_model.specs.declared.tables.fabric.Fabric.{Fabric}
-use Rattle.mt_subs.specs.Changes.{IsChanges, change_at, unchanged}
-use Rattle.mt_machine.specs.Opened.{live_or_waits, opened_with, session_of, sessions_of, standing_of, with_roots_of}
+use Rattle.mt_subs.specs.Changes.{IsChanges, change_at, unchanged, newest_of}
+use Rattle.mt_machine.specs.Opened.{live_or_waits, opened_with, session_of, sessions_of, standing_of, with_roots_of, first_version, versions_at}
 use Rattle.mt_machine.specs.Effects.{with_root}
 use Rattle.mt_model.specs.declared.node.state.NodeSession.{NodeSession}
-use Rattle.mt_machine.specs.State.{IsValid, follows, has_one_row, is_change_up_to, is_row, is_session, is_used, stands_once, stands_rightly}
+use Rattle.mt_machine.specs.State.{IsValid, follows, has_one_row, is_change_up_to, is_row, is_session, is_used, stands_once, stands_rightly, ItemsAreFew, has_change, instance_of, instances, is_of_attribute, is_unscoped}
 use Rattle.mt_model.specs.tables.Holding.{is_owned, is_root_of}
 
 -- Fabrics.
@@ -72,7 +79,35 @@ rows_stand : list_all (stands_once first_rows) (filter has_one_row all_places) �
 unfolding endpoints clusters_of attributes_of globals extensions_of is_stored
 rows_stand = refl
 
+-- none of them is an item of a scoped list
+is_plain_row : Row → Bool
+is_plain_row row = is_unscoped (find_of row.place)
+
+rows_unscoped : list_all is_plain_row first_rows ≡ true
+unfolding is_plain_row endpoints clusters_of attributes_of globals extensions_of
+rows_unscoped = refl
+
+row_counts : ItemsAreFew first_rows
+unfolding is_plain_row
+row_counts place meta fabric there scoped =
+    le-leb _ _ (omega (arith, counted (is_at place fabric) first_rows, count-none (is_at place fabric) is_plain_row not_at first_rows rows_unscoped))
+  where
+    its_scoped : (found : Result Meta Status) → found ≡ Ok meta → is_unscoped found ≡ false
+    its_scoped (Ok m) is = let same : m ≡ meta = cc in ap not (ap (λ (x : Meta). x.scoped) same ∙ scoped)
+    its_scoped (Err status) is = absurd (cc)
+
+    not_at : (row : Row) → is_plain_row row ≡ true → is_at place fabric row ≡ false
+    not_at row plain = false_from_ne_true (is_at place fabric row) (λ at.
+        let same = place-same row.place place (and_parts (same_place row.place place) (row.fabric == fabric) at).0 in
+        both_ways (is_unscoped (find_of place)) (its_scoped (find_of place) there) (subst (λ (p : Place). is_unscoped (find_of p) ≡ true) same plain))
+
 -- Roots.
+
+-- a fabric's root has its length
+root_formed : (f : Fabric) → is_fabric f ≡ true → is_certificate f.credentials.root ≡ true
+root_formed f form =
+    let given : are_credentials f.credentials ≡ true = (and_parts _ _ (and_parts (are_credentials f.credentials && is_label f.label) (nat_lt f.vendor (2 ^ 16)) form).0).0 in
+    (and_parts _ _ (and_parts _ _ (and_parts _ _ (and_parts _ _ (and_parts _ _ (and_parts _ _ given).0).0).0).0).0).0
 
 pub same_bytes : (a : List ℕ) → bytes_eq a a ≡ true
 same_bytes a = (bytes_eq-Decides a a).1 refl
@@ -195,6 +230,35 @@ changes_counted : (places : List Place) → list_all (is_change_up_to 0) (map (�
 changes_counted [] = refl
 changes_counted (place ∷ places) = changes_counted places
 
+newest_counts : newest_of unchanged ≡ 0
+unfolding endpoints clusters_of attributes_of globals extensions_of
+newest_counts = refl
+
+has_each : (place : Place) (places : List Place) → list_any (same_place place) places ≡ true → has_change (map (λ (p : Place). change_at p 0) places) place ≡ true
+has_each place [] there = impossible there
+has_each place (p ∷ places) there = elim (or_cases (same_place place p) (list_any (same_place place) places) there) [
+  | inl here ↦ or_left _ _ (subst (λ (q : Place). same_place p q ≡ true) (sym (place-same place p here)) (place-itself p))
+  | inr later ↦ or_right _ _ (has_each place places later)
+]
+
+have_each : (all places : List Place) → ((p : Place) → list_any (same_place p) places ≡ true → list_any (same_place p) all ≡ true) → list_all (has_change (map (λ (p : Place). change_at p 0) all)) places ≡ true
+have_each all [] within = refl
+have_each all (place ∷ places) within =
+    and_from _ _ (has_each place all (within place (or_left _ _ (place-itself place)))) (have_each all places (λ p later. within p (or_right _ _ later)))
+
+changes_of_all : list_all (has_change unchanged) all_places ≡ true
+changes_of_all = have_each all_places all_places (λ p there. there)
+
+changes_of_attributes : list_all is_of_attribute unchanged ≡ true
+unfolding endpoints clusters_of attributes_of globals extensions_of
+changes_of_attributes = refl
+
+-- Versions.
+
+versions_stand : map instance_of (versions_at (first_version 1)) ≡ instances
+unfolding endpoints clusters_of
+versions_stand = refl
+
 -- The whole.
 
 pub opens_valid : ((fabrics : List Fabric) → are_numbered_from 1 fabrics ≡ true → fabrics_ascend fabrics ≡ true) → IsChanges unchanged
@@ -204,13 +268,14 @@ opens_valid numbered_ascend none_changed fabrics entries sessions good_fabrics g
     let few : nat_le (length fabrics) 16 ≡ true = grind (arith, good_fabrics) in
     let numbered : are_numbered_from 1 fabrics ≡ true = grind (arith, good_fabrics) in
     let rise = numbered_ascend fabrics numbered in
+    let forms : list_all is_fabric fabrics ≡ true = grind (arith, good_fabrics) in
     let owned : list_all (is_owned fabrics) entries ≡ true = grind (arith, good_entries) in
     let up : ascend_from 0 entries ≡ true = grind (arith, good_entries) in
     record {
       fabric_count = few;
       fabrics_rise = rise;
       indexes = numbered_up_to 16 1 fabrics numbered (omega (arith, leb-true _ _ few));
-      fabric_forms = grind (arith, good_fabrics);
+      fabric_forms = forms;
       identities_differ = grind (arith, good_fabrics);
       labels_differ = grind (arith, good_fabrics);
       entries_rise = from_one fabrics entries rise owned up;
@@ -220,18 +285,27 @@ opens_valid numbered_ascend none_changed fabrics entries sessions good_fabrics g
       rows_rise = rows_rise;
       row_forms = row_forms fabrics;
       rows_stand = rows_stand;
+      row_counts = row_counts;
       roots_differ = roots_differ [] fabrics refl;
+      root_forms = with_roots_used is_certificate [] fabrics refl (all-weaker is_fabric (λ (f : Fabric). is_certificate f.credentials.root) root_formed fabrics forms);
       roots_used = roots_used fabrics;
       network_count = refl;
       network_forms = refl;
       network_ids_differ = refl;
       sessions_stand = sessions_stand fabrics sessions;
       plain_stands = refl;
+      versions_stand = versions_stand;
       count_fits = refl;
       changes_counted = changes_counted all_places;
+      newest_counts = newest_counts;
       changes_stand = none_changed;
+      changes_of_all = changes_of_all;
+      changes_of_attributes = changes_of_attributes;
       failsafe_facts = refl;
+      failsafe_names = refl;
       saved_stand = refl;
+      given_stand = refl;
       sessions_follow = sessions_follow fabrics sessions;
       plain_follow = refl;
+      boot_fits = refl;
     }

@@ -1,5 +1,5 @@
 -- What holds of the parts of a state, where the fabrics are others that have what those had.
-use Rattle.std.proofs.Common.{◌≡◌, ℕ, ◌==◌, ◌&&◌, ◌||◌, inl, inr, is_none, Bool, true, false, List, [], ◌∷◌, Option, Some, None, Result, Ok, Err, refl, sym, ◌∙◌}
+use Rattle.std.proofs.Common.{◌≡◌, ℕ, ◌==◌, ◌&&◌, ◌||◌, inl, inr, is_none, nat_le, Bool, true, false, List, [], ◌∷◌, Option, Some, None, Result, Ok, Err, refl, sym, ◌∙◌}
 use Rattle.std.proofs.lemmas.Bool.{and_from, and_parts, cases_Bool, eqb-false, eqb-true, eq-eqb, ne_eqb, not_from_false, not-true, or_cases, or_left, or_right}
 use Rattle.std.specs.List.{list_any}
 use Rattle.mt_failsafe.specs.Calls.{is_context}
@@ -21,9 +21,9 @@ use Rattle.mt_model.specs.declared.tables.fabric.Credentials.{Credentials}
 use Rattle.mt_model.specs.declared.tables.fabric.Fabric.{Fabric}
 use Rattle.mt_model.specs.declared.tables.network.Armed.{Armed}
 use Rattle.mt_subs.specs.Leaving.{is_live_as}
-use Rattle.mt_machine.specs.State.{is_added, is_among, is_plain_of, is_row, is_row_at, is_row_of, is_updated, keeps_facts, stands_rightly}
+use Rattle.mt_machine.specs.State.{is_added, is_among, is_plain_of, is_row, is_row_at, is_row_of, is_updated, keeps_facts, names_rightly, stands_rightly}
 use Rattle.mt_model.specs.tables.Holding.{is_owned, saves_identity}
-use Rattle.mt_machine.proofs.Writes.{impossible}
+use Rattle.mt_machine.proofs.Counting.{impossible}
 
 pub none-is : {X : Type 0} (o : Option X) → is_none o ≡ true → o ≡ None
 none-is None none = refl
@@ -57,7 +57,7 @@ module _ (fs gs : List Fabric) where
   row_at : (row : Row) (found : Result Meta Status) → (is_among fs row.fabric ≡ true → is_among gs row.fabric ≡ true) → is_row_at fs row found ≡ true → is_row_at gs row found ≡ true
   row_at row (Err status) among at = impossible at
   row_at row (Ok meta) among at =
-      let both = and_parts (has_form meta.kind meta.limit row.value) (is_row_of fs meta.scoped row.fabric) at in
+      let both = and_parts (has_form meta row.fabric row.value) (is_row_of fs meta.scoped row.fabric) at in
       and_from _ _ both.0 (row_of meta.scoped row.fabric among both.1)
 
   pub row-among : (row : Row) → (is_among fs row.fabric ≡ true → is_among gs row.fabric ≡ true) → is_row fs row ≡ true → is_row gs row ≡ true
@@ -70,6 +70,13 @@ module _ (fs gs : List Fabric) where
     | inl none ↦ or_left _ _ none
     | inr there ↦ or_right _ _ (among there)
   ]
+
+  -- whom the fail-safe names is known still
+  pub names-still : (armed : Option Armed) → ((n : ℕ) → is_context n armed ≡ true → is_among fs n ≡ true → is_among gs n ≡ true) → names_rightly fs armed ≡ true → names_rightly gs armed ≡ true
+  names-still None among names = refl
+  names-still (Some armed) among names =
+      let both = and_parts (nat_le armed.owner 16) (armed.context == 0 || is_among fs armed.context) names in
+      and_from _ _ both.0 (either-among armed.context (among armed.context (eq-eqb armed.context armed.context refl)) both.1)
 
   pub stands-still : (session : NodeSession) (auth : Auth) (standing : Standing)
       → ((n : ℕ) → is_live_as n standing ≡ true → is_among fs n ≡ true → is_among gs n ≡ true)

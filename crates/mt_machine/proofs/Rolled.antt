@@ -1,5 +1,5 @@
 -- What an expiry leaves of a valid state is valid.
-use Rattle.std.proofs.Common.{◌≡◌, ℕ, ◌≤◌, ◌==◌, ◌&&◌, ◌||◌, inl, inr, not, nat_le, nat_lt, is_some, bytes_eq, Bool, true, false, List, [], ◌∷◌, Option, Some, None, Result, Ok, Err, length, refl, sym, ap, ◌∙◌, subst, filter, map, arith}
+use Rattle.std.proofs.Common.{◌≡◌, ℕ, ◌≤◌, ◌==◌, ◌&&◌, ◌||◌, inl, inr, not, nat_le, nat_lt, is_some, bytes_eq, Bool, true, false, List, [], ◌∷◌, Option, Some, None, Result, Ok, Err, length, refl, sym, ap, ◌∙◌, subst, filter, map, arith, ◌^◌}
 use Rattle.std.proofs.lemmas.Bool.{and_from, and_parts, cases_Bool, eqb-true, eq-eqb, leb-true, le-leb, lt-ltb, ltb-true, not-true, or_cases, or_left, or_parts, or_right, or_from}
 use Rattle.std.proofs.lemmas.List.Folds.{list_all-map}
 use Rattle.std.proofs.lemmas.Slice.Eq.{bytes_eq-Decides}
@@ -12,7 +12,7 @@ use Rattle.mt_meta.specs.Finding.{find_of}
 use Rattle.mt_meta.specs.Places.{all_places}
 use Rattle.mt_model.specs.rows.Order.{are_ascending, fabrics_ascend, rise_above}
 use Rattle.mt_model.specs.tables.Leaving.{stays}
-use Rattle.mt_model.specs.texts.Config.{are_credentials, ascend_from, has_identity, have_one_identity, have_one_label, is_entry, is_fabric, is_label, is_of, none_alike}
+use Rattle.mt_model.specs.texts.Config.{are_credentials, ascend_from, has_identity, have_one_identity, have_one_label, is_entry, is_fabric, is_label, is_of, none_alike, is_certificate}
 use Rattle.mt_model.specs.rows.Setting.{is_entry_of, with_entries, with_rows}
 use Rattle.mt_model.specs.rows.Sight.{stands_at}
 use Rattle.mt_model.specs.declared.node.action.NodeStep.TheVariants.{SetRow}
@@ -37,7 +37,8 @@ use Rattle.mt_machine.specs.Rollback.{breadcrumb, ends, fabrics_behind, given_ba
 use Rattle.mt_opcreds.specs.Laws.{are_credentials_if}
 use Rattle.mt_machine.specs.State.{IsValid, are_networks, follows, has_entries_up_to, has_one_row, is_added, is_among, is_row, is_row_at, is_row_of, is_session, is_unscoped, is_updated, is_used, keeps_facts, saves_rightly, stands_once, stands_rightly}
 use Rattle.mt_model.specs.tables.Holding.{have_one_id, is_network, is_owned, is_root_of, saves_identity}
-use Rattle.mt_machine.proofs.Writes.{all-filter, all-kept, all-weaker, after_step, impossible, members_are_positive, nobodys, place-same}
+use Rattle.mt_machine.proofs.Counting.{all-filter, all-kept, all-weaker, impossible, place-same, few-filter}
+use Rattle.mt_machine.proofs.Writes.{after_step, members_are_positive, nobodys}
 use Rattle.mt_machine.specs.Taking.{fits}
 
 -- Lists of which some stay.
@@ -352,7 +353,9 @@ module _
   given_forms None c are f form = form
   given_forms (Some u) None are f form = form
   given_forms (Some u) (Some c) are f form = elim (cases_Bool (f.index == u)) [
-    | inl this ↦ rw this (and_from _ _ are (and_parts (are_credentials f.credentials) (is_label f.label) form).1)
+    | inl this ↦
+        let outer = and_parts (are_credentials f.credentials && is_label f.label) (nat_lt f.vendor (2 ^ 16)) form in
+        rw this (and_from _ _ (and_from _ _ are (and_parts (are_credentials f.credentials) (is_label f.label) outer.0).1) outer.1)
     | inr other ↦ rw other form
   ]
 
@@ -367,7 +370,7 @@ module _
   row_at_left : (row : Row) (found : Result Meta Status) → stays added row.fabric ≡ true → is_row_at s.fabrics row found ≡ true → is_row_at left row found ≡ true
   row_at_left row (Err status) stay at = impossible at
   row_at_left row (Ok meta) stay at =
-      let both = and_parts (has_form meta.kind meta.limit row.value) (is_row_of s.fabrics meta.scoped row.fabric) at in
+      let both = and_parts (has_form meta row.fabric row.value) (is_row_of s.fabrics meta.scoped row.fabric) at in
       and_from _ _ both.0 (row_of_left meta.scoped row.fabric stay both.1)
 
   row_left : (row : Row) → stays added row.fabric ≡ true → is_row s.fabrics row ≡ true → is_row left row ≡ true
@@ -498,20 +501,29 @@ module _
     rows_rise = rows_stay (λ (row : Row). stays added row.fabric) s.rows valid.rows_rise;
     row_forms = all-staying (is_row s.fabrics) (is_row left) (λ (row : Row). stays added row.fabric) row_left s.rows valid.row_forms;
     rows_stand = all-kept (stands_once s.rows) (stands_once rows_left) has_one_row stands_left all_places valid.rows_stand;
+    row_counts = few-filter (λ (row : Row). stays added row.fabric) s.rows valid.row_counts;
     roots_differ = none-filter bytes_eq (λ (root : List ℕ). list_any (is_root_of root) left) s.roots valid.roots_differ;
+    root_forms = all-filter is_certificate (λ (root : List ℕ). list_any (is_root_of root) left) s.roots valid.root_forms;
     roots_used = all-passed (λ (root : List ℕ). list_any (is_root_of root) left) (is_used left None) root_used s.roots;
     network_count = networks_apart;
     network_forms = (and_parts (list_all is_network armed.saved_networks) (none_alike have_one_id armed.saved_networks) networks_forms).0;
     network_ids_differ = (and_parts (list_all is_network armed.saved_networks) (none_alike have_one_id armed.saved_networks) networks_forms).1;
     sessions_stand = list_all-map (is_session left) (session_behind armed) s.sessions ∙ all-weaker (is_session s.fabrics) (λ session. is_session left (session_behind armed session)) session_stands s.sessions valid.sessions_stand;
     plain_stands = refl;
+    versions_stand = valid.versions_stand;
     count_fits = valid.count_fits;
     changes_counted = valid.changes_counted;
+    newest_counts = valid.newest_counts;
     changes_stand = valid.changes_stand;
+    changes_of_all = valid.changes_of_all;
+    changes_of_attributes = valid.changes_of_attributes;
     failsafe_facts = refl;
+    failsafe_names = refl;
     saved_stand = refl;
+    given_stand = refl;
     sessions_follow = all-sessions s.sessions;
     plain_follow = refl;
+    boot_fits = valid.boot_fits;
   }
 
 -- The whole rollback.

@@ -32,7 +32,7 @@ use Rattle.mt_machine.specs.State.{IsValid, follows, is_added, is_updated, keeps
 use Rattle.mt_machine.proofs.Order.{from_zero}
 use Rattle.mt_machine.proofs.Rolled.{given-index}
 use Rattle.mt_machine.proofs.Steps.{own-kept}
-use Rattle.mt_machine.proofs.Writes.{impossible}
+use Rattle.mt_machine.proofs.Counting.{impossible}
 
 -- what passes one test and so stays, is the same whether others stay
 pub both-filters : {X : Type 0} (mine keep : X → Bool) → ((x : X) → mine x ≡ true → keep x ≡ true) → (xs : List X) → filter mine (filter keep xs) ≡ filter mine xs

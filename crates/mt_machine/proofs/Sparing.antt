@@ -1,5 +1,5 @@
 -- What the steps of commands of commissioning leave of the own part of another fabric that stays where it is: all of it.
-use Rattle.std.proofs.Common.{◌≡◌, ℕ, ◌==◌, ◌&&◌, ◌||◌, ◌++◌, inl, inr, not, is_none, is_some, Bool, true, false, List, [], ◌∷◌, Option, Some, None, Result, Ok, Err, option_map, refl, sym, ap, ◌∙◌, subst, filter, arith, if◌then◌else◌}
+use Rattle.std.proofs.Common.{◌≡◌, ℕ, ◌==◌, ◌&&◌, ◌||◌, ◌++◌, inl, inr, not, is_none, is_some, Bool, true, false, List, [], ◌∷◌, Option, Some, None, Result, Ok, Err, option_map, length, refl, sym, ap, ◌∙◌, subst, filter, arith, if◌then◌else◌}
 use Rattle.std.proofs.lemmas.Bool.{and_from, and_parts, cases_Bool, eqb-true, false_from_ne_true}
 use Rattle.std.specs.List.{list_all}
 use Rattle.mt_failsafe.specs.Notes.{was_added, was_updated}
@@ -17,7 +17,7 @@ use Rattle.mt_meta.specs.Stored.{is_stored}
 use Rattle.mt_meta.specs.declared.meta.Meta.{Meta}
 use Rattle.mt_model.specs.tables.Leaving.{stays}
 use Rattle.mt_model.specs.declared.messages.status.Status.{Status}
-use Rattle.mt_model.specs.texts.Config.{are_credentials, ascend_from, is_fabric, is_label}
+use Rattle.mt_model.specs.texts.Config.{are_credentials, ascend_from, is_certificate, is_fabric, is_label}
 use Rattle.mt_model.specs.declared.node.action.NodeStep.{NodeStep}
 use Rattle.mt_model.specs.declared.node.action.NodeStep.TheVariants.{SetRow, SetEntries, PutNetwork, RemoveNetwork, ConnectNetwork, MoveNetwork, Arm, Renew, Expire, Complete, AddRoot, Csr, AddFabric, UpdateFabric, RemoveFabric, Label, Emit}
 use Rattle.mt_model.specs.declared.node.state.NodeState.{NodeState}
@@ -39,12 +39,12 @@ use Rattle.mt_machine.specs.Taking.{may_take}
 use Rattle.mt_machine.specs.Touching.{StaysThere, may_touch}
 use Rattle.mt_machine.proofs.Expired.{among-behind}
 use Rattle.mt_machine.proofs.Knowing.{used-known}
-use Rattle.mt_machine.proofs.Moving.{among_joined, may_be_added, step_taken}
+use Rattle.mt_machine.proofs.Moving.{among_joined, may_be_added, named_first, step_taken}
 use Rattle.mt_machine.proofs.Order.{from_zero}
 use Rattle.mt_machine.proofs.Steps.{is_step_of, own-kept}
 use Rattle.mt_machine.proofs.Untouched.{untouched}
 use Rattle.mt_machine.proofs.ValidParts.{its_fabrics, table_of}
-use Rattle.mt_machine.proofs.Writes.{impossible}
+use Rattle.mt_machine.proofs.Counting.{impossible}
 
 -- Who leaves.
 
@@ -309,12 +309,12 @@ module _ (fabric writer : ℕ) (apart : (writer == fabric) ≡ false) where
         rows_its (Label index label ∷ steps) sound sets = impossible sets
         rows_its (Emit place priority whose value ∷ steps) sound sets = impossible sets
 
-        pub commission_kept : (asker : Option Actor) (steps : List NodeStep) → list_all is_sound steps ≡ true → commission.sets_values_behind steps ≡ true → Kept asker steps s
-        commission_kept asker [] sound behind there = refl
-        commission_kept asker (step ∷ steps) sound behind there =
+        pub commission_kept : (writer == 0 || is_among s.fabrics writer) ≡ true → (asker : Option Actor) (steps : List NodeStep) → list_all is_sound steps ≡ true → commission.sets_values_behind steps ≡ true → Kept asker steps s
+        commission_kept known asker [] sound behind there = refl
+        commission_kept known asker (step ∷ steps) sound behind there =
             let both = and_parts (is_sound step) (list_all is_sound steps) sound in
             let alone = left_alone asker steps (after asker step s) behind in
-            values_kept writer asker steps (after asker step s) apart (still asker step s valid (step_taken networks (option_map bare_armed s.armed) writer step s both.0)) (rows_its steps both.1 behind)
+            values_kept writer asker steps (after asker step s) apart (still asker step s valid (step_taken networks (option_map bare_armed s.armed) writer step s (named_first networks (option_map bare_armed s.armed) writer s.fabrics step known both.0) both.0)) (rows_its steps both.1 behind)
             ∙ first_kept asker step (after_all asker (step ∷ steps) s) both.0 there alone.fabrics alone.armed
 
       -- Operational Credentials.
@@ -335,7 +335,7 @@ module _ (fabric writer : ℕ) (apart : (writer == fabric) ≡ false) where
             impossible (sym unused ∙ ap (is_among s.fabrics) is_new ∙ sym there.member ∙ now)) in
             let some : (fabric == 0) ≡ false = false_from_ne_true (fabric == 0) (λ zero. impossible (joining_arms asker new s may.0 (there.nobody (eqb-true fabric 0 zero)))) in
             let untouched_by : (fabric == 0 || fabric == least_unused s.fabrics) ≡ false = rw some (turned new.index (least_unused s.fabrics) fabric its_index other) in
-            values_kept new.index asker (SetEntries new.index entries ∷ []) (after asker (AddFabric new) s) other (still asker (AddFabric new) s valid good) (and_from _ _ (and_from _ _ (same_number new.index) its) refl)
+            values_kept new.index asker (SetEntries new.index entries ∷ []) (after asker (AddFabric new) s) other (still asker (AddFabric new) s valid (and_from _ _ good refl)) (and_from _ _ (and_from _ _ (same_number new.index) its) refl)
             ∙ touches_not asker (AddFabric new) s valid good untouched_by
 
         abbrev Good : List NodeStep → Type 0
@@ -356,8 +356,12 @@ module _ (fabric writer : ℕ) (apart : (writer == fabric) ≡ false) where
 
         pub moved_kept : (steps : List NodeStep) → Good steps → Fit steps → IsMove known writer steps → Kept asker steps s
         moved_kept steps good fit (nothing is) = subst (λ l. Kept asker l s) (sym is) (λ there. refl)
-        moved_kept steps good fit (requests nonce update is) = subst (λ l. Kept asker l s) (sym is) (λ there. touches_not asker (Csr nonce update) s valid refl refl)
-        moved_kept steps good fit (trusts cert is) = subst (λ l. Kept asker l s) (sym is) (λ there. touches_not asker (AddRoot cert) s valid refl refl)
+        moved_kept steps good fit (requests nonce update is) =
+            let good_ones : (length nonce == 32 && true) ≡ true = subst Good is good in
+            subst (λ l. Kept asker l s) (sym is) (λ there. touches_not asker (Csr nonce update) s valid (and_parts (length nonce == 32) true good_ones).0 refl)
+        moved_kept steps good fit (trusts cert is) =
+            let good_ones : (is_certificate cert && true) ≡ true = subst Good is good in
+            subst (λ l. Kept asker l s) (sym is) (λ there. touches_not asker (AddRoot cert) s valid (and_parts (is_certificate cert) true good_ones).0 refl)
         moved_kept steps good fit (joins new entries own_ones is) =
             let good_ones = subst Good is good in
             let fit_ones = subst Fit is fit in

@@ -29,7 +29,7 @@ use Rattle.mt_machine.specs.Step.{after_steps, asked_steps, asker, asker_of, at_
 use Rattle.mt_machine.specs.Telling.{is_told_as, is_told_to, joined_between, joining_events, leaving_events, told_between}
 use Rattle.mt_machine.proofs.Asked.{asked_by, asker_asks, asker_known, is_asker, is_known}
 use Rattle.mt_machine.proofs.Times.{fabrics-stay, gone_none}
-use Rattle.mt_machine.proofs.Writes.{all-weaker, impossible}
+use Rattle.mt_machine.proofs.Counting.{all-weaker, impossible}
 
 -- The asker's own steps tell it alone.
 own_told : (actor : Actor) (step : NodeStep) → is_own_step actor step ≡ true → is_told_to actor step ≡ true

@@ -36,7 +36,7 @@ use Rattle.mt_machine.specs.Rollback.{rolled_back}
 use Rattle.mt_machine.specs.State.{IsValid, follows, is_added, is_updated, keeps_facts, plain_follows}
 use Rattle.mt_machine.specs.Touching.{may_touch}
 use Rattle.mt_machine.proofs.Spared.{both-filters, spared, stays-other}
-use Rattle.mt_machine.proofs.Writes.{impossible}
+use Rattle.mt_machine.proofs.Counting.{impossible}
 
 -- Lists.
 

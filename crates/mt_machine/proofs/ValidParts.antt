@@ -5,7 +5,7 @@ use Rattle.std.specs.List.{list_all}
 use Rattle.mt_fabrics.specs.Table.{IsTable, has_index_up_to}
 use Rattle.mt_meta.specs.Places.{all_places}
 use Rattle.mt_model.specs.rows.Order.{are_ascending, fabrics_ascend}
-use Rattle.mt_model.specs.texts.Config.{ascend_from, have_one_identity, have_one_label, is_entry, is_fabric, none_alike}
+use Rattle.mt_model.specs.texts.Config.{ascend_from, have_one_identity, have_one_label, is_certificate, is_entry, is_fabric, none_alike}
 use Rattle.mt_model.specs.declared.node.state.NodeSession.{NodeSession}
 use Rattle.mt_model.specs.declared.node.state.NodeState.{NodeState}
 use Rattle.mt_model.specs.declared.rows.place.Row.{Row}
@@ -13,7 +13,7 @@ use Rattle.mt_model.specs.declared.tables.access.AclEntry.{AclEntry}
 use Rattle.mt_model.specs.declared.tables.fabric.Fabric.{Fabric}
 use Rattle.mt_model.specs.declared.tables.network.Armed.{Armed}
 use Rattle.mt_model.specs.declared.tables.network.Network.{Network}
-use Rattle.mt_machine.specs.State.{IsValid, are_networks, follows, has_entries_up_to, has_one_row, is_plain_of, is_row, is_session, is_used, keeps_facts, plain_follows, saves_rightly, stands_once}
+use Rattle.mt_machine.specs.State.{IsValid, ItemsAreFew, are_networks, follows, has_entries_up_to, has_one_row, is_plain_of, is_row, is_session, is_used, keeps_facts, names_rightly, plain_follows, saves_rightly, stands_once, was_given_rightly}
 use Rattle.mt_model.specs.tables.Holding.{have_one_id, is_network, is_owned}
 
 pub record FabricsHold (fabrics : List Fabric) : Type 0 where
@@ -34,9 +34,11 @@ pub record RowsHold (fabrics : List Fabric) (rows : List Row) : Type 0 where
   pub rise : are_ascending rows ≡ true
   pub forms : list_all (is_row fabrics) rows ≡ true
   pub stand : list_all (stands_once rows) (filter has_one_row all_places) ≡ true
+  pub few : ItemsAreFew rows
 
 pub record RootsHold (fabrics : List Fabric) (armed : Option Armed) (roots : List (List ℕ)) : Type 0 where
   pub differ : none_alike bytes_eq roots ≡ true
+  pub forms : list_all is_certificate roots ≡ true
   pub used : list_all (is_used fabrics armed) roots ≡ true
 
 pub record SessionsHold (fabrics : List Fabric) (armed : Option Armed) (sessions : List NodeSession) : Type 0 where
@@ -49,7 +51,9 @@ pub record PlainHolds (fabrics : List Fabric) (armed : Option Armed) (plain : Op
 
 pub record ArmedHolds (fabrics : List Fabric) (armed : Option Armed) : Type 0 where
   pub facts : keeps_facts fabrics armed ≡ true
+  pub names : names_rightly fabrics armed ≡ true
   pub saved : saves_rightly armed ≡ true
+  pub given : was_given_rightly armed ≡ true
 
 -- The parts of a valid state.
 module _ (s : NodeState) (valid : IsValid s) where
@@ -60,10 +64,10 @@ module _ (s : NodeState) (valid : IsValid s) where
   its_entries = record { rise = valid.entries_rise; forms = valid.entry_forms; owned = valid.entries_owned; few = valid.entry_counts }
 
   pub its_rows : RowsHold s.fabrics s.rows
-  its_rows = record { rise = valid.rows_rise; forms = valid.row_forms; stand = valid.rows_stand }
+  its_rows = record { rise = valid.rows_rise; forms = valid.row_forms; stand = valid.rows_stand; few = valid.row_counts }
 
   pub its_roots : RootsHold s.fabrics s.armed s.roots
-  its_roots = record { differ = valid.roots_differ; used = valid.roots_used }
+  its_roots = record { differ = valid.roots_differ; forms = valid.root_forms; used = valid.roots_used }
 
   pub its_networks : are_networks s.networks ≡ true
   its_networks = and_from _ _ valid.network_count (and_from _ _ valid.network_forms valid.network_ids_differ)
@@ -75,7 +79,7 @@ module _ (s : NodeState) (valid : IsValid s) where
   its_plain = record { stands = valid.plain_stands; follows = valid.plain_follow }
 
   pub its_armed : ArmedHolds s.fabrics s.armed
-  its_armed = record { facts = valid.failsafe_facts; saved = valid.saved_stand }
+  its_armed = record { facts = valid.failsafe_facts; names = valid.failsafe_names; saved = valid.saved_stand; given = valid.given_stand }
 
 -- A state that differs from a valid one in such parts.
 pub with-parts : (s : NodeState) → IsValid s
@@ -99,20 +103,29 @@ with-parts s valid fabrics entries rows roots networks armed sessions plain f e 
       rows_rise = r.rise;
       row_forms = r.forms;
       rows_stand = r.stand;
+      row_counts = r.few;
       roots_differ = t.differ;
+      root_forms = t.forms;
       roots_used = t.used;
       network_count = count_and.0;
       network_forms = forms_and.0;
       network_ids_differ = forms_and.1;
       sessions_stand = c.stand;
       plain_stands = p.stands;
+      versions_stand = valid.versions_stand;
       count_fits = valid.count_fits;
       changes_counted = valid.changes_counted;
+      newest_counts = valid.newest_counts;
       changes_stand = valid.changes_stand;
+      changes_of_all = valid.changes_of_all;
+      changes_of_attributes = valid.changes_of_attributes;
       failsafe_facts = a.facts;
+      failsafe_names = a.names;
       saved_stand = a.saved;
+      given_stand = a.given;
       sessions_follow = c.follow;
       plain_follow = p.follows;
+      boot_fits = valid.boot_fits;
     }
 
 -- The fabrics as the table of which other laws speak.

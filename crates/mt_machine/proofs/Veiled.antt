@@ -14,7 +14,7 @@ use Rattle.mt_model.specs.declared.texts.recording.Event.{Event}
 use Rattle.mt_model.specs.declared.texts.recording.Event.TheVariants as events
 use Rattle.mt_model.specs.declared.messages.status.Status.TheVariants.{Busy, Timeout}
 use Rattle.mt_machine.specs.Isolation.{Own, own, own_of_whole, veil, veil_of_whole}
-use Rattle.mt_machine.specs.Lines.{action_of, behind_action, deadline_for, deadline_of, deadlines_after, deadlines_of_those_left, fabric_of, is_refused, is_tick, is_timed, line_reply, next, next_for, sent, sent_as, sent_for, sent_to}
+use Rattle.mt_machine.specs.Lines.{action_of, behind_action, deadline_for, deadline_of, deadlines_after, deadlines_of_those_left, fabric_of, is_refused, is_tick, is_timed, line_reply, next_for, plain_next, plain_sent, sent_as, sent_for, sent_to}
 use Rattle.mt_machine.specs.Environment.{Environment}
 use Rattle.mt_machine.specs.Leaving.{has_left}
 use Rattle.mt_machine.specs.Touching.{StaysThere}
@@ -209,7 +209,7 @@ module _ (given : Environment) where
   whole-again : (fabric : ℕ) (s : State) → IsValid s.node → own_of_whole fabric (veil_of_whole fabric s) ≡ own_of_whole fabric s
   whole-again fabric s valid = λ i. record { node = own-again fabric s.node valid.fabrics_rise i; deadlines = own_twice fabric s.deadlines i }
 
-  pub sends_on_veil : (s : State) (e : Event) → IsValid s.node → sent given (veil_of_whole (fabric_of s.node e) s) e ≡ sent given s e
+  pub sends_on_veil : (s : State) (e : Event) → IsValid s.node → plain_sent given (veil_of_whole (fabric_of s.node e) s) e ≡ plain_sent given s e
   sends_on_veil s (events.Ask ms fabric node cats opcode payload) valid =
       by_line s.node valid (λ f actor. sent_for given (veil_of_whole f s) actor ms (request_in opcode payload) ≡ sent_for given s actor ms (request_in opcode payload))
       (λ actor asking on_veil on_state. sends_same s valid actor asking on_veil on_state ms (request_in opcode payload))
@@ -221,7 +221,7 @@ module _ (given : Environment) where
   sends_on_veil s (events.Resend ms session) valid = refl
   sends_on_veil s (events.Stop calls fate) valid = refl
 
-  pub leaves_on_veil : (s : State) (e : Event) → IsValid s.node → AlikeOn s.node → own_of_whole (fabric_of s.node e) (next given (veil_of_whole (fabric_of s.node e) s) e) ≡ own_of_whole (fabric_of s.node e) (next given s e)
+  pub leaves_on_veil : (s : State) (e : Event) → IsValid s.node → AlikeOn s.node → own_of_whole (fabric_of s.node e) (plain_next given (veil_of_whole (fabric_of s.node e) s) e) ≡ own_of_whole (fabric_of s.node e) (plain_next given s e)
   leaves_on_veil s (events.Ask ms fabric node cats opcode payload) valid alike =
       by_line s.node valid (λ f actor. own_of_whole f (next_for given (veil_of_whole f s) actor ms (request_in opcode payload)) ≡ own_of_whole f (next_for given s actor ms (request_in opcode payload)))
       (λ actor asking on_veil on_state. leaves_same s valid actor asking on_veil on_state alike ms (request_in opcode payload))
@@ -267,7 +267,7 @@ module _ (given : Environment) where
               ∙ ap (λ (o : Option Actor). own_deadlines fabric (deadlines_after o s.deadlines ms asked)) is ∙ kept_by fabric asking other s.deadlines ms asked) i;
         }
 
-    pub keeps_own : (e : Event) → is_tick e ≡ false → fabric ≢ fabric_of s.node e → StaysThere fabric s.node (next given s e).node → own_of_whole fabric (next given s e) ≡ own_of_whole fabric s
+    pub keeps_own : (e : Event) → is_tick e ≡ false → fabric ≢ fabric_of s.node e → StaysThere fabric s.node (plain_next given s e).node → own_of_whole fabric (plain_next given s e) ≡ own_of_whole fabric s
     keeps_own (events.Ask ms other node cats opcode payload) no_tick differ there =
         by_line s.node valid (λ f actor. fabric ≢ f → StaysThere fabric s.node (next_for given s actor ms (request_in opcode payload)).node → own_of_whole fabric (next_for given s actor ms (request_in opcode payload)) ≡ own_of_whole fabric s)
         (λ actor asking on_veil on_state apart stay. kept_whole actor asking ms (request_in opcode payload) on_state (not_equal fabric asking.fabric apart) stay)

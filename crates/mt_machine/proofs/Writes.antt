@@ -1,6 +1,6 @@
 -- The steps of a write leave a state valid.
-use Rattle.std.proofs.Common.{◌≡◌, ℕ, suc, ◌+◌, ◌-◌, ◌<◌, ◌≤◌, ◌^◌, inl, inr, Bool, true, false, not, ◌&&◌, ◌||◌, ◌==◌, nat_le, nat_lt, List, [], ◌∷◌, ◌++◌, length, Option, Result, Ok, Err, refl, sym, ap, ◌∙◌, subst, filter, map, length-append, if◌then◌else◌, arith}
-use Rattle.std.proofs.lemmas.Bool.{and_from, and_parts, and_right, cases_Bool, cases_order, eqb-false, eqb-true, eq-eqb, leb-true, le-leb, le-ltb, lt-ltb, ltb-true, ne_eqb, not-true, or_cases, or_left, or_right}
+use Rattle.std.proofs.Common.{is_ok, ◌≡◌, ℕ, suc, ◌+◌, ◌-◌, ◌<◌, ◌≤◌, ◌^◌, inl, inr, Bool, true, false, not, ◌&&◌, ◌||◌, ◌==◌, nat_le, nat_lt, List, [], ◌∷◌, ◌++◌, length, Option, Result, Ok, Err, refl, sym, ap, ◌∙◌, subst, filter, map, length-append, if◌then◌else◌, arith}
+use Rattle.std.proofs.lemmas.Bool.{and_from, and_parts, and_right, cases_Bool, cases_order, cond_both, eqb-false, eqb-true, eq-eqb, leb-true, le-leb, le-ltb, lt-ltb, ltb-true, ne_eqb, not-true, or_cases, or_left, or_right}
 use Rattle.std.proofs.lemmas.Grind.{common_steps}
 use Rattle.std.proofs.lemmas.List.Elements.{filter-append}
 use Rattle.std.proofs.lemmas.List.Folds.{list_all-append, list_all-map}
@@ -29,139 +29,15 @@ use Rattle.mt_model.specs.declared.node.state.ChangeNumber.{ChangeNumber}
 use Rattle.mt_model.specs.declared.node.state.NodeState.{NodeState}
 use Rattle.mt_model.specs.declared.node.state.Version.{Version}
 use Rattle.mt_model.specs.declared.messages.status.Status.{Status}
-use Rattle.mt_write.specs.Laws.{are_entries_of, is_entry_of, is_sound_row}
+use Rattle.mt_write.specs.Laws.{are_as_many, are_entries_of, is_entry_of, is_sound_row}
 use Rattle.mt_subs.specs.Changes as subs
 use Rattle.mt_subs.specs.Changes.{IsChanges, is_other_change, newest_of, noted}
-use Rattle.mt_machine.specs.Changes.{changed_at, count_after, next_change, noted_all, version_after}
+use Rattle.mt_machine.specs.Changes.{changed_at, count_after, is_within, next_change, next_version, noted_all, version_after}
 use Rattle.mt_machine.specs.Effects.{after}
 use Rattle.mt_machine.specs.Taking.{fits, fits_row}
-use Rattle.mt_machine.specs.State.{IsValid, has_entries_up_to, has_one_row, is_among, is_change_up_to, is_row, is_row_at, is_row_of, is_unscoped, stands_once}
+use Rattle.mt_machine.specs.State.{IsValid, ItemsAreFew, has_change, has_entries_up_to, has_one_row, instance_of, instances, is_among, is_change_up_to, is_of_attribute, is_row, is_row_at, is_row_of, is_unscoped, stands_once}
 use Rattle.mt_model.specs.tables.Holding.{is_owned}
-
--- Lists.
-
-pub impossible : {A : Type 0} → false ≡ true → A
-impossible h = absurd cc
-
-pub all-filter : {X : Type 0} (p keep : X → Bool) (xs : List X) → list_all p xs ≡ true → list_all p (filter keep xs) ≡ true
-all-filter p keep [] all = refl
-all-filter p keep (x ∷ xs) all =
-    let both = and_parts (p x) (list_all p xs) all in
-    elim (cases_Bool (keep x)) [
-      | inl kept ↦ rw kept (and_from _ _ both.0 (all-filter p keep xs both.1))
-      | inr gone ↦ rw gone (all-filter p keep xs both.1)
-    ]
-
--- those that are kept pass another test, if each that is kept and passes the first does
-pub all-kept : {X : Type 0} (p q keep : X → Bool) → ((x : X) → keep x ≡ true → p x ≡ true → q x ≡ true) → (xs : List X) → list_all p (filter keep xs) ≡ true → list_all q (filter keep xs) ≡ true
-all-kept p q keep each [] all = refl
-all-kept p q keep each (x ∷ xs) all = elim (cases_Bool (keep x)) [
-  | inl kept ↦
-      let here : (p x && list_all p (filter keep xs)) ≡ true = rw kept at all in
-      let both = and_parts (p x) (list_all p (filter keep xs)) here in
-      rw kept (and_from _ _ (each x kept both.0) (all-kept p q keep each xs both.1))
-  | inr gone ↦
-      let rest : list_all p (filter keep xs) ≡ true = rw gone at all in
-      rw gone (all-kept p q keep each xs rest)
-]
-
-pub all-weaker : {X : Type 0} (p q : X → Bool) → ((x : X) → p x ≡ true → q x ≡ true) → (xs : List X) → list_all p xs ≡ true → list_all q xs ≡ true
-all-weaker p q each [] all = refl
-all-weaker p q each (x ∷ xs) all = let both = and_parts (p x) (list_all p xs) all in and_from _ _ (each x both.0) (all-weaker p q each xs both.1)
-
-pub any-weaker : {X : Type 0} (p q : X → Bool) → ((x : X) → p x ≡ true → q x ≡ true) → (xs : List X) → list_any p xs ≡ true → list_any q xs ≡ true
-any-weaker p q each [] any = impossible any
-any-weaker p q each (x ∷ xs) any = elim (or_cases (p x) (list_any p xs) any) [
-  | inl here ↦ or_left _ _ (each x here)
-  | inr later ↦ or_right _ _ (any-weaker p q each xs later)
-]
-
-pub all-three : {X : Type 0} (p : X → Bool) (a b c : List X) → list_all p a ≡ true → list_all p b ≡ true → list_all p c ≡ true → list_all p (a ++ (b ++ c)) ≡ true
-all-three p a b c first second third = list_all-append p a (b ++ c) ∙ and_from _ _ first (list_all-append p b c ∙ and_from _ _ second third)
-
--- How many pass.
-
-abbrev count : {X : Type 0} → (X → Bool) → List X → ℕ
-count p xs = length (filter p xs)
-
-counted : {X : Type 0} (p : X → Bool) (xs : List X) → count_by p xs ≡ count p xs
-counted p xs = sym (length-filter p xs)
-
-count-three : {X : Type 0} (p : X → Bool) (a b c : List X) → count p (a ++ (b ++ c)) ≡ count p a + (count p b + count p c)
-count-three p a b c = ap length (filter-append p a (b ++ c) ∙ ap (λ xs. filter p a ++ xs) (filter-append p b c)) ∙ simp length-append
-
-count-none : {X : Type 0} (p good : X → Bool) → ((x : X) → good x ≡ true → p x ≡ false) → (xs : List X) → list_all good xs ≡ true → count p xs ≡ 0
-count-none p good each [] all = refl
-count-none p good each (x ∷ xs) all =
-    let both = and_parts (good x) (list_all good xs) all in
-    rw (each x both.0) (count-none p good each xs both.1)
-
--- none of those that are kept
-count-gone : {X : Type 0} (p good keep : X → Bool) → ((x : X) → good x ≡ true → p x ≡ true → keep x ≡ false) → (xs : List X) → list_all good xs ≡ true → count p (filter keep xs) ≡ 0
-count-gone p good keep each [] all = refl
-count-gone p good keep each (x ∷ xs) all =
-    let both = and_parts (good x) (list_all good xs) all in
-    let rest = count-gone p good keep each xs both.1 in
-    elim (cases_Bool (p x)) [
-      | inl passes ↦ rw (each x both.0 passes) rest
-      | inr fails ↦ elim (cases_Bool (keep x)) [
-        | inl kept ↦ rw (kept, fails) rest
-        | inr gone ↦ rw gone rest
-      ]
-    ]
-
--- of two parts of a list to one of which each belongs that passes
-count-apart : {X : Type 0} (p low high : X → Bool) → ((x : X) → p x ≡ true → high x ≡ not (low x)) → (xs : List X) → count p (filter low xs) + count p (filter high xs) ≡ count p xs
-count-apart p low high each [] = refl
-count-apart p low high each (x ∷ xs) =
-    let rest = count-apart p low high each xs in
-    elim (cases_Bool (p x)) [
-      | inl passes ↦ elim (cases_Bool (low x)) [
-        | inl is_low ↦
-            let not_high : high x ≡ false = each x passes ∙ ap not is_low in
-            rw (is_low, not_high, passes) (omega (arith, rest))
-        | inr is_not ↦
-            let is_high : high x ≡ true = each x passes ∙ ap not is_not in
-            rw (is_not, is_high, passes) (omega (arith, rest))
-      ]
-      | inr fails ↦ elim (cases_Bool (low x)) [
-        | inl is_low ↦ elim (cases_Bool (high x)) [ inl is_high ↦ rw (is_low, is_high, fails) rest | inr not_high ↦ rw (is_low, not_high, fails) rest ]
-        | inr is_not ↦ elim (cases_Bool (high x)) [ inl is_high ↦ rw (is_not, is_high, fails) rest | inr not_high ↦ rw (is_not, not_high, fails) rest ]
-      ]
-    ]
-
-count-map : {X Y : Type 0} (p : X → Bool) (h : Y → X) (passes : Bool) → ((y : Y) → p (h y) ≡ passes) → (ys : List Y) → count p (map h ys) ≡ (if passes then length ys else 0)
-count-map p h true each [] = refl
-count-map p h true each (y ∷ ys) = rw (each y) (ap suc (count-map p h true each ys))
-count-map p h false each [] = refl
-count-map p h false each (y ∷ ys) = rw (each y) (count-map p h false each ys)
-
--- Places.
-
-pub place-same : (p q : Place) → same_place p q ≡ true → p ≡ q
-place-same p q same =
-    let outer = and_parts (p.endpoint == q.endpoint) (p.cluster == q.cluster && p.leaf == q.leaf) same in
-    let inner = and_parts (p.cluster == q.cluster) (p.leaf == q.leaf) outer.1 in
-    let endpoint = eqb-true p.endpoint q.endpoint outer.0 in
-    let cluster = eqb-true p.cluster q.cluster inner.0 in
-    let leaf = eqb-true p.leaf q.leaf inner.1 in
-    λ i. record { endpoint = endpoint i; cluster = cluster i; leaf = leaf i }
-
-place-itself : (p : Place) → same_place p p ≡ true
-place-itself p = grind (arith, common_steps)
-
-before-itself : (p : Place) → stands_before p p ≡ false
-before-itself p = grind (arith, common_steps)
-
-place-other : (p q : Place) → same_place p q ≡ false → same_place q p ≡ false
-place-other p q other = grind (arith, common_steps)
-
-one-before : (p q : Place) → same_place p q ≡ false → stands_before p q ≡ not (stands_before q p)
-one-before p q other = grind (arith, common_steps)
-
-or-apart : (b c d x y : Bool) → x ≡ false → y ≡ false → (not b || (x && c)) ≡ not (b || (y && d))
-or-apart true c d x y no_x no_y = rw no_x refl
-or-apart false c d x y no_x no_y = rw no_y refl
+use Rattle.mt_machine.proofs.Counting.{all-filter, all-kept, all-three, all-weaker, any-weaker, before-itself, count, count-apart, count-gone, count-map, count-none, count-three, counted, few-set, impossible, one-before, or-apart, place-itself, place-other, place-same}
 
 -- A valid state is valid with other rows, entries, versions, change numbers and another time, where these keep their rules.
 
@@ -169,6 +45,7 @@ record AreRows (s : NodeState) (rows : List Row) : Type 0 where
   rise : are_ascending rows ≡ true
   forms : list_all (is_row s.fabrics) rows ≡ true
   stand : list_all (stands_once rows) (filter has_one_row all_places) ≡ true
+  few : ItemsAreFew rows
 
 record AreEntries (s : NodeState) (entries : List AclEntry) : Type 0 where
   rise : ascend_from 1 entries ≡ true
@@ -180,11 +57,13 @@ record AreChanges (changes : List ChangeNumber) (changed : ℕ) : Type 0 where
   counted : list_all (is_change_up_to changed) changes ≡ true
   stand : IsChanges changes
   fits : nat_le changed (2 ^ 64 - 1) ≡ true
+  of_all : list_all (has_change changes) all_places ≡ true
+  of_attributes : list_all is_of_attribute changes ≡ true
 
 renewed : (s : NodeState) (rows : List Row) (entries : List AclEntry) (versions : List Version) (changes : List ChangeNumber) (changed now : ℕ)
-    → IsValid s → AreRows s rows → AreEntries s entries → AreChanges changes changed
+    → IsValid s → AreRows s rows → AreEntries s entries → map instance_of versions ≡ instances → AreChanges changes changed → newest_of changes ≡ changed
     → IsValid (record s { rows = rows; entries = entries; versions = versions; changes = changes; changed = changed; clock = now })
-renewed s rows entries versions changes changed now valid are_rows are_entries are_changes = record {
+renewed s rows entries versions changes changed now valid are_rows are_entries are_versions are_changes newest = record {
   fabric_count = valid.fabric_count;
   fabrics_rise = valid.fabrics_rise;
   indexes = valid.indexes;
@@ -198,30 +77,39 @@ renewed s rows entries versions changes changed now valid are_rows are_entries a
   rows_rise = are_rows.rise;
   row_forms = are_rows.forms;
   rows_stand = are_rows.stand;
+  row_counts = are_rows.few;
   roots_differ = valid.roots_differ;
+  root_forms = valid.root_forms;
   roots_used = valid.roots_used;
   network_count = valid.network_count;
   network_forms = valid.network_forms;
   network_ids_differ = valid.network_ids_differ;
   sessions_stand = valid.sessions_stand;
   plain_stands = valid.plain_stands;
+  versions_stand = are_versions;
   changes_counted = are_changes.counted;
+  newest_counts = newest;
   changes_stand = are_changes.stand;
+  changes_of_all = are_changes.of_all;
+  changes_of_attributes = are_changes.of_attributes;
   count_fits = are_changes.fits;
   failsafe_facts = valid.failsafe_facts;
+  failsafe_names = valid.failsafe_names;
   saved_stand = valid.saved_stand;
+  given_stand = valid.given_stand;
   sessions_follow = valid.sessions_follow;
   plain_follow = valid.plain_follow;
+  boot_fits = valid.boot_fits;
 }
 
 same_rows : (s : NodeState) → IsValid s → AreRows s s.rows
-same_rows s valid = record { rise = valid.rows_rise; forms = valid.row_forms; stand = valid.rows_stand }
+same_rows s valid = record { rise = valid.rows_rise; forms = valid.row_forms; stand = valid.rows_stand; few = valid.row_counts }
 
 same_entries : (s : NodeState) → IsValid s → AreEntries s s.entries
 same_entries s valid = record { rise = valid.entries_rise; forms = valid.entry_forms; owned = valid.entries_owned; few = valid.entry_counts }
 
 same_changes : (s : NodeState) → IsValid s → AreChanges s.changes s.changed
-same_changes s valid = record { counted = valid.changes_counted; stand = valid.changes_stand; fits = valid.count_fits }
+same_changes s valid = record { counted = valid.changes_counted; stand = valid.changes_stand; fits = valid.count_fits; of_all = valid.changes_of_all; of_attributes = valid.changes_of_attributes }
 
 -- Rows that are set.
 
@@ -229,23 +117,23 @@ same_changes s valid = record { counted = valid.changes_counted; stand = valid.c
 pub nobodys : (fabrics : List Fabric) (row : Row) (found : Result Meta Status) → is_row_at fabrics row found ≡ true → is_unscoped found ≡ true → row.fabric ≡ 0
 nobodys fabrics row (Err status) is unscoped = impossible is
 nobodys fabrics row (Ok meta) is unscoped =
-    let both = and_parts (has_form meta.kind meta.limit row.value) (is_row_of fabrics meta.scoped row.fabric) is in
+    let both = and_parts (has_form meta row.fabric row.value) (is_row_of fabrics meta.scoped row.fabric) is in
     let nobody : is_row_of fabrics false row.fabric ≡ true = subst (λ b. is_row_of fabrics b row.fabric ≡ true) (not-true meta.scoped unscoped) both.1 in
     eqb-true row.fabric 0 nobody
 
 module _ (s : NodeState) (valid : IsValid s) (place : Place) (fabric : ℕ) (values : List Value) (meta : Meta) (there : find_of place ≡ Ok meta)
-    (stored : is_stored place ≡ true) (forms : list_all (has_form meta.kind meta.limit) values ≡ true) (one : (meta.scoped || length values == 1) ≡ true)
+    (stored : is_stored place ≡ true) (forms : list_all (has_form meta fabric) values ≡ true) (many : are_as_many meta values ≡ true)
     (whose : is_row_of s.fabrics meta.scoped fabric ≡ true)
     (ascending : are_ascending (with_rows place fabric values s.rows) ≡ true)
   where
-    new_row : (value : Value) → has_form meta.kind meta.limit value ≡ true → is_row s.fabrics (row_at place fabric value) ≡ true
+    new_row : (value : Value) → has_form meta fabric value ≡ true → is_row s.fabrics (row_at place fabric value) ≡ true
     new_row value form = and_from _ _ stored (ap (is_row_at s.fabrics (row_at place fabric value)) there ∙ and_from _ _ form whose)
 
     set_forms : list_all (is_row s.fabrics) (with_rows place fabric values s.rows) ≡ true
     set_forms =
         all-three (is_row s.fabrics) (filter (is_below place fabric) s.rows) (map (row_at place fabric) values) (filter (is_above place fabric) s.rows)
         (all-filter (is_row s.fabrics) (is_below place fabric) s.rows valid.row_forms)
-        (list_all-map (is_row s.fabrics) (row_at place fabric) values ∙ all-weaker (has_form meta.kind meta.limit) (λ value. is_row s.fabrics (row_at place fabric value)) new_row values forms)
+        (list_all-map (is_row s.fabrics) (row_at place fabric) values ∙ all-weaker (has_form meta fabric) (λ value. is_row s.fabrics (row_at place fabric value)) new_row values forms)
         (all-filter (is_row s.fabrics) (is_above place fabric) s.rows valid.row_forms)
 
     set_count : (q : Place) → count (stands_at q) (with_rows place fabric values s.rows)
@@ -271,7 +159,7 @@ module _ (s : NodeState) (valid : IsValid s) (place : Place) (fabric : ℕ) (val
         let unscoped = (and_parts (is_stored place) (is_unscoped (find_of place)) single).1 in
         let bare : meta.scoped ≡ false = not-true meta.scoped (subst (λ r. is_unscoped r ≡ true) there unscoped) in
         let zero : fabric ≡ 0 = eqb-true fabric 0 (subst (λ b. is_row_of s.fabrics b fabric ≡ true) bare whose) in
-        let alone : length values ≡ 1 = eqb-true (length values) 1 (subst (λ b. (b || length values == 1) ≡ true) bare one) in
+        let alone : length values ≡ 1 = eqb-true (length values) 1 (subst (λ b. (if b then nat_le (length values) meta.limit else length values == 1) ≡ true) bare many) in
         let below = count-gone (stands_at place) (is_row s.fabrics) (is_below place fabric) (none_below zero) s.rows valid.row_forms in
         let above = count-gone (stands_at place) (is_row s.fabrics) (is_above place fabric) (none_above unscoped zero) s.rows valid.row_forms in
         let new = count-map (stands_at place) (row_at place fabric) true (λ value. place-itself place) values in
@@ -303,11 +191,19 @@ module _ (s : NodeState) (valid : IsValid s) (place : Place) (fabric : ℕ) (val
           eq-eqb _ _ (counted (stands_at q) (with_rows place fabric values s.rows) ∙ stands_elsewhere q other ∙ sym (counted (stands_at q) s.rows) ∙ before)
     ]
 
+    same_meta : (m : Meta) → find_of place ≡ Ok m → meta ≡ m
+    same_meta m found = let same : Ok meta ≡ Ok m = sym there ∙ found in cc
+
+    room : (m : Meta) → find_of place ≡ Ok m → m.scoped ≡ true → nat_le (length values) m.limit ≡ true
+    room m found = subst (λ (x : Meta). x.scoped ≡ true → nat_le (length values) x.limit ≡ true) (same_meta m found) (λ scoped.
+        subst (λ b. (if b then nat_le (length values) meta.limit else length values == 1) ≡ true) scoped many)
+
     set_rows : AreRows s (with_rows place fabric values s.rows)
     set_rows = record {
       rise = ascending;
       forms = set_forms;
       stand = all-kept (stands_once s.rows) (stands_once (with_rows place fabric values s.rows)) has_one_row stands_still all_places valid.rows_stand;
+      few = few-set place fabric values s.rows valid.row_counts room;
     }
 
 -- Fabrics of the table.
@@ -421,9 +317,9 @@ module _
         → AreRows s (with_rows place fabric values s.rows)
     row_set s valid place fabric values (Err status) there fit = impossible fit
     row_set s valid place fabric values (Ok meta) there fit =
-        let both = and_parts (is_sound_row (is_stored place) values (Ok meta)) (is_row_of s.fabrics meta.scoped fabric) fit in
-        let sound = and_parts (is_stored place) (list_all (has_form meta.kind meta.limit) values && (meta.scoped || length values == 1)) both.0 in
-        let of_form = and_parts (list_all (has_form meta.kind meta.limit) values) (meta.scoped || length values == 1) sound.1 in
+        let both = and_parts (is_sound_row (is_stored place) fabric values (Ok meta)) (is_row_of s.fabrics meta.scoped fabric) fit in
+        let sound = and_parts (is_stored place) (list_all (has_form meta fabric) values && are_as_many meta values) both.0 in
+        let of_form = and_parts (list_all (has_form meta fabric) values) (are_as_many meta values) sound.1 in
         set_rows s valid place fabric values meta there sound.0 of_form.0 of_form.1 both.1 (rows_rise s.rows place fabric values valid.rows_rise)
 
     entries_set : (s : NodeState) → IsValid s → (fabric : ℕ) (new : List AclEntry) → (are_entries_of fabric new && is_among s.fabrics fabric) ≡ true → AreEntries s (with_entries fabric new s.entries)
@@ -435,9 +331,9 @@ module _
 
     pub after_step : (asker : Option Actor) (step : NodeStep) (s : NodeState) → IsValid s → fits s.fabrics step ≡ true → IsValid (after asker step s)
     after_step asker (SetRow place fabric values) s valid fit =
-        renewed s (with_rows place fabric values s.rows) s.entries s.versions s.changes s.changed s.clock valid (row_set s valid place fabric values (find_of place) refl fit) (same_entries s valid) (same_changes s valid)
+        renewed s (with_rows place fabric values s.rows) s.entries s.versions s.changes s.changed s.clock valid (row_set s valid place fabric values (find_of place) refl fit) (same_entries s valid) valid.versions_stand (same_changes s valid) valid.newest_counts
     after_step asker (SetEntries fabric new) s valid fit =
-        renewed s s.rows (with_entries fabric new s.entries) s.versions s.changes s.changed s.clock valid (same_rows s valid) (entries_set s valid fabric new fit) (same_changes s valid)
+        renewed s s.rows (with_entries fabric new s.entries) s.versions s.changes s.changed s.clock valid (same_rows s valid) (entries_set s valid fabric new fit) valid.versions_stand (same_changes s valid) valid.newest_counts
     after_step asker (PutNetwork id secret) s valid fit = impossible fit
     after_step asker (RemoveNetwork id) s valid fit = impossible fit
     after_step asker (ConnectNetwork id) s valid fit = impossible fit
@@ -472,6 +368,70 @@ noted_counted place number changes all = elim (cases_Bool (subs.is_among place c
   | inr nowhere ↦ rw nowhere all
 ]
 
+-- each place that has a change number has one behind a change
+
+is_other_of : (place q : Place) (change : ChangeNumber) → same_place place q ≡ false → same_place change.place q ≡ true → is_other_change place change ≡ true
+is_other_of place q change other at =
+    let same = place-same change.place q at in
+    ap not (subst (λ (p : Place). same_place p place ≡ false) (sym same) (place-other place q other))
+
+among_others : (place q : Place) → same_place place q ≡ false → (changes : List ChangeNumber) → has_change changes q ≡ true → has_change (filter (is_other_change place) changes) q ≡ true
+among_others place q other [] there = impossible there
+among_others place q other (change ∷ changes) there = elim (or_cases (same_place change.place q) (has_change changes q) there) [
+  | inl here ↦ rw (is_other_of place q change other here) (or_left _ _ here)
+  | inr later ↦
+      let rest = among_others place q other changes later in
+      elim (cases_Bool (is_other_change place change)) [ inl stays ↦ rw stays (or_right _ _ rest) | inr goes ↦ rw goes rest ]
+]
+
+noted_has : (place q : Place) (number : ℕ) (changes : List ChangeNumber) → has_change changes q ≡ true → has_change (noted place number changes) q ≡ true
+noted_has place q number changes there = elim (cases_Bool (has_change changes place)) [
+  | inl known ↦ rw known (elim (cases_Bool (same_place place q)) [ inl same ↦ or_left _ _ same | inr other ↦ or_right _ _ (among_others place q other changes there) ])
+  | inr nowhere ↦ rw nowhere there
+]
+
+found_place : (place : Place) (changes : List ChangeNumber) → list_all is_of_attribute changes ≡ true → has_change changes place ≡ true → is_ok (find_of place) ≡ true
+found_place place [] all there = impossible there
+found_place place (change ∷ changes) all there =
+    let both = and_parts (is_of_attribute change) (list_all is_of_attribute changes) all in
+    elim (or_cases (same_place change.place place) (has_change changes place) there) [
+      | inl here ↦ subst (λ (p : Place). is_ok (find_of p) ≡ true) (place-same change.place place here) both.0
+      | inr later ↦ found_place place changes both.1 later
+    ]
+
+noted_of : (place : Place) (number : ℕ) (changes : List ChangeNumber) → list_all is_of_attribute changes ≡ true → list_all is_of_attribute (noted place number changes) ≡ true
+noted_of place number changes all = elim (cases_Bool (has_change changes place)) [
+  | inl known ↦ rw known (and_from _ _ (found_place place changes all known) (all-filter is_of_attribute (is_other_change place) changes all))
+  | inr nowhere ↦ rw nowhere all
+]
+
+-- the newest change has the number of the latest
+
+newest_stays : (place : Place) (number : ℕ) (changes : List ChangeNumber) → newest_of changes ≡ number → newest_of (noted place number changes) ≡ number
+newest_stays place number changes is = elim (cases_Bool (has_change changes place)) [ inl known ↦ rw known refl | inr nowhere ↦ rw nowhere is ]
+
+newest_of_all : (places : List Place) (number : ℕ) (changes : List ChangeNumber) → newest_of changes ≡ number → newest_of (noted_all places number changes) ≡ number
+newest_of_all [] number changes is = is
+newest_of_all (place ∷ places) number changes is = newest_of_all places number (noted place number changes) (newest_stays place number changes is)
+
+newest_first : (place : Place) (number : ℕ) (changes : List ChangeNumber) → has_change changes place ≡ true → newest_of (noted place number changes) ≡ number
+newest_first place number changes known = rw known refl
+
+newest_follows : (places : List Place) (changes : List ChangeNumber) (changed : ℕ) → newest_of changes ≡ changed → list_all (has_change changes) places ≡ true
+    → newest_of (noted_all places (next_change changed) changes) ≡ count_after places changed
+newest_follows [] changes changed is all = is
+newest_follows (place ∷ places) changes changed is all =
+    newest_of_all places (next_change changed) (noted place (next_change changed) changes)
+    (newest_first place (next_change changed) changes (and_parts (has_change changes place) (list_all (has_change changes) places) all).0)
+
+-- versions are of what they were
+instances_stay : (places : List Place) (versions : List Version) → map instance_of (map (version_after places) versions) ≡ map instance_of versions
+instances_stay places [] = refl
+instances_stay places (version ∷ versions) =
+    let first : instance_of (version_after places version) ≡ instance_of version =
+    cond_both (list_any (is_within version) places) (next_version version) version (λ (v : Version). instance_of v ≡ instance_of version) (λ moved. refl) (λ still. refl) in
+    λ i. first i ∷ instances_stay places versions i
+
 -- By the law that changes stay in their order.
 module _ (noted_stands : (place : Place) (number : ℕ) (changes : List ChangeNumber) → IsChanges changes → newest_of changes ≤ number → IsChanges (noted place number changes)) where
   all_noted : (places : List Place) (changes : List ChangeNumber) (number : ℕ) → AreChanges changes number → AreChanges (noted_all places number changes) number
@@ -481,6 +441,8 @@ module _ (noted_stands : (place : Place) (number : ℕ) (changes : List ChangeNu
         counted = noted_counted place number changes are.counted;
         stand = noted_stands place number changes are.stand (newest_up_to number changes are.counted);
         fits = are.fits;
+        of_all = all-weaker (has_change changes) (has_change (noted place number changes)) (λ q there. noted_has place q number changes there) all_places are.of_all;
+        of_attributes = noted_of place number changes are.of_attributes;
       } in
       all_noted places (noted place number changes) number follow
 
@@ -491,14 +453,16 @@ module _ (noted_stands : (place : Place) (number : ℕ) (changes : List ChangeNu
         counted = all-weaker (is_change_up_to changed) (is_change_up_to (next_change changed)) (λ change up. next_above changed change.number are.fits up) changes are.counted;
         stand = are.stand;
         fits = next_fits changed;
+        of_all = are.of_all;
+        of_attributes = are.of_attributes;
       } in
       all_noted (place ∷ places) changes (next_change changed) later
 
-  pub settled_valid : (places : List Place) (s t : NodeState) → IsValid s → IsValid t → IsValid (changed_at places s t)
-  settled_valid places s t before behind =
+  pub settled_valid : (places : List Place) (s t : NodeState) → IsValid s → IsValid t → list_all (has_change s.changes) places ≡ true → IsValid (changed_at places s t)
+  settled_valid places s t before behind known =
       let follow = changes_follow places s.changes s.changed (same_changes s before) in
       renewed t t.rows t.entries (map (version_after places) s.versions) (noted_all places (next_change s.changed) s.changes) (count_after places s.changed) t.clock
-      behind (same_rows t behind) (same_entries t behind) follow
+      behind (same_rows t behind) (same_entries t behind) (instances_stay places s.versions ∙ before.versions_stand) follow (newest_follows places s.changes s.changed before.newest_counts known)
 
 pub timed_valid : (s : NodeState) (now : ℕ) → IsValid s → IsValid (record s { clock = now })
-timed_valid s now valid = renewed s s.rows s.entries s.versions s.changes s.changed now valid (same_rows s valid) (same_entries s valid) (same_changes s valid)
+timed_valid s now valid = renewed s s.rows s.entries s.versions s.changes s.changed now valid (same_rows s valid) (same_entries s valid) valid.versions_stand (same_changes s valid) valid.newest_counts

@@ -10,7 +10,8 @@ use Rattle.mt_model.specs.Optional.{is_that}
 use Rattle.mt_model.specs.rows.Setting.{is_entry_of, with_entries, with_rows}
 use Rattle.mt_model.specs.rows.Stored.{is_stored_place}
 use Rattle.mt_model.specs.tables.Leaving.{stays}
-use Rattle.mt_model.specs.texts.Config.{are_credentials, has_identity, has_up_to, is_fabric, is_label}
+use Rattle.mt_model.specs.declared.limits.TheConstants.{NETWORKS, NETWORK_ID_BYTES, NETWORK_SECRET_BYTES, NONCE_BYTES}
+use Rattle.mt_model.specs.texts.Config.{are_credentials, has_identity, has_up_to, is_certificate, is_fabric, is_label}
 use Rattle.mt_model.specs.texts.Config as config
 use Rattle.mt_model.specs.declared.tables.access.AclEntry.{AclEntry}
 use Rattle.mt_model.specs.declared.tables.access.Actor.{Actor}
@@ -36,9 +37,9 @@ use Rattle.mt_machine.specs.State as states
 abbrev pub with_secret : List ℕ → List ℕ → Network → Network
 with_secret id secret network = if has_id id network then record network { secret = secret } else network
 
--- a new network stands last, where there are fewer than 4
+-- a new network stands last, where there is room
 abbrev pub with_new : List ℕ → List ℕ → List Network → List Network
-with_new id secret networks = if nat_le 4 (length networks) then networks else networks ++ record { id = id; secret = secret; connected = false } ∷ []
+with_new id secret networks = if nat_le NETWORKS (length networks) then networks else networks ++ record { id = id; secret = secret; connected = false } ∷ []
 
 -- a network that is there keeps its place and whether it is connected
 abbrev pub with_network : List ℕ → List ℕ → List Network → List Network
@@ -198,7 +199,7 @@ after asker (AddFabric fabric) s = joined asker fabric s
 after asker (UpdateFabric index credentials) s = updated_in index credentials s
 after asker (RemoveFabric index) s = without_fabric index s
 after asker (Label index label) s = labelled_in index label s
-after asker (Emit place priority fabric value) s = s  -- events are not recorded yet
+after asker (Emit place priority fabric value) s = s  -- events are remembered beside the state
 
 -- one step after the other
 abbrev pub after_all : Option Actor → List NodeStep → NodeState → NodeState
@@ -233,8 +234,10 @@ sets_values step = false
 abbrev pub is_sound_step : NodeStep → Bool
 is_sound_step (SetRow place fabric values) = false
 is_sound_step (SetEntries fabric entries) = false
-is_sound_step (PutNetwork id secret) = has_up_to 32 id && nat_le (length secret) 64
+is_sound_step (PutNetwork id secret) = has_up_to NETWORK_ID_BYTES id && nat_le (length secret) NETWORK_SECRET_BYTES
 is_sound_step (AddFabric fabric) = is_fabric fabric
 is_sound_step (UpdateFabric index credentials) = are_credentials credentials
+is_sound_step (AddRoot cert) = is_certificate cert
+is_sound_step (Csr nonce update) = length nonce == NONCE_BYTES
 is_sound_step (Label index label) = is_label label
 is_sound_step step = true

@@ -20,6 +20,7 @@ use Rattle.mt_model.specs.declared.node.state.ChangeNumber.{ChangeNumber}
 use Rattle.mt_model.specs.declared.node.state.NodeSession.{NodeSession}
 use Rattle.mt_model.specs.declared.node.state.NodeState.{NodeState}
 use Rattle.mt_model.specs.declared.node.state.Version.{Version}
+use Rattle.mt_subs.specs.Changes.{newest_of}
 use Rattle.mt_subs.specs.Leaving.{is_live_as}
 use Rattle.mt_machine.specs.State.{State}
 
@@ -87,7 +88,6 @@ pub record PublicView : Type 0 where
   pub armed : Option Armed
   pub versions : List Version
   pub changes : List ChangeNumber
-  pub changed : ℕ
   pub boot : ℕ
   pub clock : ℕ
 
@@ -101,7 +101,6 @@ public_view fabric s = record {
   armed = option_map bare_armed s.armed;
   versions = s.versions;
   changes = s.changes;
-  changed = s.changed;
   boot = s.boot;
   clock = s.clock;
 }
@@ -139,7 +138,7 @@ veil_of fabric o p = record {
   armed = option_map (with_saved o.saved) p.armed;
   versions = p.versions;
   changes = p.changes;
-  changed = p.changed;
+  changed = newest_of p.changes;
   sessions = o.sessions;
   plain = if o.is_plain then Some fabric else None;
   boot = p.boot;

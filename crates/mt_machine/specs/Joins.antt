@@ -17,7 +17,7 @@ use Rattle.mt_model.specs.declared.tables.network.Armed.{Armed}
 use Rattle.mt_model.specs.declared.texts.recording.Event.TheVariants.{Tick}
 use Rattle.mt_machine.specs.Bench.{administrator_of, bench_fabric, bench_of, public_key, bench_given}
 use Rattle.mt_machine.specs.Effects.{after_all}
-use Rattle.mt_machine.specs.Lines.{next}
+use Rattle.mt_machine.specs.Lines.{plain_next}
 use Rattle.mt_machine.specs.Opened.{opened}
 use Rattle.mt_machine.specs.Rollback.{breadcrumb}
 use Rattle.mt_machine.specs.Step.{at_time, case_actor, pase_actor}
@@ -44,7 +44,7 @@ number_row place n = record { place = place; fabric = 0; value = values.Uint n }
 
 -- The node behind a time step.
 abbrev pub ticked : ℕ → NodeState → NodeState
-ticked ms s = (next bench_given (record { node = s; deadlines = [] }) (Tick ms)).node
+ticked ms s = (plain_next bench_given (record { node = s; deadlines = [] }) (Tick ms)).node
 
 -- Commissioning over PASE, on its session or as the plain one: armed at 5 ms for 60 s, with Breadcrumb 1; a root, a signing request and a
 -- third fabric with its entry; then fabric 1 names the node.

@@ -27,7 +27,7 @@ use Rattle.mt_machine.specs.Isolation.{own, own_of_whole, public_view, veil, vei
 use Rattle.mt_model.specs.declared.node.action.NodeStep.TheVariants as steps
 use Rattle.mt_machine.specs.Leaving.{has_left}
 use Rattle.mt_model.specs.declared.texts.recording.Event.TheVariants.{Tick}
-use Rattle.mt_machine.specs.Lines.{action_of, behind_action, deadline_of, fabric_of, is_tick, line_actor, line_reply, next, sent}
+use Rattle.mt_machine.specs.Lines.{action_of, behind_action, deadline_of, fabric_of, is_tick, line_actor, line_reply, plain_next, plain_sent}
 use Rattle.mt_machine.specs.Observation.{observation}
 use Rattle.mt_machine.specs.Opened.{opened_with}
 use Rattle.mt_machine.specs.Rollback.{added_in, deadlines_left, is_due, rollback}
@@ -60,7 +60,7 @@ HidesWhatIsSaved = (fabric : ℕ) (s : NodeState) (armed : Armed) (credentials :
 
 -- What an event sends on the veil of its fabric is what it sends on the state.
 abbrev pub SendsOnTheVeil : Type 0
-SendsOnTheVeil = (given : Environment) (s : State) (e : Event) → IsValid s.node → sent given (veil_of_whole (fabric_of s.node e) s) e ≡ sent given s e
+SendsOnTheVeil = (given : Environment) (s : State) (e : Event) → IsValid s.node → plain_sent given (veil_of_whole (fabric_of s.node e) s) e ≡ plain_sent given s e
 
 -- What an event sends is determined by the own part of its fabric and by what is public to it.
 abbrev pub SeesItsViewAlone : Type 0
@@ -68,7 +68,7 @@ SeesItsViewAlone = (given : Environment) (s t : State) (e : Event) → IsValid s
     → fabric_of s.node e ≡ fabric_of t.node e
     → own_of_whole (fabric_of s.node e) s ≡ own_of_whole (fabric_of t.node e) t
     → public_view (fabric_of s.node e) s.node ≡ public_view (fabric_of t.node e) t.node
-    → sent given s e ≡ sent given t e
+    → plain_sent given s e ≡ plain_sent given t e
 
 -- And so is the own part that an event leaves to its fabric.
 abbrev pub LeavesItsOwnByItsView : Type 0
@@ -76,12 +76,12 @@ LeavesItsOwnByItsView = (given : Environment) (s t : State) (e : Event) → Keep
     → fabric_of s.node e ≡ fabric_of t.node e
     → own_of_whole (fabric_of s.node e) s ≡ own_of_whole (fabric_of t.node e) t
     → public_view (fabric_of s.node e) s.node ≡ public_view (fabric_of t.node e) t.node
-    → own_of_whole (fabric_of s.node e) (next given s e) ≡ own_of_whole (fabric_of t.node e) (next given t e)
+    → own_of_whole (fabric_of s.node e) (plain_next given s e) ≡ own_of_whole (fabric_of t.node e) (plain_next given t e)
 
 -- On the veil of its fabric an event leaves the same own part as on the state.
 abbrev pub LeavesTheOwnOnTheVeil : Type 0
 LeavesTheOwnOnTheVeil = (given : Environment) (s : State) (e : Event) → KeepsRules given.judged → IsValid s.node
-    → own_of_whole (fabric_of s.node e) (next given (veil_of_whole (fabric_of s.node e) s) e) ≡ own_of_whole (fabric_of s.node e) (next given s e)
+    → own_of_whole (fabric_of s.node e) (plain_next given (veil_of_whole (fabric_of s.node e) s) e) ≡ own_of_whole (fabric_of s.node e) (plain_next given s e)
 
 -- What an actor asks leaves on the veil of its fabric the same own part as on the state, where it is taken as the same one on both.
 abbrev pub ActionsLeaveTheOwnOnTheVeil : Type 0
@@ -109,17 +109,17 @@ SessionsKeepTheirIds = (given : Environment) (s : NodeState) (action : Action) (
 -- the next laws say what it changes.)
 abbrev pub KeepsTheOwn : Type 0
 KeepsTheOwn = (given : Environment) (fabric : ℕ) (s : State) (e : Event) → KeepsRules given.judged → IsValid s.node → is_tick e ≡ false → fabric ≢ fabric_of s.node e
-    → StaysThere fabric s.node (next given s e).node
-    → own_of_whole fabric (next given s e) ≡ own_of_whole fabric s
+    → StaysThere fabric s.node (plain_next given s e).node
+    → own_of_whole fabric (plain_next given s e) ≡ own_of_whole fabric s
 
 -- A time step lets the fail-safe expire exactly where it is armed and the time of its end has come. Then the state is the rollback of the
 -- state before, at that time, with the versions and change numbers that follow; otherwise the time alone is new.
 abbrev pub ExpiresWhereDue : Type 0
 ExpiresWhereDue = (given : Environment) (s : State) (ms : ℕ) → is_due s.node.armed ms ≡ true
-    → next given s (Tick ms) ≡ record { node = settled (at_time ms s.node) (rollback (at_time ms s.node)); deadlines = deadlines_left s.node.armed s.deadlines }
+    → plain_next given s (Tick ms) ≡ record { node = settled (at_time ms s.node) (rollback (at_time ms s.node)); deadlines = deadlines_left s.node.armed s.deadlines }
 
 abbrev pub PassesOtherwise : Type 0
-PassesOtherwise = (given : Environment) (s : State) (ms : ℕ) → is_due s.node.armed ms ≡ false → next given s (Tick ms) ≡ record s { node = at_time ms s.node }
+PassesOtherwise = (given : Environment) (s : State) (ms : ℕ) → is_due s.node.armed ms ≡ false → plain_next given s (Tick ms) ≡ record s { node = at_time ms s.node }
 
 -- The fabric that it takes out of the table is the one that was added, where one was.
 abbrev pub TakesTheAddedAway : Type 0
@@ -128,17 +128,17 @@ TakesTheAddedAway = (given : Environment) (s : NodeState) (now : ℕ) → IsVali
 -- A time step leaves a fabric that was neither added nor updated under the fail-safe its own part.
 abbrev pub TicksSpareOthers : Type 0
 TicksSpareOthers = (given : Environment) (fabric : ℕ) (s : State) (ms : ℕ) → IsValid s.node → fabric ≢ 0 → was_added fabric s.node.armed ≡ false → was_updated fabric s.node.armed ≡ false
-    → own_of_whole fabric (next given s (Tick ms)) ≡ own_of_whole fabric s
+    → own_of_whole fabric (plain_next given s (Tick ms)) ≡ own_of_whole fabric s
 
 -- The own part that a time step leaves to any fabric is what it leaves on the veil of that fabric, and so it is determined by that part and
 -- by what is public to it, as both were before.
 abbrev pub TicksOnTheVeil : Type 0
-TicksOnTheVeil = (given : Environment) (fabric : ℕ) (s : State) (ms : ℕ) → IsValid s.node → own_of_whole fabric (next given (veil_of_whole fabric s) (Tick ms)) ≡ own_of_whole fabric (next given s (Tick ms))
+TicksOnTheVeil = (given : Environment) (fabric : ℕ) (s : State) (ms : ℕ) → IsValid s.node → own_of_whole fabric (plain_next given (veil_of_whole fabric s) (Tick ms)) ≡ own_of_whole fabric (plain_next given s (Tick ms))
 
 abbrev pub TicksSeeTheMarkAlone : Type 0
 TicksSeeTheMarkAlone = (given : Environment) (fabric : ℕ) (s t : State) (ms : ℕ) → IsValid s.node → IsValid t.node
     → own_of_whole fabric s ≡ own_of_whole fabric t → public_view fabric s.node ≡ public_view fabric t.node
-    → own_of_whole fabric (next given s (Tick ms)) ≡ own_of_whole fabric (next given t (Tick ms))
+    → own_of_whole fabric (plain_next given s (Tick ms)) ≡ own_of_whole fabric (plain_next given t (Tick ms))
 
 -- A new node's state is valid.
 abbrev pub OpensValid : Type 0

@@ -1,8 +1,10 @@
 pub mod Bench
 pub mod Changes
 pub mod Commands
+pub mod Deadlines
 pub mod Effects
 pub mod Environment
+pub mod Expiries
 pub mod Isolation
 pub mod Joins
 pub mod Laws

@@ -21,6 +21,7 @@ use Rattle.mt_model.specs.declared.texts.recording.Sent.{Sent}
 use Rattle.mt_model.specs.declared.texts.recording.To.TheVariants.{Plain}
 use Rattle.mt_model.specs.declared.node.state.NodeState.{NodeState}
 use Rattle.mt_model.specs.declared.messages.status.Status.TheVariants.{Busy, InvalidAction, PathsExhausted}
+use Rattle.mt_model.specs.declared.limits.TheConstants.{PLAIN_DEADLINES}
 use Rattle.mt_machine.specs.Environment.{Environment}
 use Rattle.mt_machine.specs.Isolation.{is_deadline_in}
 use Rattle.mt_machine.specs.Rollback.{deadlines_left, is_due}
@@ -63,9 +64,9 @@ deadline_of actor deadlines = option_map (λ (deadline : PlainDeadline). deadlin
 abbrev pub without : Actor → List PlainDeadline → List PlainDeadline
 without actor deadlines = filter (λ (deadline : PlainDeadline). not (is_deadline_of actor deadline)) deadlines
 
--- at most four actors of a fabric have a deadline at once
+-- no more actors of a fabric have a deadline at once than may
 abbrev pub has_room : Actor → List PlainDeadline → Bool
-has_room actor deadlines = nat_lt (length (filter (is_deadline_in actor.fabric) (without actor deadlines))) 4
+has_room actor deadlines = nat_lt (length (filter (is_deadline_in actor.fabric) (without actor deadlines))) PLAIN_DEADLINES
 
 -- a time that is later by some ms, at most the last of 64 bits
 abbrev pub later_by : ℕ → ℕ → ℕ
@@ -165,20 +166,21 @@ next_tick given s ms = record {
   deadlines = if is_due s.node.armed ms then deadlines_left s.node.armed s.deadlines else s.deadlines;
 }
 
--- what an event sends: a plain actor's line is answered, a time step sends nothing; all other events stand above this crate
-abbrev pub sent : Environment → State → Event → List Sent
-sent given s (events.Ask ms fabric node cats opcode payload) = sent_for given s (line_actor fabric node cats) ms (request_in opcode payload)
-sent given s (events.Datagram ms peer bytes) = []
-sent given s (events.Tick ms) = []
-sent given s (events.Report ms fabric subscription) = []
-sent given s (events.Resend ms session) = []
-sent given s (events.Stop calls fate) = []
+-- What a line of a plain actor or a time step sends; the lines of datagrams, reports and what is sent again stand above this crate, and are
+-- nothing here. mt_runs has what every line sends, and the whole behind it.
+abbrev pub plain_sent : Environment → State → Event → List Sent
+plain_sent given s (events.Ask ms fabric node cats opcode payload) = sent_for given s (line_actor fabric node cats) ms (request_in opcode payload)
+plain_sent given s (events.Datagram ms peer bytes) = []
+plain_sent given s (events.Tick ms) = []
+plain_sent given s (events.Report ms fabric subscription) = []
+plain_sent given s (events.Resend ms session) = []
+plain_sent given s (events.Stop calls fate) = []
 
--- the state behind an event
-abbrev pub next : Environment → State → Event → State
-next given s (events.Ask ms fabric node cats opcode payload) = next_for given s (line_actor fabric node cats) ms (request_in opcode payload)
-next given s (events.Datagram ms peer bytes) = s
-next given s (events.Tick ms) = next_tick given s ms
-next given s (events.Report ms fabric subscription) = s
-next given s (events.Resend ms session) = s
-next given s (events.Stop calls fate) = s
+-- the state behind a line of a plain actor or a time step
+abbrev pub plain_next : Environment → State → Event → State
+plain_next given s (events.Ask ms fabric node cats opcode payload) = next_for given s (line_actor fabric node cats) ms (request_in opcode payload)
+plain_next given s (events.Datagram ms peer bytes) = s
+plain_next given s (events.Tick ms) = next_tick given s ms
+plain_next given s (events.Report ms fabric subscription) = s
+plain_next given s (events.Resend ms session) = s
+plain_next given s (events.Stop calls fate) = s

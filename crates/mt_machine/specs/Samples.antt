@@ -2,7 +2,7 @@
 -- were worked out by hand.
 use Rattle.std.specs.Prelude.{ℕ, List, [], ◌∷◌, map}
 use Rattle.mt_machine.specs.Bench.{bench_of, bench_given}
-use Rattle.mt_machine.specs.Lines.{sent}
+use Rattle.mt_machine.specs.Lines.{plain_sent}
 use Rattle.mt_machine.specs.Opened.{opened_whole}
 use Rattle.mt_model.specs.declared.texts.recording.Event.TheVariants.{Ask}
 use Rattle.mt_model.specs.declared.texts.recording.Sent.{Sent}
@@ -16,7 +16,7 @@ with_opcode (Session session peer) payload = payload
 
 -- what a new bench node sends to a node of a fabric, with one CAT or 0, for a ReadRequest
 abbrev pub sent_to_reader : ℕ → ℕ → ℕ → List ℕ → List (List ℕ)
-sent_to_reader fabric node cat payload = map (λ (m : Sent). with_opcode m.to m.bytes) (sent bench_given (opened_whole bench_of) (Ask 5 fabric node (cat ∷ 0 ∷ 0 ∷ []) 2 payload))
+sent_to_reader fabric node cat payload = map (λ (m : Sent). with_opcode m.to m.bytes) (plain_sent bench_given (opened_whole bench_of) (Ask 5 fabric node (cat ∷ 0 ∷ 0 ∷ []) 2 payload))
 
 -- a read of On/Off on endpoint 1, filtered
 abbrev pub read_on_off : List ℕ

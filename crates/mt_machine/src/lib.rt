@@ -9,8 +9,10 @@
 //! - `Changes`: what data versions and change numbers follow from comparing two states;
 //! - `Commands`: what a command comes to;
 //! - `Step`: one step of the node: who asks, what is replied, the state behind it;
+//! - `Deadlines`: what holds of the deadlines of plain actors;
 //! - `Lines`: one line of a recording: its action, what is sent, the state behind it;
 //! - `Rollback`: what an expiry of the fail-safe takes back;
+//! - `Expiries`: that every expiry is one, whichever way it comes, and what it leaves;
 //! - `Opened`: the state in which a new node begins;
 //! - `Taking`: which steps a state takes, so that it stays valid;
 //! - `Touching`: which steps of commissioning may change what is a fabric's own, and which a fabric makes;
@@ -25,7 +27,9 @@ ghost use Rattle.std.specs.Prelude.{◌≡◌, ◌∷◌, [], Some, None, codes}
 ghost use Rattle.mt_model.specs.declared.node.action.NodeStep.TheVariants.{RemoveFabric};
 ghost use Rattle.mt_model.specs.declared.node.state.Standing.TheVariants.{Live, Ended};
 ghost use Rattle.mt_machine.specs.Bench.{bench_entries};
+ghost use Rattle.mt_machine.specs.Deadlines.{ActionsKeepDeadlines, PlainLinesKeepDeadlines};
 ghost use Rattle.mt_machine.specs.Effects.{after_all};
+ghost use Rattle.mt_machine.specs.Expiries.{ExpiriesComeFirst, ExpiriesRollBack, RollbacksLeave};
 ghost use Rattle.mt_machine.specs.Joins.{end_of, first_administrator, indexes, joined_again, joined_by, labels, left_by_owner, nocs, node_label, number_row, owner_and_context, plain_pase, renewed_late, rows_at, session_pase, standings, ticked, updated_node};
 ghost use Rattle.mt_machine.specs.Laws.{ActionsKeepTheOwn, ActionsLeaveTheOwnOnTheVeil, AllStayValid, AskersAreKnown, ChangesNowhere, DeadlinesOnTheVeil, EndsNothing, ExpiresWhereDue, HidesWhatIsSaved, KeepsItsOwnPart, KeepsItsPublicView, KeepsTheOwn, LeavesItsOwnByItsView, LeavesTheOwnOnTheVeil, LeftIsGone, LeftIsGoneBehindAnExpiry, LinesAskOnTheVeil, LinesReplyOnTheVeil, OneLeaves, OneLeavesOnTheVeil, OpensValid, PassesOtherwise, RemovalsSeeTheVeil, RollsBackValid, SavesWhatItHad, SeesItsViewAlone, SeesTheVeil, SendsOnTheVeil, SessionsKeepTheirIds, SetsTheTime, SettingStepsTell, SparesOthers, StandsInOrder, StaysSettled, StaysValid, StepsSeeTheVeil, StepsSpareOthers, StepsOnTheVeil, StepsStayValid, TakenValuesFit, TakesItsSteps, TakesTheAddedAway, TellsItsOwn, TicksOnTheVeil, TicksSeeTheMarkAlone, TicksSpareOthers, TimeKeepsTheOwn, TimesStayValid};
 ghost use Rattle.mt_machine.specs.Rollback.{breadcrumb};
@@ -175,6 +179,33 @@ pub fn expiries_spare_others()
 {
     set_rows_stand_in_order();
     set_entries_stand_in_order();
+    what_stays_stands_in_order();
+}
+
+/// Of the deadlines of plain actors a fabric has no more than it may, each actor one, and each is of a fabric of the
+/// table or of none: lines leave them so.
+pub fn deadlines_stand()
+    ensures lines { PlainLinesKeepDeadlines }
+    ensures actions { ActionsKeepDeadlines }
+{}
+
+/// An expiry of the fail-safe comes first among the steps of an action, whichever way it comes: by a time step, by
+/// ArmFailSafe with 0 seconds, or by the removal of the fabric for which commissioning goes on. The state behind it is the
+/// rollback of the state before, with what the other steps make of that; and a rollback leaves of each field what it says.
+pub fn expiries_roll_back()
+    ensures first { ExpiriesComeFirst }
+    ensures back { ExpiriesRollBack }
+    ensures leaves { RollbacksLeave }
+{
+    writes_touch_their_own();
+    writes_keep_forms();
+    nobody_writes_scoped();
+    steps_are_sound();
+    steps_stand_first();
+    steps_are_well_formed();
+    steps_fit();
+    steps_are_moves();
+    set_rows_stand_in_order();
     what_stays_stands_in_order();
 }
 

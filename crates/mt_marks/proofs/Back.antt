@@ -52,7 +52,6 @@ same_back one other e =
       failsafe = (part i).node.armed;
       versions = (part i).node.versions;
       changes = (part i).node.changes;
-      changed = (part i).node.changed;
       events = (part i).events.shared;
       next = (part i).events.next;
       boot = (part i).node.boot;

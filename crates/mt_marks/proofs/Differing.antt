@@ -30,7 +30,6 @@ all_same one other same = λ i. record {
   failsafe = same parts.Failsafe i;
   versions = (same parts.Versions).0 i;
   changes = (same parts.Versions).1 i;
-  changed = (same parts.Versions).2 i;
   events = same parts.Events i;
   next = same parts.Numbers i;
   boot = same parts.Boot i;

@@ -33,14 +33,9 @@ same_parts law parts.Networks event other p q = told_same law of_networks p.node
 same_parts law parts.Failsafe event other p q = told_same law of_failsafe p.node.armed q.node.armed
 same_parts law parts.Versions event other p q =
     let versions = told_same law of_versions p.node.versions q.node.versions in
-    let changes = told_same law of_changes p.node.changes q.node.changes in
-    let changed = number_same p.node.changed q.node.changed in (
-      λ holds. (
-          let told = and_parts (are_same of_versions p.node.versions q.node.versions) (are_same of_changes p.node.changes q.node.changes && p.node.changed == q.node.changed) holds in
-          let more = and_parts (are_same of_changes p.node.changes q.node.changes) (p.node.changed == q.node.changed) told.1 in
-          (versions.0 told.0, changes.0 more.0, changed.0 more.1)
-          ),
-      λ same. both _ _ (versions.1 same.0) (both _ _ (changes.1 same.1) (changed.1 same.2)),
+    let changes = told_same law of_changes p.node.changes q.node.changes in (
+      λ holds. (let told = and_parts (are_same of_versions p.node.versions q.node.versions) (are_same of_changes p.node.changes q.node.changes) holds in (versions.0 told.0, changes.0 told.1)),
+      λ same. both _ _ (versions.1 same.0) (changes.1 same.1),
     )
 same_parts law parts.Events event other p q = told_same law of_happened p.events.shared q.events.shared
 same_parts law parts.Numbers event other p q = number_same p.events.next q.events.next
@@ -85,7 +80,6 @@ module _ (law : CodesTellThemselves) (event other : Event) (p q : PublicPart) wh
           armed = is parts.Failsafe i;
           versions = versions.0 i;
           changes = versions.1 i;
-          changed = versions.2 i;
           boot = is parts.Boot i;
           clock = is parts.Now i;
         };
@@ -101,7 +95,7 @@ self_same event p parts.Fabrics = refl
 self_same event p parts.Roots = refl
 self_same event p parts.Networks = refl
 self_same event p parts.Failsafe = refl
-self_same event p parts.Versions = (refl, refl, refl)
+self_same event p parts.Versions = (refl, refl)
 self_same event p parts.Events = refl
 self_same event p parts.Numbers = refl
 self_same event p parts.Boot = refl

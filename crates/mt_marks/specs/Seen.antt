@@ -29,7 +29,6 @@ view_in mark = record {
   armed = mark.failsafe;
   versions = mark.versions;
   changes = mark.changes;
-  changed = mark.changed;
   boot = mark.boot;
   clock = mark.now;
 }

@@ -110,9 +110,7 @@ fn is_same(part: Part, one: &Mark, other: &Mark) -> bool
         Part::Networks => one.networks.is_same(&other.networks),
         Part::Failsafe => one.failsafe.is_same(&other.failsafe),
         Part::Versions => {
-            one.versions.is_same(&other.versions)
-                && one.changes.is_same(&other.changes)
-                && one.changed == other.changed
+            one.versions.is_same(&other.versions) && one.changes.is_same(&other.changes)
         },
         Part::Events => one.events.is_same(&other.events),
         Part::Numbers => one.next == other.next,

@@ -46,7 +46,6 @@ pub fn public_mark(
         failsafe: bare_failsafe(alloc, &state.armed)?,
         versions: state.versions.copy()?,
         changes: state.changes.copy()?,
-        changed: state.changed,
         events: shared_events(alloc, rings)?,
         next: numbers.next,
         boot: state.boot,

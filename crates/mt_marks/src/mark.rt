@@ -45,8 +45,6 @@ pub struct Mark {
     pub failsafe: Option<Armed>,
     pub versions: Versions,
     pub changes: ChangeNumbers,
-    /// How many actions have changed an attribute.
-    pub changed: u64,
     pub events: Recent,
     /// The number of the next event.
     pub next: u64,
@@ -67,7 +65,6 @@ impl Drop for Mark {
             failsafe: _,
             versions: _,
             changes: _,
-            changed: _,
             events: _,
             next: _,
             boot: _,

@@ -1,10 +1,12 @@
 -- Which values have the form that the table asks of a value that is written, of the fields of an item, and of the fields of a
 -- command. That a written value has another type is told before that it breaks a limit, so there are two tests.
-use Rattle.std.specs.Prelude.{ℕ, nat_le, ◌&&◌, not, Bool, true, false, List, length, Option, Some, None}
+use Rattle.std.specs.Prelude.{ℕ, nat_le, ◌&&◌, not, Bool, true, false, if◌then◌else◌, List, [], ◌∷◌, length, Option, Some, None}
 use Rattle.std.specs.List.{list_all}
 use Rattle.std.specs.Str.{is_utf8}
 use Rattle.mt_tlv.specs.Tree.{Tree, uint, bool, text, octets, null, structure, array, Elements, none, more}
-use Rattle.mt_model.specs.Trees.{field_in}
+use Rattle.mt_tlv.specs.Scalars.{unsigned_in}
+use Rattle.mt_model.specs.Optional.{is_that}
+use Rattle.mt_model.specs.Trees.{field_in, is_context}
 use Rattle.mt_meta.specs.declared.rows.Field.{Field}
 use Rattle.mt_meta.specs.declared.rows.Form.{Form}
 use Rattle.mt_meta.specs.declared.rows.Form.TheVariants as forms
@@ -84,6 +86,33 @@ are_within fields es = list_all (λ (field : Field). field_is_within field (fiel
 abbrev pub is_item : List Field → Tree → Bool
 is_item fields (structure es) = have_types fields es
 is_item fields tree = false
+
+-- Items as they are kept: the named fields alone, in the order of the table, each with its type and within its limits. Whose an item is
+-- always stands there.
+
+abbrev pub is_fabric_index : Form → Bool
+is_fabric_index forms.FabricIndex = true
+is_fabric_index form = false
+
+-- whether an item may be kept without the field
+abbrev pub may_be_missing : Field → Bool
+may_be_missing field = not field.needed && not (is_fabric_index field.form)
+
+-- the field of an item that is this fabric's
+abbrev pub is_kept_as : ℕ → Form → Tree → Bool
+is_kept_as fabric form tree = if is_fabric_index form then is_that fabric (unsigned_in tree) else has_type form tree && is_within form tree
+
+abbrev pub are_kept_fields : ℕ → List Field → Elements → Bool
+are_kept_fields fabric [] none = true
+are_kept_fields fabric [] (more tag v es) = false
+are_kept_fields fabric (field ∷ fields) none = may_be_missing field && are_kept_fields fabric fields none
+are_kept_fields fabric (field ∷ fields) (more tag v es) =
+    if is_context field.number tag then is_kept_as fabric field.form v && are_kept_fields fabric fields es
+    else may_be_missing field && are_kept_fields fabric fields (more tag v es)
+
+abbrev pub is_kept_item : List Field → ℕ → Tree → Bool
+is_kept_item fields fabric (structure es) = are_kept_fields fabric fields es
+is_kept_item fields fabric tree = false
 
 -- Whether a value is a structure that has these fields: each that must be there is, and each that is there has its type and keeps
 -- its limits.

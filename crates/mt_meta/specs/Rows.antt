@@ -21,7 +21,7 @@ use Rattle.mt_meta.specs.declared.rows.Takes.TheVariants as takes
 abbrev pub plain : ℕ → Kind → AttributeRow
 plain number kind = record {
   number = number;
-  meta = record { kind = kind; read = View; write = None; scoped = false; timed = false; kept = false; limit = 0 };
+  meta = record { kind = kind; read = View; write = None; scoped = false; timed = false; kept = false; least = 0; limit = 0 };
   takes = takes.Nothing;
   origin = Computed;
   sensitive = Nothing;
@@ -33,6 +33,10 @@ read_by privilege row = record row { meta = record row.meta { read = privilege }
 -- with the most bytes or items, where it is a text or a list, and 0 where it is not
 abbrev pub written_by : Privilege → ℕ → AttributeRow → AttributeRow
 written_by privilege limit row = record row { meta = record row.meta { write = Some privilege; limit = limit } }
+
+-- with the least bytes of a text
+abbrev pub at_least : ℕ → AttributeRow → AttributeRow
+at_least least row = record row { meta = record row.meta { least = least } }
 
 -- a value of this form
 abbrev pub taking : Form → AttributeRow → AttributeRow

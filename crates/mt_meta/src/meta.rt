@@ -44,6 +44,8 @@ pub struct Meta {
     pub timed: bool,
     /// Whether its value is kept over a restart.
     pub kept: bool,
+    /// The least bytes of a text that can be written. 0 for every other attribute.
+    pub least: u16,
     /// The most bytes of a text, or items of a list, that can be written; of a scoped list, the most
     /// items of one fabric. 0 for every other attribute.
     pub limit: u16,

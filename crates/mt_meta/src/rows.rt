@@ -127,6 +127,7 @@ pub(crate) const PLAIN: Meta = Meta {
     scoped: false,
     timed: false,
     kept: false,
+    least: 0,
     limit: 0,
 };
 

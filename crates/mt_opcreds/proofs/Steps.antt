@@ -1,6 +1,6 @@
 -- The steps of each command are well formed.
-use Rattle.std.proofs.Common.{◌≡◌, ℕ, ◌≤◌, ◌==◌, ◌&&◌, nat_le, not, Bool, true, false, List, [], ◌∷◌, length, bytes_eq, Option, Some, None, Result, Ok, Err, is_some, refl, subst, if◌then◌else◌, eq-eqb, eqb-true, leb-true, arith}
-use Rattle.std.proofs.lemmas.Bool.{and_parts, false≢true}
+use Rattle.std.proofs.Common.{inl, inr, ◌≡◌, ℕ, ◌≤◌, ◌^◌, ◌==◌, ◌&&◌, nat_le, nat_lt, not, Bool, true, false, List, [], ◌∷◌, length, bytes_eq, Option, Some, None, Result, Ok, Err, is_some, refl, subst, if◌then◌else◌, eq-eqb, eqb-true, leb-true, arith}
+use Rattle.std.proofs.lemmas.Bool.{and_parts, cases_Bool, false≢true, lt-ltb}
 use Rattle.std.specs.List.{list_all, list_any}
 use Rattle.std.specs.Str.{chars, is_utf8}
 use Rattle.mt_tlv.specs.View.{tree}
@@ -10,6 +10,7 @@ use Rattle.mt_fabrics.specs.Table.{credentials_at, has_others_label, is_used, le
 use Rattle.mt_failsafe.specs.Calls.{is_context}
 use Rattle.mt_failsafe.specs.Notes.{is_for_update, was_added}
 use Rattle.mt_meta.specs.Fields.{has_fields}
+use Rattle.mt_meta.specs.Given.{number_of}
 use Rattle.mt_meta.specs.Rows.{any_number, any_octets, any_text, needed, optional}
 use Rattle.mt_meta.specs.clusters.OperationalCredentials.{add_noc_fields, command_fields, csr_request_fields}
 use Rattle.mt_meta.specs.declared.rows.Form.TheVariants as forms
@@ -36,7 +37,7 @@ use Rattle.mt_opcreds.proofs.Verdicts.{chain_judged, root_judged}
 use Rattle.mt_opcreds.specs.AddNoc.{add_if, add_judged, add_noc_effect, add_refusal, add_under, add_with, first_entry, ipk_in, new_credentials, subject_in}
 use Rattle.mt_opcreds.specs.AddTrustedRoot.{add_root_effect, cert_in, root_answered, root_under}
 use Rattle.mt_opcreds.specs.CsrRequest.{csr_answered, csr_request_effect, csr_under, is_update_in, nonce_in}
-use Rattle.mt_opcreds.specs.Fields.{icac_in, noc_in}
+use Rattle.mt_opcreds.specs.Fields.{icac_in, noc_in, short_of}
 use Rattle.mt_opcreds.specs.Judged.{Judged, chain_verdict, csr_verdict, root_verdict}
 use Rattle.mt_opcreds.specs.Laws.{KeepsRules, StepsAreWellFormed, are_credentials_if, is_well_formed}
 use Rattle.mt_opcreds.specs.Owner.{owned_by}
@@ -50,9 +51,9 @@ use Rattle.mt_opcreds.specs.declared.fault.CertificateFault.TheVariants.{Invalid
 abbrev Fits : Effect → Type 0
 Fits effect = list_all is_well_formed effect.steps ≡ true
 
-are : (given : Credentials) → is_certificate given.root ≡ true → (length given.root_key == 65) ≡ true → is_operational given.node_id ≡ true → is_certificate given.noc ≡ true → is_intermediate given.icac ≡ true → (length given.ipk == 16) ≡ true
+are : (given : Credentials) → is_certificate given.root ≡ true → (length given.root_key == 65) ≡ true → nat_lt given.fabric_id (2 ^ 64) ≡ true → is_operational given.node_id ≡ true → is_certificate given.noc ≡ true → is_intermediate given.icac ≡ true → (length given.ipk == 16) ≡ true
     → are_credentials given ≡ true
-are given root key node noc icac ipk = λ i. root i && key i && node i && noc i && icac i && ipk i
+are given root key id node noc icac ipk = λ i. root i && key i && id i && node i && noc i && icac i && ipk i
 
 exact : (n wanted : ℕ) → (nat_le wanted n && nat_le n wanted) ≡ true → (n == wanted) ≡ true
 exact n wanted e =
@@ -98,6 +99,13 @@ add_ipk (values.Struct es) form =
     exact (length (ipk_in (values.Struct es))) 16 (octets_fit 2 16 16 (field_in 2 es) type.0 limit.0)
 add_ipk value form = absurd (false≢true form)
 
+-- the number of a vendor has 16 bits
+short-fits : (n : ℕ) → nat_lt (short_of n) (2 ^ 16) ≡ true
+short-fits n = elim (cases_Bool (nat_le n 0xffff)) [
+  | inl fits ↦ rw fits (lt-ltb n (2 ^ 16) (omega (arith, leb-true n 0xffff fits)))
+  | inr not_so ↦ rw not_so refl
+]
+
 first_entry-is : (index subject : ℕ) → may_be_subject Case subject ≡ true → is_entry (first_entry index subject) ≡ true
 first_entry-is index subject may = λ i. (((may i && true) && true) && true) && true
 
@@ -112,10 +120,11 @@ module _ (judged : Judged) (keeps : KeepsRules judged) (command : Place) (fields
       let one = not_first (not (bytes_eq chain.nonce nonce)) InvalidPublicKey _ e in
       let two = not_first (not (is_operational chain.node_id)) InvalidNodeOpId _ one.1 in
       let three = not_first (not (may_be_subject Case (subject_in fields))) InvalidAdminSubject _ two.1 in
-      let credentials = are (new_credentials fields root judged_root chain) root_rules.0 root_rules.1 (not_true (is_operational chain.node_id) two.0) chain_rules.1 chain_rules.2 ipk in
+      let credentials = are (new_credentials fields root judged_root chain) root_rules.0 root_rules.1 chain_rules.3 (not_true (is_operational chain.node_id) two.0) chain_rules.1 chain_rules.2 ipk in
       let entry = first_entry-is index (subject_in fields) (not_true (may_be_subject Case (subject_in fields)) three.0) in
       let own = eq-eqb index index refl in
-      λ i. (credentials i && utf8_nil i) && (((entry i && true) && ((own i && true) && true)) && true)
+      let vendor = short-fits (number_of 4 fields) in
+      λ i. (credentials i && utf8_nil i && vendor i) && (((entry i && true) && ((own i && true) && true)) && true)
 
   add_judged-fits : (fabrics : List Fabric) (nonce root : List ℕ) (judged_root : Option RootRow) (chain : Option JoinRow) → root_verdict judged root ≡ judged_root → chain_verdict judged root (noc_in fields) (icac_in fields) ≡ chain
       → (length (ipk_in fields) == 16) ≡ true → Fits (add_judged fabrics command fields nonce root judged_root chain)
@@ -147,12 +156,13 @@ module _ (judged : Judged) (keeps : KeepsRules judged) (command : Place) (fields
       let two = not_first (not (bytes_eq chain.nonce nonce)) InvalidPublicKey _ one.1 in
       let three = not_first (not (is_operational chain.node_id)) InvalidNodeOpId _ two.1 in
       let node = not_true (is_operational chain.node_id) three.0 in
-      let last = and_parts (is_certificate own.root && (length own.root_key == 65) && is_operational own.node_id && is_certificate own.noc && is_intermediate own.icac) (length own.ipk == 16) rules in
-      let fourth = and_parts (is_certificate own.root && (length own.root_key == 65) && is_operational own.node_id && is_certificate own.noc) (is_intermediate own.icac) last.0 in
-      let third = and_parts (is_certificate own.root && (length own.root_key == 65) && is_operational own.node_id) (is_certificate own.noc) fourth.0 in
-      let second = and_parts (is_certificate own.root && (length own.root_key == 65)) (is_operational own.node_id) third.0 in
+      let last = and_parts (is_certificate own.root && (length own.root_key == 65) && nat_lt own.fabric_id (2 ^ 64) && is_operational own.node_id && is_certificate own.noc && is_intermediate own.icac) (length own.ipk == 16) rules in
+      let fifth = and_parts (is_certificate own.root && (length own.root_key == 65) && nat_lt own.fabric_id (2 ^ 64) && is_operational own.node_id && is_certificate own.noc) (is_intermediate own.icac) last.0 in
+      let fourth = and_parts (is_certificate own.root && (length own.root_key == 65) && nat_lt own.fabric_id (2 ^ 64) && is_operational own.node_id) (is_certificate own.noc) fifth.0 in
+      let third = and_parts (is_certificate own.root && (length own.root_key == 65) && nat_lt own.fabric_id (2 ^ 64)) (is_operational own.node_id) fourth.0 in
+      let second = and_parts (is_certificate own.root && (length own.root_key == 65)) (nat_lt own.fabric_id (2 ^ 64)) third.0 in
       let first = and_parts (is_certificate own.root) (length own.root_key == 65) second.0 in
-      let credentials = are (renewed fields own chain) first.0 first.1 node chain_rules.1 chain_rules.2 last.1 in
+      let credentials = are (renewed fields own chain) first.0 first.1 second.1 node chain_rules.1 chain_rules.2 last.1 in
       λ i. credentials i && true
 
   update_judged-fits : (index : ℕ) (nonce : List ℕ) (own : Credentials) → are_credentials own ≡ true → (chain : Option JoinRow) → chain_verdict judged own.root (noc_in fields) (icac_in fields) ≡ chain

@@ -1,5 +1,5 @@
 -- What is found among the verdicts keeps their rules.
-use Rattle.std.proofs.Common.{◌≡◌, ℕ, ◌==◌, ◌&&◌, Bool, true, false, List, [], ◌∷◌, length, bytes_eq, Some, refl, sym, subst, ◌∙◌}
+use Rattle.std.proofs.Common.{◌≡◌, ℕ, ◌^◌, ◌==◌, ◌&&◌, nat_lt, Bool, true, false, List, [], ◌∷◌, length, bytes_eq, Some, refl, sym, subst, ◌∙◌}
 use Rattle.std.proofs.lemmas.Bool.{and_parts, cond-false, cond-true}
 use Rattle.std.proofs.lemmas.Slice.Eq.{bytes_eq-Decides}
 use Rattle.std.specs.List.{find, list_all}
@@ -36,15 +36,17 @@ root_judged judged keeps cert row is =
 
 -- the certificates of a chain of which a verdict speaks are such
 pub chain_judged : (judged : Judged) → KeepsRules judged → (root noc icac : List ℕ) (row : JoinRow) → chain_verdict judged root noc icac ≡ Some row
-    → (is_certificate root ≡ true) × (is_certificate noc ≡ true) × (is_intermediate icac ≡ true)
+    → (is_certificate root ≡ true) × (is_certificate noc ≡ true) × (is_intermediate icac ≡ true) × (nat_lt row.fabric_id (2 ^ 64) ≡ true)
 chain_judged judged keeps root noc icac row is =
     let both = found (is_chain_of root noc icac) is_join judged.joins row keeps.joins is in
     let names = and_parts (bytes_eq row.root root) (bytes_eq row.noc noc && bytes_eq row.icac icac) both.0 in
     let others = and_parts (bytes_eq row.noc noc) (bytes_eq row.icac icac) names.1 in
-    let three = and_parts (is_certificate row.root && is_certificate row.noc && is_intermediate row.icac) (length row.nonce == 32) both.1 in
+    let four = and_parts (is_certificate row.root && is_certificate row.noc && is_intermediate row.icac && (length row.nonce == 32)) (nat_lt row.fabric_id (2 ^ 64)) both.1 in
+    let three = and_parts (is_certificate row.root && is_certificate row.noc && is_intermediate row.icac) (length row.nonce == 32) four.0 in
     let two = and_parts (is_certificate row.root && is_certificate row.noc) (is_intermediate row.icac) three.0 in
     let one = and_parts (is_certificate row.root) (is_certificate row.noc) two.0 in (
       subst (λ (bytes : List ℕ). is_certificate bytes ≡ true) (same_bytes row.root root names.0) one.0,
       subst (λ (bytes : List ℕ). is_certificate bytes ≡ true) (same_bytes row.noc noc others.0) one.1,
       subst (λ (bytes : List ℕ). is_intermediate bytes ≡ true) (same_bytes row.icac icac others.1) two.1,
+      four.1,
     )

@@ -7,6 +7,7 @@ use Rattle.mt_failsafe.specs.Notes.{is_for_update}
 use Rattle.mt_model.specs.messages.Effects.{refused_at}
 use Rattle.mt_model.specs.tables.Known.{Known}
 use Rattle.mt_model.specs.texts.Config.{has_identity, is_operational, may_be_subject}
+use Rattle.mt_model.specs.declared.limits.TheConstants.{FABRICS}
 use Rattle.mt_model.specs.declared.messages.status.Status.{Status}
 use Rattle.mt_model.specs.declared.messages.status.Status.TheVariants.{ConstraintError}
 use Rattle.mt_model.specs.declared.node.action.Effect.{Effect}
@@ -73,7 +74,7 @@ add_refusal fabrics fields nonce judged_root chain =
     else if not (is_operational chain.node_id) then Some InvalidNodeOpId
     else if not (may_be_subject Case (subject_in fields)) then Some InvalidAdminSubject
     else if list_any (has_identity judged_root.key chain.fabric_id) fabrics then Some FabricConflict
-    else if nat_le 16 (length fabrics) then Some TableFull
+    else if nat_le FABRICS (length fabrics) then Some TableFull
     else None
 
 abbrev pub add_if : ℕ → Place → Value → Credentials → Option CertificateFault → Effect

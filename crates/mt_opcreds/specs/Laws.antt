@@ -11,6 +11,7 @@ use Rattle.mt_meta.specs.clusters.OperationalCredentials.{command_fields}
 use Rattle.mt_model.specs.rows.Setting.{is_entry_of}
 use Rattle.mt_model.specs.tables.Known.{Known}
 use Rattle.mt_model.specs.texts.Config.{are_credentials, is_certificate, is_csr, is_entry, is_fabric, is_join, is_label, is_pase, is_root}
+use Rattle.mt_model.specs.declared.limits.TheConstants.{ENTRIES, NONCE_BYTES}
 use Rattle.mt_model.specs.declared.node.action.NodeStep.{NodeStep}
 use Rattle.mt_model.specs.declared.node.action.NodeStep.TheVariants.{AddFabric, AddRoot, Csr, Label, RemoveFabric, SetEntries, UpdateFabric}
 use Rattle.mt_model.specs.declared.rows.place.Place.{Place}
@@ -25,9 +26,9 @@ use Rattle.mt_opcreds.specs.Judged.{Judged}
 abbrev pub is_well_formed : NodeStep → Bool
 is_well_formed (AddFabric fabric) = is_fabric fabric
 is_well_formed (UpdateFabric index credentials) = are_credentials credentials
-is_well_formed (SetEntries fabric entries) = list_all is_entry entries && (list_all (is_entry_of fabric) entries && nat_le (length entries) 4)
+is_well_formed (SetEntries fabric entries) = list_all is_entry entries && (list_all (is_entry_of fabric) entries && nat_le (length entries) ENTRIES)
 is_well_formed (AddRoot cert) = is_certificate cert
-is_well_formed (Csr nonce update) = length nonce == 32
+is_well_formed (Csr nonce update) = length nonce == NONCE_BYTES
 is_well_formed (Label index label) = is_label label
 is_well_formed step = true
 

@@ -5,6 +5,7 @@ use Rattle.mt_tlv.specs.declared.value.Value.{Value}
 use Rattle.mt_fabrics.specs.Table.{has_others_label}
 use Rattle.mt_model.specs.messages.Effects.{refused_at}
 use Rattle.mt_model.specs.tables.Known.{Known}
+use Rattle.mt_model.specs.declared.limits.TheConstants.{LABEL_BYTES}
 use Rattle.mt_model.specs.declared.messages.status.Status.TheVariants.{ConstraintError}
 use Rattle.mt_model.specs.declared.node.action.Effect.{Effect}
 use Rattle.mt_model.specs.declared.node.action.NodeStep.TheVariants.{Label}
@@ -19,7 +20,7 @@ label_in fields = text_of 0 fields
 -- no two fabrics have one label, unless it is empty
 abbrev pub labelled : Known → ℕ → Place → List ℕ → Effect
 labelled known index command label =
-    if not (nat_le (length label) 32) then refused_at command ConstraintError
+    if not (nat_le (length label) LABEL_BYTES) then refused_at command ConstraintError
     else if list_any (has_others_label index label) known.fabrics then noc_refused command LabelConflict
     else noc_done command index (Label index label ∷ [])
 

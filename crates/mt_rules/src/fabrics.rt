@@ -42,7 +42,9 @@ pub fn are_all_fabrics(fabrics: &[Fabric]) -> bool
 fn is_fabric(fabric: &Fabric) -> bool
     ensures { result ≡ is_fabric fabric.now }
 {
-    are_credentials(&fabric.credentials) && is_label(fabric.label.as_slice())
+    are_credentials(&fabric.credentials)
+        && is_label(fabric.label.as_slice())
+        && fabric.vendor <= u16::MAX
 }
 
 /// Whether credentials have their lengths, and an operational node id.
@@ -51,6 +53,7 @@ pub fn are_credentials(given: &Credentials) -> bool
 {
     is_certificate(given.root.as_slice())
         && given.root_key.as_slice().len() == ROOT_KEY_BYTES
+        && given.fabric_id <= u64::MAX
         && is_operational(given.node_id)
         && is_certificate(given.noc.as_slice())
         && is_intermediate(given.icac.as_slice())

@@ -75,6 +75,7 @@ fn is_join(row: &JoinRow) -> bool
         && is_certificate(row.noc.as_slice())
         && is_intermediate(row.icac.as_slice())
         && row.nonce.as_slice().len() == NONCE_BYTES
+        && row.fabric_id <= u64::MAX
 }
 
 /// Whether these may be the ids of reachable networks.

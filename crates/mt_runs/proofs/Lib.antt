@@ -6,8 +6,10 @@ pub mod Leaving
 pub mod Marking
 pub mod Naming
 pub mod Replays
+pub mod Replies
 pub mod Sending
 pub mod Sessions
+pub mod Standing
 pub mod Steps
 pub mod Subscribers
 pub mod Talks

@@ -1,5 +1,5 @@
 -- Over which session a subscriber is told: one that is live for the fabric of the subscription.
-use Rattle.std.proofs.Common.{◌≡◌, ℕ, ◌==◌, ◌||◌, inl, inr, Bool, true, false, List, [], ◌∷◌, Option, Some, None, refl, sym, ap, subst, ◌∙◌, filter, unwrap_or, if◌then◌else◌}
+use Rattle.std.proofs.Common.{◌≡◌, ℕ, ◌==◌, ◌||◌, inl, inr, Bool, true, false, List, [], ◌∷◌, Option, Some, None, refl, sym, ap, subst, ◌∙◌, filter, is_some, unwrap_or, if◌then◌else◌}
 use Rattle.std.proofs.lemmas.Bool.{and_parts, cases_Bool, eqb-true}
 use Rattle.std.specs.List.{find, list_all, list_any}
 use Rattle.std.specs.Option.{option_map}
@@ -8,6 +8,7 @@ use Rattle.mt_model.specs.declared.node.state.NodeSession.{NodeSession}
 use Rattle.mt_model.specs.declared.node.state.NodeState.{NodeState}
 use Rattle.mt_model.specs.declared.rows.place.Place.{Place}
 use Rattle.mt_model.specs.declared.tables.access.Actor.{Actor}
+use Rattle.mt_model.specs.texts.Config.{none_alike}
 use Rattle.mt_subs.specs.Leaving.{is_live_as, is_live_over, is_there, stands_in}
 use Rattle.mt_subs.specs.Owed.{due_of}
 use Rattle.mt_subs.specs.Subscriptions.{is_named as is_subscription, kept_at}
@@ -18,8 +19,8 @@ use Rattle.mt_machine.specs.Step.{session_actor}
 use Rattle.mt_ledger.specs.history.History.{History}
 use Rattle.mt_ledger.specs.Ledger.{IsLedger, Ledger}
 use Rattle.mt_ledger.specs.Reporting.{Due, due_kept, due_now, has_unreported, with_places}
-use Rattle.mt_runs.specs.Isolation.{IsValidWhole}
-use Rattle.mt_runs.specs.Whole.{Whole, fabric_over}
+use Rattle.mt_runs.specs.Isolation.{IsValidWhole, have_one_id}
+use Rattle.mt_runs.specs.Whole.{Whole, fabric_over, is_live}
 use Rattle.mt_runs.proofs.Ids.{is_named}
 use Rattle.mt_runs.proofs.Sessions.{is_its, is_mine, own_named}
 
@@ -109,6 +110,12 @@ subscriber_among s l is now fabric id due now_due session over =
     let stands : is_there s fabric due.kept.sub.actor.auth due.kept.sub.actor.session ≡ true = found_stands s fabric id due.kept l.subs.subscriptions is.there kept in
     live_among fabric session s.sessions (subst (λ (o : Option ℕ). is_there s fabric due.kept.sub.actor.auth o ≡ true) over stands)
 
+-- It is live.
+
+its_live : (fabric : ℕ) (found : Option Actor) → is_its fabric found ≡ true → is_some found ≡ true
+its_live fabric None its = its
+its_live fabric (Some a) its = refl
+
 -- Such a session is live for that fabric.
 
 its_fabric : (fabric : ℕ) (found : Option Actor) → is_its fabric found ≡ true → unwrap_or (option_map (λ (actor : Actor). actor.fabric) found) 0 ≡ fabric
@@ -117,3 +124,8 @@ its_fabric fabric (Some a) its = eqb-true a.fabric fabric its
 
 pub own_over : (w : Whole) → IsValidWhole w → (fabric id : ℕ) → list_any (is_named id) (own fabric w.state.node).sessions ≡ true → fabric_over w.state.node id ≡ fabric
 own_over w valid fabric id there = its_fabric fabric (session_actor w.state.node id) (sym (own_named fabric w.state.node id valid.sessions_differ) ∙ there)
+
+pub subscriber_live : (s : NodeState) (l : Ledger) → IsLedger s l → none_alike have_one_id s.sessions ≡ true → (now fabric id : ℕ) (due : Due) → due_now s l now fabric id ≡ Some due → (session : ℕ) → due.kept.sub.actor.session ≡ Some session
+    → is_live s session ≡ true
+subscriber_live s l is apart now fabric id due now_due session over =
+    its_live fabric (session_actor s session) (sym (own_named fabric s session apart) ∙ subscriber_among s l is now fabric id due now_due session over)

@@ -15,6 +15,7 @@ use Rattle.mt_model.specs.declared.texts.recording.Event.TheVariants as events
 use Rattle.mt_opcreds.specs.Laws.{KeepsRules}
 use Rattle.mt_talk.specs.Talks.{ended_in}
 use Rattle.mt_im.specs.Reading.{request_in}
+use Rattle.mt_machine.specs.Deadlines.{ActionsKeepDeadlines, AreDeadlines, PlainLinesKeepDeadlines}
 use Rattle.mt_machine.specs.Environment.{Environment}
 use Rattle.mt_machine.specs.Laws as machine
 use Rattle.mt_machine.specs.Lines.{action_of, deadline_for, line_actor}
@@ -28,9 +29,10 @@ use Rattle.mt_ledger.specs.Laws as ledger_laws
 use Rattle.mt_opcreds.specs.Judged.{judged_by}
 use Rattle.mt_runs.specs.Datagrams.{session_named}
 use Rattle.mt_runs.specs.Isolation.{IsValidWhole, have_one_id}
-use Rattle.mt_runs.specs.Lines.{action_asked, activity_again, activity_named, ledger_after, next, state_behind}
+use Rattle.mt_runs.specs.Lines.{action_asked, activity_again, activity_named, ledger_after, next, state_behind, talks_behind}
 use Rattle.mt_runs.specs.Whole.{SessionTalk, Whole, fabric_over, is_live, talk_of, whole_with}
 use Rattle.mt_runs.proofs.Ids.{differ_still, ids_of, not_false, or_parts}
+use Rattle.mt_runs.proofs.Standing.{begun_names, begun_quiet, behind_quiet, let_go_quiet, next_names}
 
 -- Rows of one boot with different ids give sessions with different ids.
 
@@ -69,8 +71,11 @@ pub opens : machine.OpensValid → ledger_laws.OpensLedger → (fabrics : List F
 unfolding are_sessions
 opens opens_valid opens_ledger fabrics entries sessions fabrics_fit entries_fit sessions_fit = record {
   node = opens_valid fabrics entries sessions fabrics_fit entries_fit;
-  ledger = opens_ledger (whole_with fabrics entries sessions).state.node;
+  deadlines = record { few = λ fabric. refl; differ = refl; known = refl };
+  ledger = opens_ledger (whole_with fabrics entries sessions).state.node 0;
   sessions_differ = rows_differ fabrics sessions (third sessions_fit);
+  talks_stand = begun_names fabrics (filter is_first sessions);
+  quiet = begun_quiet (whole_with fabrics entries sessions).state.node (filter is_first sessions);
 }
   where
     third : are_sessions sessions ≡ true → none_alike have_one_session sessions ≡ true
@@ -101,6 +106,14 @@ node_stays stays given w (events.Report ms fabric subscription) keeps valid = st
 node_stays stays given w (events.Resend ms session) keeps valid = stays given w.state.node actions.Nothing ms keeps valid
 node_stays stays given w (events.Stop calls fate) keeps valid = valid
 
+deadlines_stay : PlainLinesKeepDeadlines → ActionsKeepDeadlines → (given : Environment) (w : Whole) (e : Event) → IsValid w.state.node → AreDeadlines w.state → AreDeadlines (state_behind given w e)
+deadlines_stay lines actions_keep given w (events.Ask ms fabric node cats opcode payload) valid are = lines given w.state (events.Ask ms fabric node cats opcode payload) valid are
+deadlines_stay lines actions_keep given w (events.Datagram ms from bytes) valid are = actions_keep given w.state (action_in (activity_named w.state.node bytes (talk_of (session_named bytes) w.talks))) ms are
+deadlines_stay lines actions_keep given w (events.Tick ms) valid are = lines given w.state (events.Tick ms) valid are
+deadlines_stay lines actions_keep given w (events.Report ms fabric subscription) valid are = actions_keep given w.state actions.Nothing ms are
+deadlines_stay lines actions_keep given w (events.Resend ms session) valid are = actions_keep given w.state actions.Nothing ms are
+deadlines_stay lines actions_keep given w (events.Stop calls fate) valid are = are
+
 -- What ends with resends is no action of the node.
 
 ends_act_not : (ends : Bool) (fabric : ℕ) (ids : List ℕ) → action_in (if ends then activities.ends fabric ids else acts actions.Nothing) ≡ actions.Nothing
@@ -130,9 +143,12 @@ bare given = record { judged = judged_by [] [] []; reachable = given.reachable }
 pub bare_keeps : (given : Environment) → KeepsRules (bare given).judged
 bare_keeps given = record { roots = refl; csrs = refl; joins = refl }
 
-pub stays : machine.StaysValid → ledger_laws.StaysLedger → machine.SessionsKeepTheirIds → (given : Environment) (w : Whole) (e : Event) → KeepsRules given.judged → IsValidWhole w → IsValidWhole (next given w e)
-stays node ledger kept given w e keeps valid = record {
+pub stays : machine.StaysValid → ledger_laws.StaysLedger → machine.SessionsKeepTheirIds → PlainLinesKeepDeadlines → ActionsKeepDeadlines → (given : Environment) (w : Whole) (e : Event) → KeepsRules given.judged → IsValidWhole w → IsValidWhole (next given w e)
+stays node ledger kept lines actions_keep given w e keeps valid = record {
   node = node_stays node given w e keeps valid.node;
+  deadlines = deadlines_stay lines actions_keep given w e valid.node valid.deadlines;
   ledger = ledger_stays ledger given w e keeps valid.node valid.ledger;
   sessions_differ = differ_still w.state.node.sessions (state_behind given w e).node.sessions (ids_behind kept given w e) valid.sessions_differ;
+  talks_stand = next_names given w e ∙ valid.talks_stand ∙ sym (ids_behind kept given w e);
+  quiet = let_go_quiet w.state.node (state_behind given w e).node (ids_behind kept given w e) (talks_behind given w e) (behind_quiet given w e valid.ledger valid.sessions_differ valid.quiet);
 }

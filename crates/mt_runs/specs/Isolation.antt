@@ -1,15 +1,17 @@
 -- What is a fabric's own of the whole, and the whole that is built of that and of what is public to it.
-use Rattle.std.specs.Prelude.{◌≡◌, ℕ, ◌==◌, Bool, true, List, filter}
-use Rattle.std.specs.List.{list_any}
+use Rattle.std.specs.Prelude.{◌≡◌, ℕ, ◌==◌, ◌||◌, Bool, true, List, filter, length, map}
+use Rattle.std.specs.List.{list_all, list_any}
 use Rattle.mt_model.specs.texts.Config.{none_alike}
 use Rattle.mt_model.specs.declared.node.state.NodeSession.{NodeSession}
 use Rattle.mt_model.specs.declared.node.state.NodeState.{NodeState}
+use Rattle.mt_talk.specs.Talks.{open_in}
 use Rattle.mt_ledger.specs.history.Isolation.{Recent, recent}
 use Rattle.mt_ledger.specs.Isolation.{OwnLedger, own_ledger, seen_ledger}
 use Rattle.mt_ledger.specs.Ledger.{IsLedger}
+use Rattle.mt_machine.specs.Deadlines.{AreDeadlines}
 use Rattle.mt_machine.specs.Isolation.{OwnOfWhole, PublicView, own, own_of_whole, public_view, whole_of}
 use Rattle.mt_machine.specs.State.{IsValid}
-use Rattle.mt_runs.specs.Whole.{SessionTalk, Whole}
+use Rattle.mt_runs.specs.Whole.{SessionTalk, Whole, is_live}
 
 -- the talk of one of these sessions
 abbrev pub is_talk_among : List NodeSession → SessionTalk → Bool
@@ -44,12 +46,26 @@ seen_whole fabric o p = record { state = whole_of fabric o.whole p.node; ledger 
 abbrev pub veil : ℕ → Whole → Whole
 veil fabric w = seen_whole fabric (own_part fabric w) (public_part fabric w)
 
--- What holds of every whole: the node is valid, the ledger is one beside it, and the ids of its sessions differ.
+-- What holds of every whole: the node is valid, the deadlines and the ledger are such as stand beside it, the ids of its sessions differ, and
+-- each session has its talk.
 
 abbrev pub have_one_id : NodeSession → NodeSession → Bool
 have_one_id a b = a.session == b.session
 
+abbrev pub talk_id : SessionTalk → ℕ
+talk_id t = t.row.session
+
+abbrev pub session_id : NodeSession → ℕ
+session_id session = session.session
+
+-- over a session that is not live nothing is open
+abbrev pub is_quiet : NodeState → SessionTalk → Bool
+is_quiet s t = is_live s t.row.session || length (open_in t.row t.talk) == 0
+
 pub record IsValidWhole (w : Whole) : Type 0 where
   pub node : IsValid w.state.node
+  pub deadlines : AreDeadlines w.state
   pub ledger : IsLedger w.state.node w.ledger
   pub sessions_differ : none_alike have_one_id w.state.node.sessions ≡ true
+  pub talks_stand : map talk_id w.talks ≡ map session_id w.state.node.sessions
+  pub quiet : list_all (is_quiet w.state.node) w.talks ≡ true

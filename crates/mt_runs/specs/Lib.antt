@@ -1,4 +1,5 @@
 pub mod Datagrams
+pub mod Expiries
 pub mod Isolation
 pub mod Laws
 pub mod LineLaws
@@ -6,4 +7,5 @@ pub mod Lines
 pub mod Marks
 pub mod Messages
 pub mod Replay
+pub mod Replies
 pub mod Whole

@@ -29,6 +29,9 @@ WholeStaysValid = (given : Environment) (w : Whole) (e : Event) → KeepsRules g
 abbrev pub WholeKeepsItsOwnPart : Type 0
 WholeKeepsItsOwnPart = (fabric : ℕ) (w : Whole) → IsValidWhole w → own_part fabric (veil fabric w) ≡ own_part fabric w
 
+abbrev pub WholeKeepsItsPublicPart : Type 0
+WholeKeepsItsPublicPart = (fabric : ℕ) (w : Whole) → IsValidWhole w → public_part fabric (veil fabric w) ≡ public_part fabric w
+
 -- What an event sends on the veil of its fabric is what it sends on the whole.
 abbrev pub WholeSendsOnTheVeil : Type 0
 WholeSendsOnTheVeil = (given : Environment) (w : Whole) (e : Event) → IsValidWhole w → sent given (veil (fabric_of w.state.node e) w) e ≡ sent given w e

@@ -102,7 +102,7 @@ abbrev pub state_behind : Environment → Whole → Event → State
 state_behind given w (events.Datagram ms from bytes) = behind_action given w.state (action_in (activity_named w.state.node bytes (talk_of (session_named bytes) w.talks))) ms
 state_behind given w (events.Report ms fabric id) = behind_action given w.state actions.Nothing ms
 state_behind given w (events.Resend ms session) = behind_action given w.state actions.Nothing ms
-state_behind given w event = plain.next given w.state event
+state_behind given w event = plain.plain_next given w.state event
 
 -- The events and subscriptions behind a line.
 

@@ -2,7 +2,8 @@
 //! part, and what is made of these two. The definitions stand in `specs/`, a chapter a file; the functions here do nothing,
 //! and their contracts are the laws.
 //!
-//! - `lines`: the laws of lines; their chapters are `Whole`, `Datagrams`, `Lines`, `Isolation` and `LineLaws`;
+//! - `lines`: the laws of lines; their chapters are `Whole`, `Datagrams`, `Lines`, `Replies`, `Expiries`, `Isolation` and
+//!   `LineLaws`;
 //! - `Messages`: all that a run sends, each message with the fabric to which it is sent;
 //! - `Marks`: the marks of a fabric in a run;
 //! - `Replay`: what a fabric is sent, made of its own part and its marks and of nothing else;
@@ -14,8 +15,9 @@ mod lines;
 ghost use Rattle.mt_runs.specs.Laws.{EqualMarksEqualMessages, EqualMarksEqualParts, LinesNameTheirFabric, RunsAreReplayed, RunsAreTheirMessages, RunsLeaveWhatIsReplayed, RunsNameTheirFabrics, RunsStayValid, StrangersAreSentNothing};
 
 pub use lines::{
-    ticks_see_the_mark_alone, veil_keeps_the_own, whole_keeps_the_own,
-    whole_leaves_the_own_on_the_veil, whole_sends_on_the_veil, wholes_are_valid,
+    expiries_are_rollbacks, replies_are_exact, ticks_see_the_mark_alone, veil_keeps_the_own,
+    whole_keeps_the_own, whole_leaves_the_own_on_the_veil, whole_sends_on_the_veil,
+    wholes_are_valid,
 };
 
 /// What is written of a run is its messages in their order, each once; and a run leaves a valid whole.

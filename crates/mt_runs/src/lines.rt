@@ -9,7 +9,9 @@
 //! - `Isolation`: what is a fabric's own of the whole, and the veil that is built of that and of what is public to it;
 //! - `Laws`: the laws.
 
-ghost use Rattle.mt_runs.specs.LineLaws.{WholeKeepsItsOwnPart, WholeKeepsTheOwn, WholeLeavesItsOwnByItsView, WholeLeavesTheOwnOnTheVeil, WholeOpensValid, WholeSeesItsViewAlone, WholeSendsOnTheVeil, WholeStaysValid, WholeTicksOnTheVeil, WholeTicksSeeTheMarkAlone, WholeTicksSpareOthers};
+ghost use Rattle.mt_runs.specs.Expiries.{ExpiriesAreRollbacks};
+ghost use Rattle.mt_runs.specs.LineLaws.{WholeKeepsItsOwnPart, WholeKeepsItsPublicPart, WholeKeepsTheOwn, WholeLeavesItsOwnByItsView, WholeLeavesTheOwnOnTheVeil, WholeOpensValid, WholeSeesItsViewAlone, WholeSendsOnTheVeil, WholeStaysValid, WholeTicksOnTheVeil, WholeTicksSeeTheMarkAlone, WholeTicksSpareOthers};
+ghost use Rattle.mt_runs.specs.Replies.{RepliesAreExact};
 
 use mt_ledger::{
     ledgers_are_left_on_the_veil, ledgers_stay_ledgers, others_ledgers_are_kept,
@@ -17,24 +19,29 @@ use mt_ledger::{
     veils_keep_ledgers,
 };
 use mt_machine::{
-    keeps_the_own, leaves_the_own_on_the_veil, sessions_keep_their_ids, states_are_valid,
-    ticks_let_the_failsafe_expire, veil_keeps_both_parts, what_is_asked_is_the_same_on_the_veil,
+    deadlines_stand, expiries_roll_back, keeps_the_own, leaves_the_own_on_the_veil,
+    sessions_keep_their_ids, states_are_valid, ticks_let_the_failsafe_expire,
+    veil_keeps_both_parts, what_is_asked_is_the_same_on_the_veil,
 };
 
-/// The whole that a configuration begins is valid, and a line leaves it so: its node is valid, its ledger is one beside
-/// that, and the ids of sessions differ.
+/// The whole that a configuration begins is valid, and a line leaves it so: its node is valid, deadlines and its ledger are
+/// such as stand beside that, the ids of sessions differ, each session has its talk, and over one that is not live nothing is
+/// open.
 pub fn wholes_are_valid()
     ensures opens { WholeOpensValid }
     ensures stays { WholeStaysValid }
 {
     states_are_valid();
+    deadlines_stand();
     ledgers_stay_ledgers();
     sessions_keep_their_ids();
 }
 
-/// The veil has the own part of its fabric, its subscriptions and what is said over its live sessions among it.
+/// The veil has the own part of its fabric, its subscriptions and what is said over its live sessions among it, and what is
+/// public to it.
 pub fn veil_keeps_the_own()
-    ensures { WholeKeepsItsOwnPart }
+    ensures own { WholeKeepsItsOwnPart }
+    ensures public { WholeKeepsItsPublicPart }
 {
     veil_keeps_both_parts();
     veils_keep_ledgers();
@@ -92,4 +99,20 @@ pub fn ticks_see_the_mark_alone()
     ledgers_are_left_on_the_veil();
     others_ledgers_are_kept();
     sessions_keep_their_ids();
+}
+
+/// A read is answered by exactly the items of its paths over what the asker's fabric sees, and then the events that it asks
+/// for; a write by a status of each of its items; a command by what its check comes to. So it is on a line of a plain actor,
+/// which sends that and nothing besides unless it subscribes, and over a session.
+pub fn replies_are_exact()
+    ensures { RepliesAreExact }
+{}
+
+/// Whichever line lets the fail-safe expire (a time step, ArmFailSafe with 0 seconds, or the removal of the fabric for which
+/// commissioning goes on), that comes first in it, and the node behind the line is the rollback of the node before, with what
+/// is done behind the expiry. What a rollback leaves of each field is told too.
+pub fn expiries_are_rollbacks()
+    ensures { ExpiriesAreRollbacks }
+{
+    expiries_roll_back();
 }

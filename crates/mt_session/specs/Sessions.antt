@@ -3,6 +3,7 @@
 use Rattle.std.specs.Prelude.{◌≡◌, ℕ, ◌+◌, nat_lt, ◌==◌, List, [], ◌∷◌, ◌++◌, map, length, Option, Some, None, Result, Ok, Err, if◌then◌else◌}
 use Rattle.mt_frame.specs.declared.header.ProtocolHeader.{ProtocolHeader}
 use Rattle.mt_window.specs.Standing.{StandsFor as IsWindowOf}
+use Rattle.mt_model.specs.declared.limits.TheConstants.{LAST_COUNTER, SENT_BYTES}
 use Rattle.mt_model.specs.declared.texts.config.SessionRow.{SessionRow}
 use Rattle.mt_session.specs.declared.opening.Dropped.{Dropped}
 use Rattle.mt_session.specs.declared.fault.SealFault.{SealFault}
@@ -32,8 +33,8 @@ next_datagram row messages header payload = datagram row (next_counter row messa
 -- datagram has more than 1,232 bytes.
 abbrev pub refusal : SessionRow → List Message → ProtocolHeader → List ℕ → Option SealFault
 refusal row messages header payload =
-    if next_counter row messages == 4294967295 then Some Exhausted
-    else if nat_lt 1232 (datagram_length header payload) then Some TooLong
+    if next_counter row messages == LAST_COUNTER then Some Exhausted
+    else if nat_lt SENT_BYTES (datagram_length header payload) then Some TooLong
     else None
 
 -- what was let in, once an answer was given

@@ -2,6 +2,7 @@
 -- each call makes of them.
 use Rattle.std.specs.Prelude.{◌≡◌, ℕ, ◌+◌, ◌≤◌, ◌==◌, ◌&&◌, ◌||◌, nat_le, nat_lt, not, Bool, true, false, List, [], ◌∷◌, ◌++◌, length, count_by, map, filter, find, slice_index, slice_set, replicate, Option, option_map, if◌then◌else◌}
 use Rattle.std.specs.List.{list_all, list_any}
+use Rattle.mt_model.specs.declared.limits.TheConstants.{SUBSCRIPTIONS}
 use Rattle.mt_subs.specs.declared.fault.SubFault.{SubFault}
 use Rattle.mt_subs.specs.declared.fault.SubFault.TheVariants.{Full, Memory}
 use Rattle.mt_subs.specs.declared.subscription.Kept.{Kept}
@@ -58,7 +59,7 @@ was_given next_ids s = nat_lt s.id (slice_index next_ids s.fabric)
 
 pub record IsSubs (subs : SubState) : Type 0 where
   -- no fabric has more than three
-  pub few : (fabric : ℕ) → count_by (is_of fabric) subs.subscriptions ≤ 3
+  pub few : (fabric : ℕ) → count_by (is_of fabric) subs.subscriptions ≤ SUBSCRIPTIONS
   pub ascend : ids_ascend subs.subscriptions ≡ true
   pub given : list_all (was_given subs.next_ids) subs.subscriptions ≡ true
   -- each fabric index has a next id
@@ -74,7 +75,7 @@ abbrev pub begun : Sub → Kept
 begun sub = record { sub = sub; primed = false; live = false; time = 0; change = 0; event = 0 }
 
 abbrev pub is_full : ℕ → SubState → Bool
-is_full fabric subs = nat_le 3 (count_by (is_of fabric) subs.subscriptions)
+is_full fabric subs = nat_le SUBSCRIPTIONS (count_by (is_of fabric) subs.subscriptions)
 
 -- with one more, under the next id of its fabric
 abbrev pub added : ℕ → Sub → SubState → SubState

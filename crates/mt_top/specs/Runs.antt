@@ -2,6 +2,8 @@
 use Rattle.std.specs.Prelude.{ℕ, List}
 use Rattle.mt_endings.specs.Moments.{Moment}
 use Rattle.mt_endings.specs.Run.{Ends}
+use Rattle.mt_runs.specs.Expiries.{ExpiriesAreRollbacks}
+use Rattle.mt_runs.specs.Replies.{RepliesAreExact}
 use Rattle.mt_top.specs.Asked.{asked_of}
 use Rattle.mt_top.specs.Compared.{ComparisonsAreExact}
 use Rattle.mt_top.specs.Denials.{DenialsAreExact}
@@ -15,5 +17,9 @@ pub record IsRun (words : List (List ℕ)) (status : ℕ) (before after : Moment
   pub isolated : RunsAreIsolated
   -- access is denied exactly where no entry grants it
   pub denied : DenialsAreExact
+  -- a line is answered by exactly the items of what it asks, as its fabric sees the state before it
+  pub replied : RepliesAreExact
+  -- behind every expiry of the fail-safe, whichever way it comes, the node is the rollback of what it was
+  pub expired : ExpiriesAreRollbacks
   -- what a comparison tells is what the marks say
   pub compared : ComparisonsAreExact

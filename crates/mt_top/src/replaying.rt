@@ -2,6 +2,8 @@
 
 ghost use Rattle.std.specs.Prelude.{◌≡◌, ◌≢◌, Some, Err, IfErr, OnOk};
 ghost use Rattle.mt_model.specs.texts.Contents.{contents_of};
+ghost use Rattle.mt_runs.specs.Expiries.{ExpiriesAreRollbacks};
+ghost use Rattle.mt_runs.specs.Replies.{RepliesAreExact};
 ghost use Rattle.mt_endings.specs.Endings.{in_hand_of};
 ghost use Rattle.mt_endings.specs.Moments.{Input, in_hand, input, moment};
 ghost use Rattle.mt_endings.specs.Parts.{PlayedTo, StopsPlaying};
@@ -17,6 +19,7 @@ use mt_endings::{Fault, endings_add_up, finish, read_recording, tell_memory};
 use mt_model::{Config, Events};
 use mt_outside::{Sink, Source, write_all, writings_add_up};
 use mt_play::Playing;
+use mt_runs::{expiries_are_rollbacks, replies_are_exact};
 use std::alloc::Global;
 
 /// Runs the recording that `first` gives against a configuration, and writes the output lines to
@@ -32,9 +35,13 @@ pub fn replay_with<A: Source, W: Sink>(
         (moment in_hand (input (A.left first.new) (A.faults first.new)) second (W.written out.new) (W.faults out.new)) }
     ensures isolated { RunsAreIsolated }
     ensures denied { DenialsAreExact }
+    ensures replied { RepliesAreExact }
+    ensures expired { ExpiriesAreRollbacks }
 {
     runs_are_isolated();
     denials_are_exact();
+    replies_are_exact();
+    expiries_are_rollbacks();
     endings_add_up();
     let Ok(player) = Playing::start(alloc, config) else {
         return tell_memory(out);

@@ -16,6 +16,7 @@ use crate::soaking::soak_with;
 use mt_endings::{endings_add_up, finish, read_configuration, tell_bad_words, tell_memory};
 use mt_model::Config;
 use mt_outside::{Progress, Sink, Source, Unwatched};
+use mt_runs::{expiries_are_rollbacks, replies_are_exact};
 use mt_words::{Asked, WordsFault, asked_of};
 use std::alloc::Global;
 
@@ -61,6 +62,8 @@ pub fn run_watched<C: Source, A: Source, B: Source, W: Sink, P: Progress>(
 {
     runs_are_isolated();
     denials_are_exact();
+    replies_are_exact();
+    expiries_are_rollbacks();
     comparisons_are_exact();
     endings_add_up();
     let asked = match asked_of(alloc, words) {

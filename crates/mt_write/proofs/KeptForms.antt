@@ -1,15 +1,17 @@
 -- Values that pass the tests of their forms are such as a state keeps.
-use Rattle.std.proofs.Common.{◌≡◌, ◌&&◌, ◌^◌, ◌≤◌, ℕ, nat_le, nat_lt, Bool, true, false, List, [], ◌++◌, Option, Some, None, option_map, length, refl, if◌then◌else◌, sym, subst, arith}
-use Rattle.std.proofs.lemmas.Bool.{leb-true, le-leb, lt-ltb}
+use Rattle.std.proofs.Common.{◌≡◌, ◌==◌, ◌&&◌, ◌||◌, ◌^◌, ◌≤◌, ℕ, nat_le, nat_lt, not, Bool, true, false, List, [], ◌∷◌, ◌++◌, Option, Some, None, option_map, length, refl, if◌then◌else◌, sym, subst, arith}
+use Rattle.std.proofs.lemmas.Bool.{eq-eqb, leb-true, le-leb, lt-ltb}
+use Rattle.std.specs.List.{list_any}
 use Rattle.std.specs.Str.{is_utf8}
-use Rattle.mt_tlv.specs.Tree.{Tree, int, uint, bool, text, octets, null, bits32, bits64, structure, array, list, Elements}
+use Rattle.mt_tlv.specs.Scalars.{unsigned_in}
+use Rattle.mt_tlv.specs.Tree.{Tree, int, uint, bool, text, octets, null, bits32, bits64, structure, array, list, Elements, none, more}
 use Rattle.mt_tlv.specs.View.{elements, tree, value_of}
+use Rattle.mt_tlv.specs.declared.value.Tag.TheVariants.{Context}
 use Rattle.mt_tlv.specs.declared.value.Value.{Value}
 use Rattle.mt_tlv.specs.declared.value.Value.TheVariants as values
-use Rattle.mt_model.specs.Trees.{field_in}
-use Rattle.mt_meta.specs.Forms as kept
-use Rattle.mt_meta.specs.Forms.{has_form, is_bench_item, is_binding_item, is_label_item}
-use Rattle.mt_meta.specs.Rows.{fabric_field, needed, optional}
+use Rattle.mt_model.specs.Optional.{is_that}
+use Rattle.mt_model.specs.Trees.{field_in, is_context}
+use Rattle.mt_meta.specs.Forms.{is_label_item, is_of_kind}
 use Rattle.mt_meta.specs.Table.{fields_of}
 use Rattle.mt_meta.specs.Writable.{fits_form}
 use Rattle.mt_meta.specs.declared.meta.Kind.{Kind}
@@ -17,7 +19,7 @@ use Rattle.mt_meta.specs.declared.meta.Kind.TheVariants as kinds
 use Rattle.mt_meta.specs.declared.rows.Field.{Field}
 use Rattle.mt_meta.specs.declared.rows.Form.{Form}
 use Rattle.mt_meta.specs.declared.rows.Form.TheVariants as forms
-use Rattle.mt_meta.specs.Fields.{are_octets, are_within, has_type, have_types, is_bool, is_item, is_number, is_text, is_within, field_has_type, field_is_within, octets_fit, text_fits}
+use Rattle.mt_meta.specs.Fields.{are_kept_fields, are_within, field_has_type, field_is_within, has_type, have_types, is_bool, is_fabric_index, is_item, is_kept_as, is_number, is_text, is_within, may_be_missing, text_fits}
 use Rattle.mt_write.specs.Items.{kept_fields, kept_item, kept_value, tagged}
 
 pub and-both : (a b : Bool) → (a && b) ≡ true → (a ≡ true) × (b ≡ true)
@@ -28,47 +30,6 @@ pub and-true : (a b : Bool) → a ≡ true → b ≡ true → (a && b) ≡ true
 and-true true b p q = q
 and-true false b p q = p
 
--- Trees of a type.
-
-text-form : (most : ℕ) (t : Tree) → is_text t ≡ true → text_fits 0 most t ≡ true → kept.is_text most t ≡ true
-text-form most (int z) typed fits = typed
-text-form most (uint n) typed fits = typed
-text-form most (bool b) typed fits = typed
-text-form most (text s) typed fits = and-true (nat_le (length s) most) (is_utf8 s) ((and-both (nat_le 0 (length s)) (nat_le (length s) most) fits).1) typed
-text-form most (octets s) typed fits = typed
-text-form most null typed fits = typed
-text-form most (bits32 n) typed fits = typed
-text-form most (bits64 n) typed fits = typed
-text-form most (structure es) typed fits = typed
-text-form most (array es) typed fits = typed
-text-form most (list es) typed fits = typed
-
-octets-form : (most : ℕ) (t : Tree) → are_octets t ≡ true → octets_fit 0 most t ≡ true → kept.are_octets most t ≡ true
-octets-form most (int z) typed fits = typed
-octets-form most (uint n) typed fits = typed
-octets-form most (bool b) typed fits = typed
-octets-form most (text s) typed fits = typed
-octets-form most (octets s) typed fits = (and-both (nat_le 0 (length s)) (nat_le (length s) most) fits).1
-octets-form most null typed fits = typed
-octets-form most (bits32 n) typed fits = typed
-octets-form most (bits64 n) typed fits = typed
-octets-form most (structure es) typed fits = typed
-octets-form most (array es) typed fits = typed
-octets-form most (list es) typed fits = typed
-
-number-form : (greatest bits : ℕ) (t : Tree) → ((n : ℕ) → nat_le n greatest ≡ true → nat_lt n (2 ^ bits) ≡ true) → is_number greatest t ≡ true → kept.is_number bits t ≡ true
-number-form greatest bits (int z) lift typed = typed
-number-form greatest bits (uint n) lift typed = lift n typed
-number-form greatest bits (bool b) lift typed = typed
-number-form greatest bits (text s) lift typed = typed
-number-form greatest bits (octets s) lift typed = typed
-number-form greatest bits null lift typed = typed
-number-form greatest bits (bits32 n) lift typed = typed
-number-form greatest bits (bits64 n) lift typed = typed
-number-form greatest bits (structure es) lift typed = typed
-number-form greatest bits (array es) lift typed = typed
-number-form greatest bits (list es) lift typed = typed
-
 -- Widths.
 
 below-64 : (n : ℕ) → nat_le n 0xffffffffffffffff ≡ true → nat_lt n (2 ^ 64) ≡ true
@@ -77,187 +38,198 @@ below-64 n h = let b : n ≤ 0xffffffffffffffff = leb-true n 0xffffffffffffffff 
 below-32 : (n : ℕ) → nat_le n 0xffffffff ≡ true → nat_lt n (2 ^ 32) ≡ true
 below-32 n h = let b : n ≤ 0xffffffff = leb-true n 0xffffffff h in lt-ltb n (2 ^ 32) (omega arith)
 
-below-16 : (n : ℕ) → nat_le n 0xffff ≡ true → nat_lt n (2 ^ 16) ≡ true
-below-16 n h = let b : n ≤ 0xffff = leb-true n 0xffff h in lt-ltb n (2 ^ 16) (omega arith)
-
 le-trans : (a b c : ℕ) → nat_le a b ≡ true → nat_le b c ≡ true → nat_le a c ≡ true
 le-trans a b c h k = let p : a ≤ b = leb-true a b h in let q : b ≤ c = leb-true b c k in le-leb a c (omega arith)
 
 -- Values that are no lists.
 
-bool-value : (limit : ℕ) (v : Value) → is_bool (tree v) ≡ true → has_form kinds.Bool limit v ≡ true
-bool-value limit (values.Int z) typed = typed
-bool-value limit (values.Uint n) typed = typed
-bool-value limit (values.Bool b) typed = refl
-bool-value limit (values.Text s) typed = typed
-bool-value limit (values.Octets s) typed = typed
-bool-value limit values.Null typed = typed
-bool-value limit (values.Bits32 n) typed = typed
-bool-value limit (values.Bits64 n) typed = typed
-bool-value limit (values.Struct es) typed = typed
-bool-value limit (values.Array es) typed = typed
-bool-value limit (values.List es) typed = typed
+bool-value : (least limit fabric : ℕ) (v : Value) → is_bool (tree v) ≡ true → is_of_kind kinds.Bool least limit fabric v ≡ true
+bool-value least limit fabric (values.Int z) typed = typed
+bool-value least limit fabric (values.Uint n) typed = typed
+bool-value least limit fabric (values.Bool b) typed = refl
+bool-value least limit fabric (values.Text s) typed = typed
+bool-value least limit fabric (values.Octets s) typed = typed
+bool-value least limit fabric values.Null typed = typed
+bool-value least limit fabric (values.Bits32 n) typed = typed
+bool-value least limit fabric (values.Bits64 n) typed = typed
+bool-value least limit fabric (values.Struct es) typed = typed
+bool-value least limit fabric (values.Array es) typed = typed
+bool-value least limit fabric (values.List es) typed = typed
 
-uint-value : (limit greatest : ℕ) (v : Value) → nat_le greatest 0xffffffffffffffff ≡ true → is_number greatest (tree v) ≡ true → has_form kinds.Uint limit v ≡ true
-uint-value limit greatest (values.Int z) fits typed = typed
-uint-value limit greatest (values.Uint n) fits typed = below-64 n (le-trans n greatest 0xffffffffffffffff typed fits)
-uint-value limit greatest (values.Bool b) fits typed = typed
-uint-value limit greatest (values.Text s) fits typed = typed
-uint-value limit greatest (values.Octets s) fits typed = typed
-uint-value limit greatest values.Null fits typed = typed
-uint-value limit greatest (values.Bits32 n) fits typed = typed
-uint-value limit greatest (values.Bits64 n) fits typed = typed
-uint-value limit greatest (values.Struct es) fits typed = typed
-uint-value limit greatest (values.Array es) fits typed = typed
-uint-value limit greatest (values.List es) fits typed = typed
+uint-value : (least limit fabric greatest : ℕ) (v : Value) → nat_le greatest 0xffffffffffffffff ≡ true → is_number greatest (tree v) ≡ true → is_of_kind kinds.Uint least limit fabric v ≡ true
+uint-value least limit fabric greatest (values.Int z) fits typed = typed
+uint-value least limit fabric greatest (values.Uint n) fits typed = below-64 n (le-trans n greatest 0xffffffffffffffff typed fits)
+uint-value least limit fabric greatest (values.Bool b) fits typed = typed
+uint-value least limit fabric greatest (values.Text s) fits typed = typed
+uint-value least limit fabric greatest (values.Octets s) fits typed = typed
+uint-value least limit fabric greatest values.Null fits typed = typed
+uint-value least limit fabric greatest (values.Bits32 n) fits typed = typed
+uint-value least limit fabric greatest (values.Bits64 n) fits typed = typed
+uint-value least limit fabric greatest (values.Struct es) fits typed = typed
+uint-value least limit fabric greatest (values.Array es) fits typed = typed
+uint-value least limit fabric greatest (values.List es) fits typed = typed
 
-uint32-value : (limit greatest : ℕ) (v : Value) → nat_le greatest 0xffffffff ≡ true → is_number greatest (tree v) ≡ true → has_form kinds.Uint32 limit v ≡ true
-uint32-value limit greatest (values.Int z) fits typed = typed
-uint32-value limit greatest (values.Uint n) fits typed = below-32 n (le-trans n greatest 0xffffffff typed fits)
-uint32-value limit greatest (values.Bool b) fits typed = typed
-uint32-value limit greatest (values.Text s) fits typed = typed
-uint32-value limit greatest (values.Octets s) fits typed = typed
-uint32-value limit greatest values.Null fits typed = typed
-uint32-value limit greatest (values.Bits32 n) fits typed = typed
-uint32-value limit greatest (values.Bits64 n) fits typed = typed
-uint32-value limit greatest (values.Struct es) fits typed = typed
-uint32-value limit greatest (values.Array es) fits typed = typed
-uint32-value limit greatest (values.List es) fits typed = typed
+uint32-value : (least limit fabric greatest : ℕ) (v : Value) → nat_le greatest 0xffffffff ≡ true → is_number greatest (tree v) ≡ true → is_of_kind kinds.Uint32 least limit fabric v ≡ true
+uint32-value least limit fabric greatest (values.Int z) fits typed = typed
+uint32-value least limit fabric greatest (values.Uint n) fits typed = below-32 n (le-trans n greatest 0xffffffff typed fits)
+uint32-value least limit fabric greatest (values.Bool b) fits typed = typed
+uint32-value least limit fabric greatest (values.Text s) fits typed = typed
+uint32-value least limit fabric greatest (values.Octets s) fits typed = typed
+uint32-value least limit fabric greatest values.Null fits typed = typed
+uint32-value least limit fabric greatest (values.Bits32 n) fits typed = typed
+uint32-value least limit fabric greatest (values.Bits64 n) fits typed = typed
+uint32-value least limit fabric greatest (values.Struct es) fits typed = typed
+uint32-value least limit fabric greatest (values.Array es) fits typed = typed
+uint32-value least limit fabric greatest (values.List es) fits typed = typed
 
-text-value : (limit least most : ℕ) (v : Value) → nat_le most limit ≡ true → is_text (tree v) ≡ true → text_fits least most (tree v) ≡ true → has_form kinds.Text limit v ≡ true
-text-value limit least most (values.Int z) fits typed within = typed
-text-value limit least most (values.Uint n) fits typed within = typed
-text-value limit least most (values.Bool b) fits typed within = typed
-text-value limit least most (values.Text s) fits typed within = and-true (nat_le (length s) limit) (is_utf8 s) (le-trans (length s) most limit ((and-both (nat_le least (length s)) (nat_le (length s) most) within).1) fits) typed
-text-value limit least most (values.Octets s) fits typed within = typed
-text-value limit least most values.Null fits typed within = typed
-text-value limit least most (values.Bits32 n) fits typed within = typed
-text-value limit least most (values.Bits64 n) fits typed within = typed
-text-value limit least most (values.Struct es) fits typed within = typed
-text-value limit least most (values.Array es) fits typed within = typed
-text-value limit least most (values.List es) fits typed within = typed
+text-value : (least limit fabric fewest most : ℕ) (v : Value) → nat_le least fewest ≡ true → nat_le most limit ≡ true → is_text (tree v) ≡ true → text_fits fewest most (tree v) ≡ true → is_of_kind kinds.Text least limit fabric v ≡ true
+text-value least limit fabric fewest most (values.Int z) few fits typed within = typed
+text-value least limit fabric fewest most (values.Uint n) few fits typed within = typed
+text-value least limit fabric fewest most (values.Bool b) few fits typed within = typed
+text-value least limit fabric fewest most (values.Text s) few fits typed within =
+    let both = and-both (nat_le fewest (length s)) (nat_le (length s) most) within in
+    and-true (nat_le least (length s) && nat_le (length s) limit) (is_utf8 s)
+    (and-true (nat_le least (length s)) (nat_le (length s) limit) (le-trans least fewest (length s) few both.0) (le-trans (length s) most limit both.1 fits)) typed
+text-value least limit fabric fewest most (values.Octets s) few fits typed within = typed
+text-value least limit fabric fewest most values.Null few fits typed within = typed
+text-value least limit fabric fewest most (values.Bits32 n) few fits typed within = typed
+text-value least limit fabric fewest most (values.Bits64 n) few fits typed within = typed
+text-value least limit fabric fewest most (values.Struct es) few fits typed within = typed
+text-value least limit fabric fewest most (values.Array es) few fits typed within = typed
+text-value least limit fabric fewest most (values.List es) few fits typed within = typed
 
-pub value-form : (kind : Kind) (limit : ℕ) (form : Form) (v : Value) → fits_form kind limit form ≡ true → has_type form (tree v) ≡ true → is_within form (tree v) ≡ true → has_form kind limit v ≡ true
-value-form kinds.Bool limit forms.Bool v fits typed within = bool-value limit v typed
-value-form kinds.Bool limit (forms.Uint greatest) v fits typed within = absurd cc
-value-form kinds.Bool limit (forms.Text least most) v fits typed within = absurd cc
-value-form kinds.Bool limit (forms.Octets least most) v fits typed within = absurd cc
-value-form kinds.Bool limit forms.Subjects v fits typed within = absurd cc
-value-form kinds.Bool limit forms.Targets v fits typed within = absurd cc
-value-form kinds.Bool limit forms.FabricIndex v fits typed within = absurd cc
-value-form kinds.Uint limit forms.Bool v fits typed within = absurd cc
-value-form kinds.Uint limit (forms.Uint greatest) v fits typed within = uint-value limit greatest v fits typed
-value-form kinds.Uint limit (forms.Text least most) v fits typed within = absurd cc
-value-form kinds.Uint limit (forms.Octets least most) v fits typed within = absurd cc
-value-form kinds.Uint limit forms.Subjects v fits typed within = absurd cc
-value-form kinds.Uint limit forms.Targets v fits typed within = absurd cc
-value-form kinds.Uint limit forms.FabricIndex v fits typed within = absurd cc
-value-form kinds.Uint32 limit forms.Bool v fits typed within = absurd cc
-value-form kinds.Uint32 limit (forms.Uint greatest) v fits typed within = uint32-value limit greatest v fits typed
-value-form kinds.Uint32 limit (forms.Text least most) v fits typed within = absurd cc
-value-form kinds.Uint32 limit (forms.Octets least most) v fits typed within = absurd cc
-value-form kinds.Uint32 limit forms.Subjects v fits typed within = absurd cc
-value-form kinds.Uint32 limit forms.Targets v fits typed within = absurd cc
-value-form kinds.Uint32 limit forms.FabricIndex v fits typed within = absurd cc
-value-form kinds.NullableUint limit form v fits typed within = absurd cc
-value-form kinds.NullableOctets limit form v fits typed within = absurd cc
-value-form kinds.Null limit form v fits typed within = absurd cc
-value-form kinds.Text limit forms.Bool v fits typed within = absurd cc
-value-form kinds.Text limit (forms.Uint greatest) v fits typed within = absurd cc
-value-form kinds.Text limit (forms.Text least most) v fits typed within = text-value limit least most v fits typed within
-value-form kinds.Text limit (forms.Octets least most) v fits typed within = absurd cc
-value-form kinds.Text limit forms.Subjects v fits typed within = absurd cc
-value-form kinds.Text limit forms.Targets v fits typed within = absurd cc
-value-form kinds.Text limit forms.FabricIndex v fits typed within = absurd cc
-value-form kinds.Numbers limit form v fits typed within = absurd cc
-value-form kinds.Structure limit form v fits typed within = absurd cc
-value-form kinds.DeviceTypes limit form v fits typed within = absurd cc
-value-form kinds.Binding limit form v fits typed within = absurd cc
-value-form kinds.Acl limit form v fits typed within = absurd cc
-value-form kinds.Networks limit form v fits typed within = absurd cc
-value-form kinds.Nocs limit form v fits typed within = absurd cc
-value-form kinds.Fabrics limit form v fits typed within = absurd cc
-value-form kinds.Roots limit form v fits typed within = absurd cc
-value-form kinds.Labels limit form v fits typed within = absurd cc
-value-form kinds.Bench limit form v fits typed within = absurd cc
+pub value-form : (kind : Kind) (least limit fabric : ℕ) (form : Form) (v : Value) → fits_form kind least limit form ≡ true → has_type form (tree v) ≡ true → is_within form (tree v) ≡ true → is_of_kind kind least limit fabric v ≡ true
+value-form kinds.Bool least limit fabric forms.Bool v fits typed within = bool-value least limit fabric v typed
+value-form kinds.Bool least limit fabric (forms.Uint greatest) v fits typed within = absurd cc
+value-form kinds.Bool least limit fabric (forms.Text fewest most) v fits typed within = absurd cc
+value-form kinds.Bool least limit fabric (forms.Octets fewest most) v fits typed within = absurd cc
+value-form kinds.Bool least limit fabric forms.Subjects v fits typed within = absurd cc
+value-form kinds.Bool least limit fabric forms.Targets v fits typed within = absurd cc
+value-form kinds.Bool least limit fabric forms.FabricIndex v fits typed within = absurd cc
+value-form kinds.Uint least limit fabric forms.Bool v fits typed within = absurd cc
+value-form kinds.Uint least limit fabric (forms.Uint greatest) v fits typed within = uint-value least limit fabric greatest v fits typed
+value-form kinds.Uint least limit fabric (forms.Text fewest most) v fits typed within = absurd cc
+value-form kinds.Uint least limit fabric (forms.Octets fewest most) v fits typed within = absurd cc
+value-form kinds.Uint least limit fabric forms.Subjects v fits typed within = absurd cc
+value-form kinds.Uint least limit fabric forms.Targets v fits typed within = absurd cc
+value-form kinds.Uint least limit fabric forms.FabricIndex v fits typed within = absurd cc
+value-form kinds.Uint32 least limit fabric forms.Bool v fits typed within = absurd cc
+value-form kinds.Uint32 least limit fabric (forms.Uint greatest) v fits typed within = uint32-value least limit fabric greatest v fits typed
+value-form kinds.Uint32 least limit fabric (forms.Text fewest most) v fits typed within = absurd cc
+value-form kinds.Uint32 least limit fabric (forms.Octets fewest most) v fits typed within = absurd cc
+value-form kinds.Uint32 least limit fabric forms.Subjects v fits typed within = absurd cc
+value-form kinds.Uint32 least limit fabric forms.Targets v fits typed within = absurd cc
+value-form kinds.Uint32 least limit fabric forms.FabricIndex v fits typed within = absurd cc
+value-form kinds.NullableUint least limit fabric form v fits typed within = absurd cc
+value-form kinds.NullableOctets least limit fabric form v fits typed within = absurd cc
+value-form kinds.Null least limit fabric form v fits typed within = absurd cc
+value-form kinds.Text least limit fabric forms.Bool v fits typed within = absurd cc
+value-form kinds.Text least limit fabric (forms.Uint greatest) v fits typed within = absurd cc
+value-form kinds.Text least limit fabric (forms.Text fewest most) v fits typed within =
+    let both = and-both (nat_le least fewest) (nat_le most limit) fits in
+    text-value least limit fabric fewest most v both.0 both.1 typed within
+value-form kinds.Text least limit fabric (forms.Octets fewest most) v fits typed within = absurd cc
+value-form kinds.Text least limit fabric forms.Subjects v fits typed within = absurd cc
+value-form kinds.Text least limit fabric forms.Targets v fits typed within = absurd cc
+value-form kinds.Text least limit fabric forms.FabricIndex v fits typed within = absurd cc
+value-form kinds.Numbers least limit fabric form v fits typed within = absurd cc
+value-form kinds.Structure least limit fabric form v fits typed within = absurd cc
+value-form kinds.DeviceTypes least limit fabric form v fits typed within = absurd cc
+value-form kinds.Binding least limit fabric form v fits typed within = absurd cc
+value-form kinds.Acl least limit fabric form v fits typed within = absurd cc
+value-form kinds.Networks least limit fabric form v fits typed within = absurd cc
+value-form kinds.Nocs least limit fabric form v fits typed within = absurd cc
+value-form kinds.Fabrics least limit fabric form v fits typed within = absurd cc
+value-form kinds.Roots least limit fabric form v fits typed within = absurd cc
+value-form kinds.Labels least limit fabric form v fits typed within = absurd cc
+value-form kinds.Bench least limit fabric form v fits typed within = absurd cc
 
 pub impossible : {A : Type 0} → false ≡ true → A
 impossible h = absurd cc
 
--- Items of lists, by the law that the tree of a tree's value is the tree.
+-- Items of lists. What an item is kept as is kept as itself.
 
+pub choose-true : (b x y : Bool) → b ≡ true → x ≡ true → (if b then x else y) ≡ true
+choose-true true x y is h = h
+choose-true false x y is h = impossible is
+
+pub choose-false : (b x y : Bool) → b ≡ false → y ≡ true → (if b then x else y) ≡ true
+choose-false true x y is h = impossible (sym is)
+choose-false false x y is h = h
+
+or-none : (a b : Bool) → (a || b) ≡ false → (a ≡ false) × (b ≡ false)
+or-none true b h = absurd cc
+or-none false b h = (refl, h)
+
+not-false : (b : Bool) → not b ≡ true → b ≡ false
+not-false true h = impossible h
+not-false false h = refl
+
+is-not : (b : Bool) → b ≡ false → not b ≡ true
+is-not true h = impossible (sym h)
+is-not false h = refl
+
+-- no two fields have one number
+abbrev numbers_differ : List Field → Bool
+numbers_differ [] = true
+numbers_differ (f ∷ fs) = not (list_any (λ (g : Field). g.number == f.number) fs) && numbers_differ fs
+
+-- whether the first member has this number
+abbrev begins : ℕ → Elements → Bool
+begins n none = false
+begins n (more tag v es) = is_context n tag
+
+-- By the law that the tree of a tree's value is the tree.
 module _ (tree_value : (t : Tree) → tree (value_of t) ≡ t) where
-  text-kept : (most : ℕ) (t : Tree) → is_text t ≡ true → text_fits 0 most t ≡ true → kept.is_text most (tree (value_of t)) ≡ true
-  text-kept most t typed fits = subst (λ u. kept.is_text most u ≡ true) (sym (tree_value t)) (text-form most t typed fits)
+  module _ (fabric : ℕ) (es : Elements) where
+    abbrev kept : List Field → Elements
+    kept fields = elements (kept_fields fabric fields es)
 
-  octets-kept : (most : ℕ) (t : Tree) → are_octets t ≡ true → octets_fit 0 most t ≡ true → kept.are_octets most (tree (value_of t)) ≡ true
-  octets-kept most t typed fits = subst (λ u. kept.are_octets most u ≡ true) (sym (tree_value t)) (octets-form most t typed fits)
+    no-begin : (n : ℕ) (f : Field) (fs : List Field) (o : Option Value) → (f.number == n) ≡ false → begins n (kept fs) ≡ false → begins n (elements (tagged f.number o ++ kept_fields fabric fs es)) ≡ false
+    no-begin n f fs None this rest = rest
+    no-begin n f fs (Some v) this rest = this
 
-  number-kept : (greatest bits : ℕ) (t : Tree) → ((n : ℕ) → nat_le n greatest ≡ true → nat_lt n (2 ^ bits) ≡ true) → is_number greatest t ≡ true → kept.is_number bits (tree (value_of t)) ≡ true
-  number-kept greatest bits t lift typed = subst (λ u. kept.is_number bits u ≡ true) (sym (tree_value t)) (number-form greatest bits t lift typed)
+    not-begins : (n : ℕ) (fields : List Field) → list_any (λ (g : Field). g.number == n) fields ≡ false → begins n (kept fields) ≡ false
+    not-begins n [] other = refl
+    not-begins n (f ∷ fs) other =
+        let both = or-none (f.number == n) (list_any (λ (g : Field). g.number == n) fs) other in
+        no-begin n f fs (kept_value fabric f.form (field_in f.number es)) both.0 (not-begins n fs both.1)
 
-  label-form : (fabric : ℕ) (a b : Option Tree)
-      → (field_has_type (needed 0 (forms.Text 0 16)) a && (field_has_type (needed 1 (forms.Text 0 16)) b && true)) ≡ true
-      → (field_is_within (needed 0 (forms.Text 0 16)) a && (field_is_within (needed 1 (forms.Text 0 16)) b && true)) ≡ true
-      → is_label_item (structure (elements (tagged 0 (kept_value fabric (forms.Text 0 16) a) ++ (tagged 1 (kept_value fabric (forms.Text 0 16) b) ++ [])))) ≡ true
-  label-form fabric None b typed within = impossible typed
-  label-form fabric (Some t) None typed within = impossible ((and-both (is_text t) (false && true) typed).1)
-  label-form fabric (Some t) (Some u) typed within =
-      let types = and-both (is_text t) (is_text u && true) typed in
-      let limits = and-both (text_fits 0 16 t) (text_fits 0 16 u && true) within in
-      let last_type = and-both (is_text u) true types.1 in
-      let last_limit = and-both (text_fits 0 16 u) true limits.1 in
-      and-true (kept.is_text 16 (tree (value_of t))) (kept.is_text 16 (tree (value_of u))) (text-kept 16 t types.0 limits.0) (text-kept 16 u last_type.0 last_limit.0)
+    -- a field that is not there
+    without : (f : Field) (fs : List Field) (rest : Elements) → begins f.number rest ≡ false → may_be_missing f ≡ true → are_kept_fields fabric fs rest ≡ true → are_kept_fields fabric (f ∷ fs) rest ≡ true
+    without f fs none absent may all = and-true (may_be_missing f) (are_kept_fields fabric fs none) may all
+    without f fs (more tag v others) absent may all =
+        choose-false (is_context f.number tag) (is_kept_as fabric f.form v && are_kept_fields fabric fs others) (may_be_missing f && are_kept_fields fabric fs (more tag v others)) absent
+        (and-true (may_be_missing f) (are_kept_fields fabric fs (more tag v others)) may all)
 
-  bench-form : (fabric : ℕ) (a b c : Option Tree) → nat_lt fabric (2 ^ 8) ≡ true
-      → (field_has_type (needed 1 (forms.Text 0 32)) a && (field_has_type (needed 2 (forms.Octets 0 64)) b && (field_has_type fabric_field c && true))) ≡ true
-      → (field_is_within (needed 1 (forms.Text 0 32)) a && (field_is_within (needed 2 (forms.Octets 0 64)) b && (field_is_within fabric_field c && true))) ≡ true
-      → is_bench_item (elements (tagged 1 (kept_value fabric (forms.Text 0 32) a) ++ (tagged 2 (kept_value fabric (forms.Octets 0 64) b) ++ (tagged 254 (kept_value fabric forms.FabricIndex c) ++ [])))) ≡ true
-  bench-form fabric None b c fits typed within = impossible typed
-  bench-form fabric (Some t) None c fits typed within = impossible ((and-both (is_text t) (false && (field_has_type fabric_field c && true)) typed).1)
-  bench-form fabric (Some t) (Some u) c fits typed within =
-      let types = and-both (is_text t) (are_octets u && (field_has_type fabric_field c && true)) typed in
-      let limits = and-both (text_fits 0 32 t) (octets_fit 0 64 u && (field_is_within fabric_field c && true)) within in
-      let secret_type = and-both (are_octets u) (field_has_type fabric_field c && true) types.1 in
-      let secret_limit = and-both (octets_fit 0 64 u) (field_is_within fabric_field c && true) limits.1 in
-      let name = kept.is_text 32 (tree (value_of t)) in
-      let secret = kept.are_octets 64 (tree (value_of u)) in
-      and-true (name && secret) (nat_lt fabric (2 ^ 8)) (and-true name secret (text-kept 32 t types.0 limits.0) (octets-kept 64 u secret_type.0 secret_limit.0)) fits
+    -- a field that is there
+    with_field : (f : Field) (fs : List Field) (v : Value) → is_kept_as fabric f.form (tree v) ≡ true → are_kept_fields fabric fs (kept fs) ≡ true
+        → are_kept_fields fabric (f ∷ fs) (elements ((Context f.number, v) ∷ kept_fields fabric fs es)) ≡ true
+    with_field f fs v is all =
+        choose-true (f.number == f.number) (is_kept_as fabric f.form (tree v) && are_kept_fields fabric fs (kept fs)) (may_be_missing f && are_kept_fields fabric fs (more (Context f.number) (tree v) (kept fs))) (eq-eqb f.number f.number refl)
+        (and-true (is_kept_as fabric f.form (tree v)) (are_kept_fields fabric fs (kept fs)) is all)
 
-  -- a number that may be missing, as it is kept
-  optional-form : (number greatest bits : ℕ) (o : Option Tree) → ((n : ℕ) → nat_le n greatest ≡ true → nat_lt n (2 ^ bits) ≡ true) → field_has_type (optional number (forms.Uint greatest)) o ≡ true
-      → kept.may_have (kept.is_number bits) (option_map (λ t. tree (value_of t)) o) ≡ true
-  optional-form number greatest bits None lift typed = refl
-  optional-form number greatest bits (Some t) lift typed = number-kept greatest bits t lift typed
+    field-itself : (f : Field) (fs : List Field) (index : Bool) → is_fabric_index f.form ≡ index → (o : Option Tree) → field_has_type f o ≡ true → field_is_within f o ≡ true
+        → begins f.number (kept fs) ≡ false → are_kept_fields fabric fs (kept fs) ≡ true
+        → are_kept_fields fabric (f ∷ fs) (elements (tagged f.number (if index then Some (values.Uint fabric) else option_map value_of o) ++ kept_fields fabric fs es)) ≡ true
+    field-itself f fs true is o typed within absent all =
+        with_field f fs (values.Uint fabric)
+        (choose-true (is_fabric_index f.form) (is_that fabric (Some fabric)) (has_type f.form (uint fabric) && is_within f.form (uint fabric)) is (eq-eqb fabric fabric refl)) all
+    field-itself f fs false is None typed within absent all =
+        without f fs (kept fs) absent (and-true (not f.needed) (not (is_fabric_index f.form)) typed (is-not (is_fabric_index f.form) is)) all
+    field-itself f fs false is (Some t) typed within absent all =
+        with_field f fs (value_of t)
+        (subst (λ (u : Tree). is_kept_as fabric f.form u ≡ true) (sym (tree_value t))
+        (choose-false (is_fabric_index f.form) (is_that fabric (unsigned_in t)) (has_type f.form t && is_within f.form t) is (and-true (has_type f.form t) (is_within f.form t) typed within))) all
 
-  all-four : (a b c d : Bool) → a ≡ true → b ≡ true → c ≡ true → d ≡ true → (a && b && c && d) ≡ true
-  all-four a b c d p q r s = and-true (a && b && c) d (and-true (a && b) c (and-true a b p q) r) s
-
-  binding-kept : (fabric : ℕ) (a b c d : Option Tree) → nat_lt fabric (2 ^ 8) ≡ true
-      → kept.may_have (kept.is_number 64) (option_map (λ t. tree (value_of t)) a) ≡ true
-      → kept.may_have (kept.is_number 16) (option_map (λ t. tree (value_of t)) b) ≡ true
-      → kept.may_have (kept.is_number 32) (option_map (λ t. tree (value_of t)) c) ≡ true
-      → is_binding_item (elements (tagged 1 (kept_value fabric (forms.Uint 0xffffffffffffffff) a) ++ (tagged 3 (kept_value fabric (forms.Uint 0xffff) b) ++ (tagged 4 (kept_value fabric (forms.Uint 0xffffffff) c) ++ (tagged 254 (kept_value fabric forms.FabricIndex d) ++ []))))) ≡ true
-  binding-kept fabric None None None d fits p q r = all-four (true) (true) (true) (nat_lt fabric (2 ^ 8)) p q r fits
-  binding-kept fabric None None (Some w) d fits p q r = all-four (true) (true) (kept.is_number 32 (tree (value_of w))) (nat_lt fabric (2 ^ 8)) p q r fits
-  binding-kept fabric None (Some u) None d fits p q r = all-four (true) (kept.is_number 16 (tree (value_of u))) (true) (nat_lt fabric (2 ^ 8)) p q r fits
-  binding-kept fabric None (Some u) (Some w) d fits p q r = all-four (true) (kept.is_number 16 (tree (value_of u))) (kept.is_number 32 (tree (value_of w))) (nat_lt fabric (2 ^ 8)) p q r fits
-  binding-kept fabric (Some t) None None d fits p q r = all-four (kept.is_number 64 (tree (value_of t))) (true) (true) (nat_lt fabric (2 ^ 8)) p q r fits
-  binding-kept fabric (Some t) None (Some w) d fits p q r = all-four (kept.is_number 64 (tree (value_of t))) (true) (kept.is_number 32 (tree (value_of w))) (nat_lt fabric (2 ^ 8)) p q r fits
-  binding-kept fabric (Some t) (Some u) None d fits p q r = all-four (kept.is_number 64 (tree (value_of t))) (kept.is_number 16 (tree (value_of u))) (true) (nat_lt fabric (2 ^ 8)) p q r fits
-  binding-kept fabric (Some t) (Some u) (Some w) d fits p q r = all-four (kept.is_number 64 (tree (value_of t))) (kept.is_number 16 (tree (value_of u))) (kept.is_number 32 (tree (value_of w))) (nat_lt fabric (2 ^ 8)) p q r fits
-
-  binding-form : (fabric : ℕ) (a b c d : Option Tree) → nat_lt fabric (2 ^ 8) ≡ true
-      → (field_has_type (optional 1 (forms.Uint 0xffffffffffffffff)) a && (field_has_type (optional 3 (forms.Uint 0xffff)) b && (field_has_type (optional 4 (forms.Uint 0xffffffff)) c && (field_has_type fabric_field d && true)))) ≡ true
-      → is_binding_item (elements (tagged 1 (kept_value fabric (forms.Uint 0xffffffffffffffff) a) ++ (tagged 3 (kept_value fabric (forms.Uint 0xffff) b) ++ (tagged 4 (kept_value fabric (forms.Uint 0xffffffff) c) ++ (tagged 254 (kept_value fabric forms.FabricIndex d) ++ []))))) ≡ true
-  binding-form fabric a b c d fits typed =
-      let last = field_has_type fabric_field d && true in
-      let third = field_has_type (optional 4 (forms.Uint 0xffffffff)) c in
-      let second = field_has_type (optional 3 (forms.Uint 0xffff)) b in
-      let first = and-both (field_has_type (optional 1 (forms.Uint 0xffffffffffffffff)) a) (second && (third && last)) typed in
-      let rest = and-both second (third && last) first.1 in
-      let end = and-both third last rest.1 in
-      binding-kept fabric a b c d fits (optional-form 1 0xffffffffffffffff 64 a below-64 first.0) (optional-form 3 0xffff 16 b below-16 rest.0) (optional-form 4 0xffffffff 32 c below-32 end.0)
+    itself : (fields : List Field) → numbers_differ fields ≡ true → have_types fields es ≡ true → are_within fields es ≡ true → are_kept_fields fabric fields (kept fields) ≡ true
+    itself [] differ types within = refl
+    itself (f ∷ fs) differ types within =
+        let apart = and-both (not (list_any (λ (g : Field). g.number == f.number) fs)) (numbers_differ fs) differ in
+        let typed = and-both (field_has_type f (field_in f.number es)) (have_types fs es) types in
+        let limits = and-both (field_is_within f (field_in f.number es)) (are_within fs es) within in
+        field-itself f fs (is_fabric_index f.form) refl (field_in f.number es) typed.0 limits.0
+        (not-begins f.number fs (not-false (list_any (λ (g : Field). g.number == f.number) fs) apart.0)) (itself fs apart.1 typed.1 limits.1)
 
   -- An item that is kept is a structure.
 
@@ -279,17 +251,17 @@ module _ (tree_value : (t : Tree) → tree (value_of t) ≡ t) where
   kept-struct fields fabric (array es) v P typed found each = impossible typed
   kept-struct fields fabric (list es) v P typed found each = impossible typed
 
-  pub label-item : (fabric : ℕ) (t : Tree) (v : Value) → is_item (fields_of kinds.Labels) t ≡ true → kept_item (fields_of kinds.Labels) fabric t ≡ Some v → is_label_item (tree v) ≡ true
+  pub label-item : (t : Tree) (v : Value) → is_item (fields_of kinds.Labels) t ≡ true → kept_item (fields_of kinds.Labels) 0 t ≡ Some v → is_label_item (tree v) ≡ true
   unfolding fields_of
-  label-item fabric t v typed found =
-      kept-struct (fields_of kinds.Labels) fabric t v (λ w. is_label_item (tree w) ≡ true) typed found (λ es types within. label-form fabric (field_in 0 es) (field_in 1 es) types within)
+  label-item t v typed found =
+      kept-struct (fields_of kinds.Labels) 0 t v (λ w. is_label_item (tree w) ≡ true) typed found (λ es types within. itself 0 es (fields_of kinds.Labels) refl types within)
 
-  pub bench-item : (limit fabric : ℕ) (t : Tree) (v : Value) → nat_lt fabric (2 ^ 8) ≡ true → is_item (fields_of kinds.Bench) t ≡ true → kept_item (fields_of kinds.Bench) fabric t ≡ Some v → has_form kinds.Bench limit v ≡ true
+  pub bench-item : (least limit fabric : ℕ) (t : Tree) (v : Value) → is_item (fields_of kinds.Bench) t ≡ true → kept_item (fields_of kinds.Bench) fabric t ≡ Some v → is_of_kind kinds.Bench least limit fabric v ≡ true
   unfolding fields_of
-  bench-item limit fabric t v fits typed found =
-      kept-struct (fields_of kinds.Bench) fabric t v (λ w. has_form kinds.Bench limit w ≡ true) typed found (λ es types within. bench-form fabric (field_in 1 es) (field_in 2 es) (field_in 254 es) fits types within)
+  bench-item least limit fabric t v typed found =
+      kept-struct (fields_of kinds.Bench) fabric t v (λ w. is_of_kind kinds.Bench least limit fabric w ≡ true) typed found (λ es types within. itself fabric es (fields_of kinds.Bench) refl types within)
 
-  pub binding-item : (limit fabric : ℕ) (t : Tree) (v : Value) → nat_lt fabric (2 ^ 8) ≡ true → is_item (fields_of kinds.Binding) t ≡ true → kept_item (fields_of kinds.Binding) fabric t ≡ Some v → has_form kinds.Binding limit v ≡ true
+  pub binding-item : (least limit fabric : ℕ) (t : Tree) (v : Value) → is_item (fields_of kinds.Binding) t ≡ true → kept_item (fields_of kinds.Binding) fabric t ≡ Some v → is_of_kind kinds.Binding least limit fabric v ≡ true
   unfolding fields_of
-  binding-item limit fabric t v fits typed found =
-      kept-struct (fields_of kinds.Binding) fabric t v (λ w. has_form kinds.Binding limit w ≡ true) typed found (λ es types within. binding-form fabric (field_in 1 es) (field_in 3 es) (field_in 4 es) (field_in 254 es) fits types)
+  binding-item least limit fabric t v typed found =
+      kept-struct (fields_of kinds.Binding) fabric t v (λ w. is_of_kind kinds.Binding least limit fabric w ≡ true) typed found (λ es types within. itself fabric es (fields_of kinds.Binding) refl types within)

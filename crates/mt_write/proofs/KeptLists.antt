@@ -11,7 +11,7 @@ use Rattle.mt_tlv.specs.declared.value.Value.TheVariants as values
 use Rattle.mt_model.specs.declared.messages.message.Index.{Index}
 use Rattle.mt_model.specs.declared.messages.status.Status.{Status}
 use Rattle.mt_model.specs.declared.messages.status.Status.TheVariants.{InvalidDataType, ResourceExhausted}
-use Rattle.mt_meta.specs.Forms.{all_in, count_in, has_form, is_label_item}
+use Rattle.mt_meta.specs.Forms.{all_in, count_in, is_label_item, is_of_kind}
 use Rattle.mt_meta.specs.Table.{fields_of}
 use Rattle.mt_meta.specs.declared.meta.Kind.TheVariants as kinds
 use Rattle.mt_meta.specs.declared.meta.Meta.{Meta}
@@ -122,10 +122,10 @@ array-ok es (Err status) xs h = absurd cc
 array-ok es (Ok ys) xs h = (ys, refl, cc)
 
 -- labels keep their form
-pub labels-form : (keep : Tree → Option Value) (meta : Meta) (each : (t : Tree) (x : Value) → is_item (fields_of meta.kind) t ≡ true → keep t ≡ Some x → is_label_item (tree x) ≡ true)
+pub labels-form : (fabric : ℕ) (keep : Tree → Option Value) (meta : Meta) (each : (t : Tree) (x : Value) → is_item (fields_of meta.kind) t ≡ true → keep t ≡ Some x → is_label_item (tree x) ≡ true)
     (index : Index) (value : Value) (there : Elements) (xs : List Value) → nat_le (count_in there) meta.limit ≡ true → all_in is_label_item there ≡ true → array_with keep meta index value there ≡ Ok xs
-    → (list_all (has_form kinds.Labels meta.limit) xs ≡ true) × ((length xs == 1) ≡ true)
-labels-form keep meta each index value there xs room form h =
+    → (list_all (is_of_kind kinds.Labels meta.least meta.limit fabric) xs ≡ true) × ((length xs == 1) ≡ true)
+labels-form fabric keep meta each index value there xs room form h =
     let items = new_items keep (fields_of meta.kind) (meta.limit - count_in there) (given_items index value) in
     let parts = array-ok there items xs h in
     let ys = parts.0 in
@@ -135,22 +135,22 @@ labels-form keep meta each index value there xs room form h =
     let count : count_in (with_items there ys) ≡ count_in there + length ys = count-with there ys in
     let whole : count_in (with_items there ys) ≤ meta.limit = omega arith in
     let one = and-true (nat_le (count_in (with_items there ys)) meta.limit) (all_in is_label_item (with_items there ys)) (le-leb _ _ whole) (all-with is_label_item there ys form new.0) in (
-      subst (λ zs. list_all (has_form kinds.Labels meta.limit) zs ≡ true) parts.2 (and-true (nat_le (count_in (with_items there ys)) meta.limit && all_in is_label_item (with_items there ys)) true one refl),
+      subst (λ zs. list_all (is_of_kind kinds.Labels meta.least meta.limit fabric) zs ≡ true) parts.2 (and-true (nat_le (count_in (with_items there ys)) meta.limit && all_in is_label_item (with_items there ys)) true one refl),
       subst (λ (zs : List Value). (length zs == 1) ≡ true) parts.2 refl,
     )
 
-pub members-form : (limit : ℕ) (rows : List Value) → list_all (has_form kinds.Labels limit) rows ≡ true → (nat_le (count_in (members_of rows)) limit ≡ true) × (all_in is_label_item (members_of rows) ≡ true)
-members-form limit [] all = (le-leb 0 limit (omega arith), refl)
-members-form limit (values.Int z ∷ rows) all = absurd cc
-members-form limit (values.Uint n ∷ rows) all = absurd cc
-members-form limit (values.Bool b ∷ rows) all = absurd cc
-members-form limit (values.Text s ∷ rows) all = absurd cc
-members-form limit (values.Octets s ∷ rows) all = absurd cc
-members-form limit (values.Null ∷ rows) all = absurd cc
-members-form limit (values.Bits32 n ∷ rows) all = absurd cc
-members-form limit (values.Bits64 n ∷ rows) all = absurd cc
-members-form limit (values.Struct es ∷ rows) all = absurd cc
-members-form limit (values.Array es ∷ rows) all =
-    let first = and-both (nat_le (count_in es) limit && all_in is_label_item es) (list_all (has_form kinds.Labels limit) rows) all in
+pub members-form : (least limit fabric : ℕ) (rows : List Value) → list_all (is_of_kind kinds.Labels least limit fabric) rows ≡ true → (nat_le (count_in (members_of rows)) limit ≡ true) × (all_in is_label_item (members_of rows) ≡ true)
+members-form least limit fabric [] all = (le-leb 0 limit (omega arith), refl)
+members-form least limit fabric (values.Int z ∷ rows) all = absurd cc
+members-form least limit fabric (values.Uint n ∷ rows) all = absurd cc
+members-form least limit fabric (values.Bool b ∷ rows) all = absurd cc
+members-form least limit fabric (values.Text s ∷ rows) all = absurd cc
+members-form least limit fabric (values.Octets s ∷ rows) all = absurd cc
+members-form least limit fabric (values.Null ∷ rows) all = absurd cc
+members-form least limit fabric (values.Bits32 n ∷ rows) all = absurd cc
+members-form least limit fabric (values.Bits64 n ∷ rows) all = absurd cc
+members-form least limit fabric (values.Struct es ∷ rows) all = absurd cc
+members-form least limit fabric (values.Array es ∷ rows) all =
+    let first = and-both (nat_le (count_in es) limit && all_in is_label_item es) (list_all (is_of_kind kinds.Labels least limit fabric) rows) all in
     and-both (nat_le (count_in es) limit) (all_in is_label_item es) first.0
-members-form limit (values.List es ∷ rows) all = absurd cc
+members-form least limit fabric (values.List es ∷ rows) all = absurd cc

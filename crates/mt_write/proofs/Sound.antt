@@ -23,7 +23,7 @@ use Rattle.mt_model.specs.declared.rows.place.Place.{Place}
 use Rattle.mt_model.specs.declared.messages.status.Status.{Status}
 use Rattle.mt_model.specs.declared.messages.status.Status.TheVariants.{InvalidDataType, ConstraintError}
 use Rattle.mt_meta.specs.Finding.{find_of}
-use Rattle.mt_meta.specs.Forms.{has_form, is_label_item}
+use Rattle.mt_meta.specs.Forms.{has_form, is_label_item, is_of_kind}
 use Rattle.mt_meta.specs.Stored.{is_stored}
 use Rattle.mt_meta.specs.Table.{fields_of}
 use Rattle.mt_meta.specs.Writable.{fits_form, fits_found, fits_list, takes_of, takes_rightly}
@@ -38,9 +38,9 @@ use Rattle.mt_write.specs.Entries.{kept_entry, valid_entry}
 use Rattle.mt_meta.specs.Fields.{has_type, is_item, is_within}
 use Rattle.mt_write.specs.Items.{is_append, kept_item}
 use Rattle.mt_write.specs.Latest.{entries_now, entries_set, latest, row_set, rows_now}
-use Rattle.mt_write.specs.Laws.{IsSoundSight, LeavesSound, are_entries_of, is_entry_of, is_sound_row, is_sound_step}
+use Rattle.mt_write.specs.Laws.{IsSoundSight, LeavesSound, are_as_many, are_entries_of, is_entry_of, is_sound_row, is_sound_step}
 use Rattle.mt_write.specs.Writing.{array_with, entries_step, entries_written, fabric_of, is_entry_list, list_with, members_of, new_rows, own_values, row_step, rows_with, rows_written, staying, written_at}
-use Rattle.mt_write.proofs.KeptForms.{and-both, and-true, bench-item, binding-item, impossible, label-item, value-form}
+use Rattle.mt_write.proofs.KeptForms.{and-both, and-true, bench-item, choose-false, choose-true, binding-item, impossible, label-item, value-form}
 use Rattle.mt_write.proofs.KeptLists.{labels-form, list-all, members-form}
 use Rattle.mt_write.proofs.Steps.{Passes, each_passes}
 
@@ -52,72 +52,75 @@ if-false : {A : Type 0} (b : Bool) (x y z : A) → b ≡ false → (if b then x 
 if-false true x y z e h = impossible (sym e)
 if-false false x y z e h = h
 
-or-left : (a b : Bool) → a ≡ true → (a || b) ≡ true
-or-left true b e = refl
-or-left false b e = impossible e
-
-or-right : (a b : Bool) → b ≡ true → (a || b) ≡ true
-or-right true b e = refl
-or-right false b e = e
-
 not-true : (b : Bool) → not b ≡ true → b ≡ false
 not-true true e = impossible e
 not-true false e = refl
 
 -- Rows.
 
-sound : (stored : Bool) (meta : Meta) (xs : List Value) → stored ≡ true → list_all (has_form meta.kind meta.limit) xs ≡ true → (meta.scoped || length xs == 1) ≡ true → is_sound_row stored xs (Ok meta) ≡ true
-sound stored meta xs kept form one = and-true stored (list_all (has_form meta.kind meta.limit) xs && (meta.scoped || length xs == 1)) kept (and-true (list_all (has_form meta.kind meta.limit) xs) (meta.scoped || length xs == 1) form one)
+as-many-scoped : (meta : Meta) (xs : List Value) → meta.scoped ≡ true → nat_le (length xs) meta.limit ≡ true → are_as_many meta xs ≡ true
+as-many-scoped meta xs is few = choose-true meta.scoped (nat_le (length xs) meta.limit) (length xs == 1) is few
+
+as-many-single : (meta : Meta) (xs : List Value) → meta.scoped ≡ false → (length xs == 1) ≡ true → are_as_many meta xs ≡ true
+as-many-single meta xs is one = choose-false meta.scoped (nat_le (length xs) meta.limit) (length xs == 1) is one
+
+sound : (stored : Bool) (meta : Meta) (fabric : ℕ) (xs : List Value) → stored ≡ true → list_all (has_form meta fabric) xs ≡ true → are_as_many meta xs ≡ true → is_sound_row stored fabric xs (Ok meta) ≡ true
+sound stored meta fabric xs kept form many = and-true stored (list_all (has_form meta fabric) xs && are_as_many meta xs) kept (and-true (list_all (has_form meta fabric) xs) (are_as_many meta xs) form many)
 
 scoped-sound : (stored : Bool) (meta : Meta) (fabric : ℕ) (index : Index) (value : Value) (there xs : List Value)
-    → ((t : Tree) (x : Value) → is_item (fields_of meta.kind) t ≡ true → kept_item (fields_of meta.kind) fabric t ≡ Some x → has_form meta.kind meta.limit x ≡ true)
-    → (stored && meta.scoped) ≡ true → list_all (has_form meta.kind meta.limit) there ≡ true → rows_with meta fabric index value there ≡ Ok xs → is_sound_row stored xs (Ok meta) ≡ true
-scoped-sound stored meta fabric index value there xs each fits all h =
+    → ((t : Tree) (x : Value) → is_item (fields_of meta.kind) t ≡ true → kept_item (fields_of meta.kind) fabric t ≡ Some x → has_form meta fabric x ≡ true)
+    → (stored && meta.scoped) ≡ true → list_all (has_form meta fabric) there ≡ true → (meta.scoped ≡ true → nat_le (length there) meta.limit ≡ true)
+    → rows_with meta fabric index value there ≡ Ok xs → is_sound_row stored fabric xs (Ok meta) ≡ true
+scoped-sound stored meta fabric index value there xs each fits all few h =
     let keep = kept_item (fields_of meta.kind) fabric in
     let both = and-both stored meta.scoped fits in
     let listed : list_with keep meta index value there ≡ Ok xs = if-true meta.scoped (list_with keep meta index value there) (array_with keep meta index value (members_of there)) (Ok xs) both.1 h in
-    sound stored meta xs both.0 ((list-all keep meta (has_form meta.kind meta.limit) each index value there xs all listed).0) (or-left meta.scoped (length xs == 1) both.1)
+    let held = list-all keep meta (has_form meta fabric) each index value there xs all listed in
+    sound stored meta fabric xs both.0 held.0 (as-many-scoped meta xs both.1 (le-leb (length xs) meta.limit (held.1 (leb-true (length there) meta.limit (few both.1)))))
 
 -- By the law that the tree of a tree's value is the tree.
 module _ (tree_value : (t : Tree) → tree (value_of t) ≡ t) where
-  labels-sound : (stored : Bool) (meta : Meta) (fabric : ℕ) (index : Index) (value : Value) (there xs : List Value) → meta.kind ≡ kinds.Labels
-      → (stored && not meta.scoped) ≡ true → list_all (has_form meta.kind meta.limit) there ≡ true → rows_with meta fabric index value there ≡ Ok xs → is_sound_row stored xs (Ok meta) ≡ true
-  labels-sound stored meta fabric index value there xs kind fits all h =
+  labels-sound : (stored : Bool) (meta : Meta) (fabric : ℕ) (index : Index) (value : Value) (there xs : List Value) → meta.kind ≡ kinds.Labels → (meta.scoped ≡ false → fabric ≡ 0)
+      → (stored && not meta.scoped) ≡ true → list_all (has_form meta fabric) there ≡ true → rows_with meta fabric index value there ≡ Ok xs → is_sound_row stored fabric xs (Ok meta) ≡ true
+  labels-sound stored meta fabric index value there xs kind nobodys fits all h =
       let keep = kept_item (fields_of meta.kind) fabric in
       let both = and-both stored (not meta.scoped) fits in
-      let arrayed : array_with keep meta index value (members_of there) ≡ Ok xs = if-false meta.scoped (list_with keep meta index value there) (array_with keep meta index value (members_of there)) (Ok xs) (not-true meta.scoped both.1) h in
+      let single = not-true meta.scoped both.1 in
+      let arrayed : array_with keep meta index value (members_of there) ≡ Ok xs = if-false meta.scoped (list_with keep meta index value there) (array_with keep meta index value (members_of there)) (Ok xs) single h in
+      let of_nobody : (t : Tree) (x : Value) → is_item (fields_of kinds.Labels) t ≡ true → kept_item (fields_of kinds.Labels) fabric t ≡ Some x → is_label_item (tree x) ≡ true =
+      subst (λ (n : ℕ). (t : Tree) (x : Value) → is_item (fields_of kinds.Labels) t ≡ true → kept_item (fields_of kinds.Labels) n t ≡ Some x → is_label_item (tree x) ≡ true) (sym (nobodys single)) (label-item tree_value) in
       let each : (t : Tree) (x : Value) → is_item (fields_of meta.kind) t ≡ true → kept_item (fields_of meta.kind) fabric t ≡ Some x → is_label_item (tree x) ≡ true =
-      subst (λ (k : Kind). (t : Tree) (x : Value) → is_item (fields_of k) t ≡ true → kept_item (fields_of k) fabric t ≡ Some x → is_label_item (tree x) ≡ true) (sym kind) (label-item tree_value fabric) in
-      let members = members-form meta.limit there (subst (λ k. list_all (has_form k meta.limit) there ≡ true) kind all) in
-      let form = labels-form keep meta each index value (members_of there) xs members.0 members.1 arrayed in
-      sound stored meta xs both.0 (subst (λ k. list_all (has_form k meta.limit) xs ≡ true) (sym kind) form.0) (or-right meta.scoped (length xs == 1) form.1)
+      subst (λ (k : Kind). (t : Tree) (x : Value) → is_item (fields_of k) t ≡ true → kept_item (fields_of k) fabric t ≡ Some x → is_label_item (tree x) ≡ true) (sym kind) of_nobody in
+      let members = members-form meta.least meta.limit fabric there (subst (λ k. list_all (is_of_kind k meta.least meta.limit fabric) there ≡ true) kind all) in
+      let form = labels-form fabric keep meta each index value (members_of there) xs members.0 members.1 arrayed in
+      sound stored meta fabric xs both.0 (subst (λ k. list_all (is_of_kind k meta.least meta.limit fabric) xs ≡ true) (sym kind) form.0) (as-many-single meta xs single form.1)
 
   rows-with-sound : (stored : Bool) (meta : Meta) (kind : Kind) (fabric : ℕ) (index : Index) (value : Value) (there xs : List Value) → meta.kind ≡ kind → fits_list stored meta.scoped meta.limit kind ≡ true → is_entry_list kind ≡ false
-      → nat_lt fabric (2 ^ 8) ≡ true → list_all (has_form meta.kind meta.limit) there ≡ true → rows_with meta fabric index value there ≡ Ok xs → is_sound_row stored xs (Ok meta) ≡ true
-  rows-with-sound stored meta kinds.Bool fabric index value there xs kind fits other small all h = impossible fits
-  rows-with-sound stored meta kinds.Uint fabric index value there xs kind fits other small all h = impossible fits
-  rows-with-sound stored meta kinds.Uint32 fabric index value there xs kind fits other small all h = impossible fits
-  rows-with-sound stored meta kinds.NullableUint fabric index value there xs kind fits other small all h = impossible fits
-  rows-with-sound stored meta kinds.NullableOctets fabric index value there xs kind fits other small all h = impossible fits
-  rows-with-sound stored meta kinds.Null fabric index value there xs kind fits other small all h = impossible fits
-  rows-with-sound stored meta kinds.Text fabric index value there xs kind fits other small all h = impossible fits
-  rows-with-sound stored meta kinds.Numbers fabric index value there xs kind fits other small all h = impossible fits
-  rows-with-sound stored meta kinds.Structure fabric index value there xs kind fits other small all h = impossible fits
-  rows-with-sound stored meta kinds.DeviceTypes fabric index value there xs kind fits other small all h = impossible fits
-  rows-with-sound stored meta kinds.Binding fabric index value there xs kind fits other small all h =
+      → (meta.scoped ≡ false → fabric ≡ 0) → list_all (has_form meta fabric) there ≡ true → (meta.scoped ≡ true → nat_le (length there) meta.limit ≡ true) → rows_with meta fabric index value there ≡ Ok xs → is_sound_row stored fabric xs (Ok meta) ≡ true
+  rows-with-sound stored meta kinds.Bool fabric index value there xs kind fits other nobodys all few h = impossible fits
+  rows-with-sound stored meta kinds.Uint fabric index value there xs kind fits other nobodys all few h = impossible fits
+  rows-with-sound stored meta kinds.Uint32 fabric index value there xs kind fits other nobodys all few h = impossible fits
+  rows-with-sound stored meta kinds.NullableUint fabric index value there xs kind fits other nobodys all few h = impossible fits
+  rows-with-sound stored meta kinds.NullableOctets fabric index value there xs kind fits other nobodys all few h = impossible fits
+  rows-with-sound stored meta kinds.Null fabric index value there xs kind fits other nobodys all few h = impossible fits
+  rows-with-sound stored meta kinds.Text fabric index value there xs kind fits other nobodys all few h = impossible fits
+  rows-with-sound stored meta kinds.Numbers fabric index value there xs kind fits other nobodys all few h = impossible fits
+  rows-with-sound stored meta kinds.Structure fabric index value there xs kind fits other nobodys all few h = impossible fits
+  rows-with-sound stored meta kinds.DeviceTypes fabric index value there xs kind fits other nobodys all few h = impossible fits
+  rows-with-sound stored meta kinds.Binding fabric index value there xs kind fits other nobodys all few h =
       scoped-sound stored meta fabric index value there xs
-      (subst (λ (k : Kind). (t : Tree) (x : Value) → is_item (fields_of k) t ≡ true → kept_item (fields_of k) fabric t ≡ Some x → has_form k meta.limit x ≡ true) (sym kind) (λ t x typed found. binding-item tree_value meta.limit fabric t x small typed found))
-      fits all h
-  rows-with-sound stored meta kinds.Acl fabric index value there xs kind fits other small all h = impossible (sym other)
-  rows-with-sound stored meta kinds.Networks fabric index value there xs kind fits other small all h = impossible fits
-  rows-with-sound stored meta kinds.Nocs fabric index value there xs kind fits other small all h = impossible fits
-  rows-with-sound stored meta kinds.Fabrics fabric index value there xs kind fits other small all h = impossible fits
-  rows-with-sound stored meta kinds.Roots fabric index value there xs kind fits other small all h = impossible fits
-  rows-with-sound stored meta kinds.Labels fabric index value there xs kind fits other small all h = labels-sound stored meta fabric index value there xs kind fits all h
-  rows-with-sound stored meta kinds.Bench fabric index value there xs kind fits other small all h =
+      (subst (λ (k : Kind). (t : Tree) (x : Value) → is_item (fields_of k) t ≡ true → kept_item (fields_of k) fabric t ≡ Some x → is_of_kind k meta.least meta.limit fabric x ≡ true) (sym kind) (binding-item tree_value meta.least meta.limit fabric))
+      fits all few h
+  rows-with-sound stored meta kinds.Acl fabric index value there xs kind fits other nobodys all few h = impossible (sym other)
+  rows-with-sound stored meta kinds.Networks fabric index value there xs kind fits other nobodys all few h = impossible fits
+  rows-with-sound stored meta kinds.Nocs fabric index value there xs kind fits other nobodys all few h = impossible fits
+  rows-with-sound stored meta kinds.Fabrics fabric index value there xs kind fits other nobodys all few h = impossible fits
+  rows-with-sound stored meta kinds.Roots fabric index value there xs kind fits other nobodys all few h = impossible fits
+  rows-with-sound stored meta kinds.Labels fabric index value there xs kind fits other nobodys all few h = labels-sound stored meta fabric index value there xs kind nobodys fits all h
+  rows-with-sound stored meta kinds.Bench fabric index value there xs kind fits other nobodys all few h =
       scoped-sound stored meta fabric index value there xs
-      (subst (λ (k : Kind). (t : Tree) (x : Value) → is_item (fields_of k) t ≡ true → kept_item (fields_of k) fabric t ≡ Some x → has_form k meta.limit x ≡ true) (sym kind) (λ t x typed found. bench-item tree_value meta.limit fabric t x small typed found))
-      fits all h
+      (subst (λ (k : Kind). (t : Tree) (x : Value) → is_item (fields_of k) t ≡ true → kept_item (fields_of k) fabric t ≡ Some x → is_of_kind k meta.least meta.limit fabric x ≡ true) (sym kind) (bench-item tree_value meta.least meta.limit fabric))
+      fits all few h
 
   value-step : (a t w : Bool) (v : Value) (xs : List Value) → ◌≡◌ {A = Result (List Value) Status} (if a || not t then Err InvalidDataType else if not w then Err ConstraintError else Ok (v ∷ [])) (Ok xs) → (t ≡ true) × (w ≡ true) × (v ∷ [] ≡ xs)
   value-step true t w v xs h = absurd cc
@@ -129,22 +132,27 @@ module _ (tree_value : (t : Tree) → tree (value_of t) ≡ t) where
   staying-step p true there all = all
   staying-step p false there all = refl
 
+  staying-few : (limit : ℕ) (b : Bool) (there : List Value) → nat_le (length there) limit ≡ true → nat_le (length (if b then there else [])) limit ≡ true
+  staying-few limit true there few = few
+  staying-few limit false there few = le-leb 0 limit (omega arith)
+
   new-rows-sound : (stored : Bool) (meta : Meta) (taken : Option Takes) (fabric : ℕ) (index : Index) (value : Value) (before xs : List Value) → fits_found stored (Ok meta) taken ≡ true → is_entry_list meta.kind ≡ false
-      → nat_lt fabric (2 ^ 8) ≡ true → list_all (has_form meta.kind meta.limit) before ≡ true → new_rows meta taken fabric index value before ≡ Ok xs → is_sound_row stored xs (Ok meta) ≡ true
-  new-rows-sound stored meta None fabric index value before xs fits other small all h = impossible fits
-  new-rows-sound stored meta (Some takes.Nothing) fabric index value before xs fits other small all h = absurd cc
-  new-rows-sound stored meta (Some (takes.Value form)) fabric index value before xs fits other small all h =
-      let first = and-both (is_some meta.write) (stored && (not meta.scoped && fits_form meta.kind meta.limit form)) fits in
-      let second = and-both stored (not meta.scoped && fits_form meta.kind meta.limit form) first.1 in
-      let third = and-both (not meta.scoped) (fits_form meta.kind meta.limit form) second.1 in
+      → (meta.scoped ≡ false → fabric ≡ 0) → list_all (has_form meta fabric) before ≡ true → (meta.scoped ≡ true → nat_le (length before) meta.limit ≡ true) → new_rows meta taken fabric index value before ≡ Ok xs → is_sound_row stored fabric xs (Ok meta) ≡ true
+  new-rows-sound stored meta None fabric index value before xs fits other nobodys all few h = impossible fits
+  new-rows-sound stored meta (Some takes.Nothing) fabric index value before xs fits other nobodys all few h = absurd cc
+  new-rows-sound stored meta (Some (takes.Value form)) fabric index value before xs fits other nobodys all few h =
+      let first = and-both (is_some meta.write) (stored && (not meta.scoped && fits_form meta.kind meta.least meta.limit form)) fits in
+      let second = and-both stored (not meta.scoped && fits_form meta.kind meta.least meta.limit form) first.1 in
+      let third = and-both (not meta.scoped) (fits_form meta.kind meta.least meta.limit form) second.1 in
       let parts = value-step (is_append index) (has_type form (tree value)) (is_within form (tree value)) value xs h in
-      let form_of = value-form meta.kind meta.limit form value third.1 parts.0 parts.1 in
-      sound stored meta xs second.0
-      (subst (λ zs. list_all (has_form meta.kind meta.limit) zs ≡ true) parts.2 (and-true (has_form meta.kind meta.limit value) true form_of refl))
-      (or-right meta.scoped (length xs == 1) (subst (λ (zs : List Value). (length zs == 1) ≡ true) parts.2 refl))
-  new-rows-sound stored meta (Some takes.Items) fabric index value before xs fits other small all h =
+      let form_of = value-form meta.kind meta.least meta.limit fabric form value third.1 parts.0 parts.1 in
+      sound stored meta fabric xs second.0
+      (subst (λ zs. list_all (has_form meta fabric) zs ≡ true) parts.2 (and-true (has_form meta fabric value) true form_of refl))
+      (as-many-single meta xs (not-true meta.scoped third.0) (subst (λ (zs : List Value). (length zs == 1) ≡ true) parts.2 refl))
+  new-rows-sound stored meta (Some takes.Items) fabric index value before xs fits other nobodys all few h =
       let both = and-both (is_some meta.write) (fits_list stored meta.scoped meta.limit meta.kind) fits in
-      rows-with-sound stored meta meta.kind fabric index value (staying index before) xs refl both.1 other small (staying-step (has_form meta.kind meta.limit) (is_append index) before all) h
+      rows-with-sound stored meta meta.kind fabric index value (staying index before) xs refl both.1 other nobodys (staying-step (has_form meta fabric) (is_append index) before all)
+      (λ is. staying-few meta.limit (is_append index) before (few is)) h
 
 -- Entries.
 
@@ -199,25 +207,25 @@ staying-entries fabric false there all = refl
 
 -- What the table says of them.
 
-acl-no-form : (kind : Kind) (limit : ℕ) (form : Form) → is_entry_list kind ≡ true → fits_form kind limit form ≡ true → false ≡ true
-acl-no-form kinds.Bool limit form acl fits = acl
-acl-no-form kinds.Uint limit form acl fits = acl
-acl-no-form kinds.Uint32 limit form acl fits = acl
-acl-no-form kinds.NullableUint limit form acl fits = acl
-acl-no-form kinds.NullableOctets limit form acl fits = acl
-acl-no-form kinds.Null limit form acl fits = acl
-acl-no-form kinds.Text limit form acl fits = acl
-acl-no-form kinds.Numbers limit form acl fits = acl
-acl-no-form kinds.Structure limit form acl fits = acl
-acl-no-form kinds.DeviceTypes limit form acl fits = acl
-acl-no-form kinds.Binding limit form acl fits = acl
-acl-no-form kinds.Acl limit form acl fits = fits
-acl-no-form kinds.Networks limit form acl fits = acl
-acl-no-form kinds.Nocs limit form acl fits = acl
-acl-no-form kinds.Fabrics limit form acl fits = acl
-acl-no-form kinds.Roots limit form acl fits = acl
-acl-no-form kinds.Labels limit form acl fits = acl
-acl-no-form kinds.Bench limit form acl fits = acl
+acl-no-form : (kind : Kind) (least limit : ℕ) (form : Form) → is_entry_list kind ≡ true → fits_form kind least limit form ≡ true → false ≡ true
+acl-no-form kinds.Bool least limit form acl fits = acl
+acl-no-form kinds.Uint least limit form acl fits = acl
+acl-no-form kinds.Uint32 least limit form acl fits = acl
+acl-no-form kinds.NullableUint least limit form acl fits = acl
+acl-no-form kinds.NullableOctets least limit form acl fits = acl
+acl-no-form kinds.Null least limit form acl fits = acl
+acl-no-form kinds.Text least limit form acl fits = acl
+acl-no-form kinds.Numbers least limit form acl fits = acl
+acl-no-form kinds.Structure least limit form acl fits = acl
+acl-no-form kinds.DeviceTypes least limit form acl fits = acl
+acl-no-form kinds.Binding least limit form acl fits = acl
+acl-no-form kinds.Acl least limit form acl fits = fits
+acl-no-form kinds.Networks least limit form acl fits = acl
+acl-no-form kinds.Nocs least limit form acl fits = acl
+acl-no-form kinds.Fabrics least limit form acl fits = acl
+acl-no-form kinds.Roots least limit form acl fits = acl
+acl-no-form kinds.Labels least limit form acl fits = acl
+acl-no-form kinds.Bench least limit form acl fits = acl
 
 acl-list : (stored scoped : Bool) (limit : ℕ) (kind : Kind) → is_entry_list kind ≡ true → fits_list stored scoped limit kind ≡ true → (scoped && limit == 4) ≡ true
 acl-list stored scoped limit kinds.Bool acl fits = impossible acl
@@ -263,10 +271,10 @@ pub entry-list : (stored : Bool) (meta : Meta) (taken : Option Takes) → is_ent
 entry-list stored meta None acl writable fits = impossible fits
 entry-list stored meta (Some takes.Nothing) acl writable fits = impossible (sym writable ∙ fits)
 entry-list stored meta (Some (takes.Value form)) acl writable fits =
-    let first = and-both (is_some meta.write) (stored && (not meta.scoped && fits_form meta.kind meta.limit form)) fits in
-    let second = and-both stored (not meta.scoped && fits_form meta.kind meta.limit form) first.1 in
-    let third = and-both (not meta.scoped) (fits_form meta.kind meta.limit form) second.1 in
-    impossible (acl-no-form meta.kind meta.limit form acl third.1)
+    let first = and-both (is_some meta.write) (stored && (not meta.scoped && fits_form meta.kind meta.least meta.limit form)) fits in
+    let second = and-both stored (not meta.scoped && fits_form meta.kind meta.least meta.limit form) first.1 in
+    let third = and-both (not meta.scoped) (fits_form meta.kind meta.least meta.limit form) second.1 in
+    impossible (acl-no-form meta.kind meta.least meta.limit form acl third.1)
 entry-list stored meta (Some takes.Items) acl writable fits =
     let both = and-both (is_some meta.write) (fits_list stored meta.scoped meta.limit meta.kind) fits in
     acl-list stored meta.scoped meta.limit meta.kind acl both.1
@@ -275,8 +283,8 @@ rows-stored : (stored : Bool) (meta : Meta) (taken : Option Takes) → is_entry_
 rows-stored stored meta None other writable fits = impossible fits
 rows-stored stored meta (Some takes.Nothing) other writable fits = impossible (sym writable ∙ fits)
 rows-stored stored meta (Some (takes.Value form)) other writable fits =
-    let first = and-both (is_some meta.write) (stored && (not meta.scoped && fits_form meta.kind meta.limit form)) fits in
-    (and-both stored (not meta.scoped && fits_form meta.kind meta.limit form) first.1).0
+    let first = and-both (is_some meta.write) (stored && (not meta.scoped && fits_form meta.kind meta.least meta.limit form)) fits in
+    (and-both stored (not meta.scoped && fits_form meta.kind meta.least meta.limit form) first.1).0
 rows-stored stored meta (Some takes.Items) other writable fits =
     let both = and-both (is_some meta.write) (fits_list stored meta.scoped meta.limit meta.kind) fits in
     list-stored stored meta.scoped meta.limit meta.kind other both.1
@@ -297,20 +305,22 @@ set-step fine true set stored found here before = here refl
 set-step fine false set stored found here before = before
 
 module _ (place : Place) (meta : Meta) (there : find_of place ≡ Ok meta) (fabric : ℕ) (stored : List Value) where
-  fine : List Value → Type 0
-  fine values = list_all (has_form meta.kind meta.limit) values ≡ true
+  record Fine (values : List Value) : Type 0 where
+    form : list_all (has_form meta fabric) values ≡ true
+    few : meta.scoped ≡ true → nat_le (length values) meta.limit ≡ true
 
-  row-fine : (at : Place) (values : List Value) → same_place at place ≡ true → is_sound_row (is_stored at) values (find_of at) ≡ true → fine values
-  unfolding fine
-  row-fine at values same is =
-      let here : is_sound_row (is_stored place) values (find_of place) ≡ true = subst (λ p. is_sound_row (is_stored p) values (find_of p) ≡ true) (place-same at place same) is in
-      let found : is_sound_row (is_stored place) values (Ok meta) ≡ true = subst (λ r. is_sound_row (is_stored place) values r ≡ true) there here in
-      let both = and-both (is_stored place) (list_all (has_form meta.kind meta.limit) values && (meta.scoped || length values == 1)) found in
-      (and-both (list_all (has_form meta.kind meta.limit) values) (meta.scoped || length values == 1) both.1).0
+  row-fine : (at : Place) (whose : ℕ) (values : List Value) → same_place at place ≡ true → (whose == fabric) ≡ true → is_sound_row (is_stored at) whose values (find_of at) ≡ true → Fine values
+  row-fine at whose values same own is =
+      let here : is_sound_row (is_stored place) whose values (find_of place) ≡ true = subst (λ p. is_sound_row (is_stored p) whose values (find_of p) ≡ true) (place-same at place same) is in
+      let found : is_sound_row (is_stored place) whose values (Ok meta) ≡ true = subst (λ r. is_sound_row (is_stored place) whose values r ≡ true) there here in
+      let its : is_sound_row (is_stored place) fabric values (Ok meta) ≡ true = subst (λ n. is_sound_row (is_stored place) n values (Ok meta) ≡ true) (eqb-true whose fabric own) found in
+      let both = and-both (is_stored place) (list_all (has_form meta fabric) values && are_as_many meta values) its in
+      let parts = and-both (list_all (has_form meta fabric) values) (are_as_many meta values) both.1 in
+      record { form = parts.0; few = λ scoped. if-true meta.scoped (nat_le (length values) meta.limit) (length values == 1) true scoped parts.1 }
 
-  newer-row : (step : NodeStep) (found : Option (List Value)) → is_sound_step step ≡ true → fine (unwrap_or found stored) → fine (unwrap_or (option_or (row_set place fabric step) found) stored)
+  newer-row : (step : NodeStep) (found : Option (List Value)) → is_sound_step step ≡ true → Fine (unwrap_or found stored) → Fine (unwrap_or (option_or (row_set place fabric step) found) stored)
   newer-row (SetRow at whose values) found is before =
-      set-step fine (same_place at place && whose == fabric) values stored found (λ b. row-fine at values ((and-both (same_place at place) (whose == fabric) b).0) is) before
+      set-step Fine (same_place at place && whose == fabric) values stored found (λ b. let both = and-both (same_place at place) (whose == fabric) b in row-fine at whose values both.0 both.1 is) before
   newer-row (SetEntries whose entries) found is before = before
   newer-row (PutNetwork id secret) found is before = before
   newer-row (RemoveNetwork id) found is before = before
@@ -328,14 +338,13 @@ module _ (place : Place) (meta : Meta) (there : find_of place ≡ Ok meta) (fabr
   newer-row (Label index label) found is before = before
   newer-row (Emit place priority fabric value) found is before = before
 
-  latest-row : (found : Option (List Value)) (steps : List NodeStep) → list_all is_sound_step steps ≡ true → fine (unwrap_or found stored) → fine (unwrap_or (latest (row_set place fabric) found steps) stored)
+  latest-row : (found : Option (List Value)) (steps : List NodeStep) → list_all is_sound_step steps ≡ true → Fine (unwrap_or found stored) → Fine (unwrap_or (latest (row_set place fabric) found steps) stored)
   latest-row found [] all before = before
   latest-row found (step ∷ steps) all before =
       let both = and-both (is_sound_step step) (list_all is_sound_step steps) all in
       latest-row (option_or (row_set place fabric step) found) steps both.1 (newer-row step found both.0 before)
 
-  rows-now : (steps : List NodeStep) → list_all is_sound_step steps ≡ true → list_all (has_form meta.kind meta.limit) stored ≡ true → list_all (has_form meta.kind meta.limit) (rows_now place fabric steps stored) ≡ true
-  unfolding fine
+  rows-now : (steps : List NodeStep) → list_all is_sound_step steps ≡ true → Fine stored → Fine (rows_now place fabric steps stored)
   rows-now steps all before = latest-row None steps all before
 
 module _ (fabric : ℕ) (stored : List AclEntry) where
@@ -381,7 +390,7 @@ entries-step-sound : (fabric : ℕ) (r : Result (List AclEntry) Status) → ((xs
 entries-step-sound fabric (Err status) each = record { is = refl }
 entries-step-sound fabric (Ok xs) each = record { is = each xs refl }
 
-row-step-sound : (place : Place) (fabric : ℕ) (r : Result (List Value) Status) → ((xs : List Value) → r ≡ Ok xs → is_sound_row (is_stored place) xs (find_of place) ≡ true) → Passes is_sound_step (row_step place fabric r)
+row-step-sound : (place : Place) (fabric : ℕ) (r : Result (List Value) Status) → ((xs : List Value) → r ≡ Ok xs → is_sound_row (is_stored place) fabric xs (find_of place) ≡ true) → Passes is_sound_step (row_step place fabric r)
 row-step-sound place fabric (Err status) each = record { is = refl }
 row-step-sound place fabric (Ok xs) each = record { is = each xs refl }
 
@@ -389,9 +398,10 @@ either : (b : Bool) (x y : Result NodeStep Status) → (b ≡ true → Passes is
 either true x y one other = one refl
 either false x y one other = other refl
 
-small-fabric : (b : Bool) (fabric : ℕ) → nat_lt fabric (2 ^ 8) ≡ true → nat_lt (if b then fabric else 0) (2 ^ 8) ≡ true
-small-fabric true fabric small = small
-small-fabric false fabric small = refl
+-- what is not scoped is nobody's
+nobodys : (b : Bool) (fabric : ℕ) → b ≡ false → (if b then fabric else 0) ≡ 0
+nobodys true fabric is = impossible (sym is)
+nobodys false fabric is = refl
 
 module _ (law : (place : Place) → is_ok (find_of place) ≡ true → takes_rightly place ≡ true) (tree_value : (t : Tree) → tree (value_of t) ≡ t) (seen : Seen) (actor : Actor) (sight : IsSoundSight seen actor) (steps : List NodeStep) (before : list_all is_sound_step steps ≡ true) (item : WriteItem) (place : Place) where
   fits : (meta : Meta) → find_of place ≡ Ok meta → fits_found (is_stored place) (Ok meta) (takes_of place) ≡ true
@@ -411,9 +421,9 @@ module _ (law : (place : Place) → is_ok (find_of place) ≡ true → takes_rig
       let own = fabric_of actor meta in
       let kept = rows-stored (is_stored place) meta (takes_of place) other writable (fits meta there) in
       let stored = own_values own (seen.rows_at place) in
-      let now = rows-now place meta there own stored steps before (sight.rows place meta there kept) in
-      row-step-sound place own _ (λ xs h. subst (λ r. is_sound_row (is_stored place) xs r ≡ true) (sym there)
-      (new-rows-sound tree_value (is_stored place) meta (takes_of place) own item.path.index item.value (rows_now place own steps stored) xs (fits meta there) other (small-fabric meta.scoped actor.fabric sight.fabric) now h))
+      let now = rows-now place meta there own stored steps before (record { form = sight.rows place meta there kept; few = sight.few place meta there kept }) in
+      row-step-sound place own _ (λ xs h. subst (λ r. is_sound_row (is_stored place) own xs r ≡ true) (sym there)
+      (new-rows-sound tree_value (is_stored place) meta (takes_of place) own item.path.index item.value (rows_now place own steps stored) xs (fits meta there) other (nobodys meta.scoped actor.fabric) now.form now.few h))
 
   found-sound : (meta : Meta) → find_of place ≡ Ok meta → is_none meta.write ≡ false → Passes is_sound_step (written_at seen actor steps item place (Ok meta))
   found-sound meta there writable =

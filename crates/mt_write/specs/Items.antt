@@ -15,8 +15,7 @@ use Rattle.mt_model.specs.declared.messages.status.Status.{Status}
 use Rattle.mt_model.specs.declared.messages.status.Status.TheVariants.{ConstraintError, InvalidDataType, ResourceExhausted}
 use Rattle.mt_meta.specs.declared.rows.Field.{Field}
 use Rattle.mt_meta.specs.declared.rows.Form.{Form}
-use Rattle.mt_meta.specs.declared.rows.Form.TheVariants as forms
-use Rattle.mt_meta.specs.Fields.{all_elements, are_within, is_item}
+use Rattle.mt_meta.specs.Fields.{all_elements, are_within, is_fabric_index, is_item}
 
 -- The items that are written.
 
@@ -31,10 +30,6 @@ array_in value = None
 -- the one that is appended, or the elements of an array
 abbrev pub given_items : Index → Value → Option Elements
 given_items index value = if is_append index then Some (more Anonymous (tree value) none) else array_in value
-
-abbrev pub is_fabric_index : Form → Bool
-is_fabric_index forms.FabricIndex = true
-is_fabric_index form = false
 
 -- Whose an item is is kept as the writer's fabric, whatever it says.
 abbrev pub kept_value : ℕ → Form → Option Tree → Option Value

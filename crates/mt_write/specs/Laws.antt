@@ -1,5 +1,5 @@
 -- What a write touches and leaves, and when it is denied.
-use Rattle.std.specs.Prelude.{◌≡◌, ◌↔◌, ◌==◌, not, Bool, true, false, List, [], Some, Err, IsTrue, if◌then◌else◌, ◌&&◌, ◌||◌, ◌^◌, ℕ, nat_le, nat_lt, Result, Ok, length}
+use Rattle.std.specs.Prelude.{◌≡◌, ◌↔◌, ◌==◌, not, Bool, true, false, List, [], Some, Err, IsTrue, if◌then◌else◌, ◌&&◌, ℕ, nat_le, Result, Ok, length}
 use Rattle.std.specs.List.{list_all, list_any}
 use Rattle.mt_acl.specs.Access.{implicit_grants, own_entry_grants}
 use Rattle.mt_meta.specs.Finding.{find_of, privilege_of}
@@ -7,6 +7,7 @@ use Rattle.mt_meta.specs.Forms.{has_form}
 use Rattle.mt_meta.specs.Stored.{is_stored}
 use Rattle.mt_meta.specs.declared.meta.Meta.{Meta}
 use Rattle.mt_meta.specs.declared.finding.Asked.TheVariants.{Write}
+use Rattle.mt_model.specs.declared.limits.TheConstants.{ENTRIES}
 use Rattle.mt_model.specs.texts.Config.{is_entry}
 use Rattle.mt_model.specs.rows.Seen.{Seen}
 use Rattle.mt_model.specs.declared.tables.access.AclEntry.{AclEntry}
@@ -56,28 +57,32 @@ DeniesWritesExactly = (seen : Seen) (actor : Actor) (timed : Bool) (steps : List
 
 -- What a step sets is such as a state keeps there.
 
--- values of the attribute's form at a stored place, and one where it is not scoped
-abbrev pub is_sound_row : Bool → List Value → Result Meta Status → Bool
-is_sound_row is_stored values (Err status) = false
-is_sound_row is_stored values (Ok meta) = is_stored && (list_all (has_form meta.kind meta.limit) values && (meta.scoped || length values == 1))
+-- of a scoped list at most as many items as a fabric may have, of every other attribute one value
+abbrev pub are_as_many : Meta → List Value → Bool
+are_as_many meta values = if meta.scoped then nat_le (length values) meta.limit else length values == 1
+
+-- values of the attribute's form at a stored place, which are this fabric's, and as many as there may be
+abbrev pub is_sound_row : Bool → ℕ → List Value → Result Meta Status → Bool
+is_sound_row is_stored fabric values (Err status) = false
+is_sound_row is_stored fabric values (Ok meta) = is_stored && (list_all (has_form meta fabric) values && are_as_many meta values)
 
 abbrev pub is_entry_of : ℕ → AclEntry → Bool
 is_entry_of fabric entry = is_entry entry && entry.fabric == fabric
 
--- entries of this fabric that keep the rules, at most four
+-- entries of this fabric that keep the rules, and no more than it may have
 abbrev pub are_entries_of : ℕ → List AclEntry → Bool
-are_entries_of fabric entries = list_all (is_entry_of fabric) entries && nat_le (length entries) 4
+are_entries_of fabric entries = list_all (is_entry_of fabric) entries && nat_le (length entries) ENTRIES
 
 abbrev pub is_sound_step : NodeStep → Bool
-is_sound_step (SetRow place fabric values) = is_sound_row (is_stored place) values (find_of place)
+is_sound_step (SetRow place fabric values) = is_sound_row (is_stored place) fabric values (find_of place)
 is_sound_step (SetEntries fabric entries) = are_entries_of fabric entries
 is_sound_step (Emit place priority fabric value) = true
 is_sound_step step = false
 
--- What the writer's fabric sees is its own in its form.
+-- What the writer's fabric sees is its own in its form, and no more than it may have.
 pub record IsSoundSight (seen : Seen) (actor : Actor) : Type 0 where
-  pub fabric : nat_lt actor.fabric (2 ^ 8) ≡ true
-  pub rows : (place : Place) (meta : Meta) → find_of place ≡ Ok meta → is_stored place ≡ true → list_all (has_form meta.kind meta.limit) (own_values (fabric_of actor meta) (seen.rows_at place)) ≡ true
+  pub rows : (place : Place) (meta : Meta) → find_of place ≡ Ok meta → is_stored place ≡ true → list_all (has_form meta (fabric_of actor meta)) (own_values (fabric_of actor meta) (seen.rows_at place)) ≡ true
+  pub few : (place : Place) (meta : Meta) → find_of place ≡ Ok meta → is_stored place ≡ true → meta.scoped ≡ true → nat_le (length (own_values (fabric_of actor meta) (seen.rows_at place))) meta.limit ≡ true
   pub entries : are_entries_of actor.fabric seen.entries ≡ true
 
 abbrev pub LeavesSound : Type 0

@@ -14,6 +14,7 @@ use Rattle.mt_model.specs.declared.tables.access.Actor.{Actor}
 use Rattle.mt_model.specs.declared.node.action.NodeStep.{NodeStep}
 use Rattle.mt_model.specs.declared.node.action.NodeStep.TheVariants.{SetRow, SetEntries}
 use Rattle.mt_model.specs.declared.messages.message.Index.{Index}
+use Rattle.mt_model.specs.declared.messages.message.Index.TheVariants.{Whole, At}
 use Rattle.mt_model.specs.declared.messages.message.Item.{Item}
 use Rattle.mt_model.specs.declared.messages.message.Item.TheVariants.{Refused}
 use Rattle.mt_model.specs.declared.messages.message.Path.{Path}
@@ -168,9 +169,18 @@ item_step seen actor timed steps item (Some place) = written_at seen actor steps
 
 -- The request.
 
+-- A path as a status tells it: a number that names one item of a list is not told again.
+
+abbrev pub told_index : Index → Index
+told_index (At n) = Whole
+told_index index = index
+
+abbrev pub told_path : Path → Path
+told_path path = record path { index = told_index path.index }
+
 -- a status under the path of its item
 abbrev pub status_item : Path → Status → Item
-status_item path status = Refused path (code_of status)
+status_item path status = Refused (told_path path) (code_of status)
 
 -- an item that is refused changes nothing
 abbrev pub with_step : Written → Path → Result NodeStep Status → Written

@@ -8,7 +8,8 @@ ghost use Rattle.mt_tlv.specs.View.{elements, tree};
 ghost use Rattle.mt_model.specs.Trees.{field_in};
 ghost use Rattle.mt_meta.specs.declared.rows.Field.{Field};
 ghost use Rattle.mt_write.specs.Entries.{kept_entry};
-ghost use Rattle.mt_write.specs.Items.{given_items, is_append, is_fabric_index, kept_each, kept_fields, kept_item, kept_value, new_items, tagged, with_room};
+ghost use Rattle.mt_meta.specs.Fields.{is_fabric_index};
+ghost use Rattle.mt_write.specs.Items.{given_items, is_append, kept_each, kept_fields, kept_item, kept_value, new_items, tagged, with_room};
 
 use crate::entries::keep_entry;
 use mt_meta::{Field, Form, are_items, are_within, is_item};

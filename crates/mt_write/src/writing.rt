@@ -7,14 +7,14 @@ ghost use Rattle.mt_model.specs.rows.Seen.{own_entries, seen_as};
 ghost use Rattle.mt_model.specs.messages.Status.{code_of};
 ghost use Rattle.mt_write.specs.Entries.{kept_entry};
 ghost use Rattle.mt_write.specs.Latest.{entries_now, rows_now};
-ghost use Rattle.mt_write.specs.Writing.{entries_step, entries_written, fabric_of, is_entry_list, item_step, own_values, row_step, rows_written, status_item, with_all, with_item, with_step, write_answer, written_at};
+ghost use Rattle.mt_write.specs.Writing.{entries_step, entries_written, fabric_of, is_entry_list, item_step, own_values, row_step, rows_written, status_item, told_index, told_path, with_all, with_item, with_step, write_answer, written_at};
 
 use crate::opening::opened;
 use crate::values::{list_with, new_rows, staying_entries};
 use mt_meta::{Kind, Meta};
 use mt_model::{
-    AclEntries, Actor, Item, Items, NodeStep, Path, Place, Sight, Status, Steps, Values, WriteItem,
-    Writes,
+    AclEntries, Actor, Index, Item, Items, NodeStep, Path, Place, Sight, Status, Steps, Values,
+    WriteItem, Writes,
 };
 use std::alloc::{AllocError, Global};
 
@@ -98,9 +98,28 @@ fn push_status(path: &Path, status: Status, statuses: &mut Items) -> Result<(), 
     ensures { OnOk result (statuses.new ≡ statuses.old ++ status_item path.now status ∷ []) }
 {
     statuses.push(Item::Refused {
-        path: *path,
+        path: told_path(path),
         code: status.code(),
     })
+}
+
+// A path as a status tells it: a number that names one item of a list is not told again.
+fn told_path(path: &Path) -> Path
+    ensures { result ≡ told_path path.now }
+{
+    Path {
+        index: told_index(path.index),
+        ..*path
+    }
+}
+
+fn told_index(index: Index) -> Index
+    ensures { result ≡ told_index index }
+{
+    match index {
+        Index::At(_) => Index::Whole,
+        Index::Whole | Index::Append => index,
+    }
 }
 
 // The step that an item makes behind these, or the status that refuses it.

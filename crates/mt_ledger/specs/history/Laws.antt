@@ -3,6 +3,7 @@ use Rattle.std.specs.Prelude.{◌≡◌, ◌≢◌, ◌≤◌, ℕ, Option, None
 use Rattle.mt_failsafe.specs.Notes.{was_added}
 use Rattle.mt_tlv.specs.declared.value.Value.{Value}
 use Rattle.mt_im.specs.declared.fault.ImFault.{ImFault}
+use Rattle.mt_model.specs.declared.limits.TheConstants.{FABRICS}
 use Rattle.mt_model.specs.declared.messages.message.Request.{Request}
 use Rattle.mt_model.specs.declared.node.action.Action.{Action}
 use Rattle.mt_model.specs.declared.node.action.Action.TheVariants.{Ask, Expire, Nothing}
@@ -18,13 +19,13 @@ use Rattle.mt_machine.specs.Step.{after_action, asker}
 use Rattle.mt_machine.specs.Touching.{StaysThere}
 use Rattle.mt_ledger.specs.history.Asking.{full_line_reply, full_reply}
 use Rattle.mt_ledger.specs.history.Behind.{history_behind}
-use Rattle.mt_ledger.specs.history.History.{History, IsHistory, happened, opened, with_event, without_left}
+use Rattle.mt_ledger.specs.history.History.{History, IsHistory, begun_at, happened, with_event, without_left}
 use Rattle.mt_ledger.specs.history.Isolation.{own_events, recent, veiled_history}
 
--- What every history keeps: that of a new node, and what an action leaves.
+-- What every history keeps: that of a boot, whatever ceiling was stored before it (0 where the node is new), and what an action leaves.
 
 abbrev pub OpensHistory : Type 0
-OpensHistory = IsHistory opened
+OpensHistory = (ceiling : ℕ) → IsHistory (begun_at ceiling)
 
 abbrev pub StaysHistory : Type 0
 StaysHistory = (given : Environment) (s : NodeState) (action : Action) (now : ℕ) (h : History) → KeepsRules given.judged → IsValid s → IsHistory h → IsHistory (history_behind given s action now h)
@@ -32,7 +33,7 @@ StaysHistory = (given : Environment) (s : NodeState) (action : Action) (now : �
 -- One more event, of a fabric that there may be, leaves it so, and so does a fabric that leaves.
 
 abbrev pub RecordsOne : Type 0
-RecordsOne = (now : ℕ) (place : Place) (priority fabric : ℕ) (value : Value) (h : History) → fabric ≤ 16 → IsHistory h → IsHistory (with_event (happened h.numbers.next place priority now fabric value) h)
+RecordsOne = (now : ℕ) (place : Place) (priority fabric : ℕ) (value : Value) (h : History) → fabric ≤ FABRICS → IsHistory h → IsHistory (with_event (happened h.numbers.next place priority now fabric value) h)
 
 abbrev pub ForgetsLeft : Type 0
 ForgetsLeft = (gone : Option ℕ) (h : History) → IsHistory h → IsHistory (without_left gone h)

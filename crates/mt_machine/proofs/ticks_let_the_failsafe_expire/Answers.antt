@@ -1,7 +1,7 @@
 use Rattle.std.proofs.Common.{arith, sym, ◌∙◌}
 use Rattle.mt_model.specs.declared.texts.recording.Event.TheVariants.{Tick}
 use Rattle.mt_machine.specs.Isolation.{own_of_whole, whole_of}
-use Rattle.mt_machine.specs.Lines.{next}
+use Rattle.mt_machine.specs.Lines.{plain_next}
 use Rattle.mt_machine.proofs.Expired.{gone_by_expiry, passes, rolls, ticks_spare}
 use Rattle.mt_machine.proofs.Settled.{settled-same}
 use Rattle.mt_machine.proofs.Ticks.{ticks_on_veil}
@@ -28,5 +28,5 @@ returns-clause-veil c = λ given fabric s ms valid. ticks_on_veil fabric given s
 pub returns-clause-mark : goal.returns-clause-mark
 returns-clause-mark c = λ given fabric s t ms valid_s valid_t own public.
     sym (ticks_on_veil fabric given s ms valid_s)
-    ∙ (λ i. own_of_whole fabric (next given (whole_of fabric (own i) (public i)) (Tick ms)))
+    ∙ (λ i. own_of_whole fabric (plain_next given (whole_of fabric (own i) (public i)) (Tick ms)))
     ∙ ticks_on_veil fabric given t ms valid_t

@@ -19,7 +19,7 @@ IsSameSeen parts.Fabrics event p other q = p.node.fabrics ≡ q.node.fabrics
 IsSameSeen parts.Roots event p other q = p.node.roots ≡ q.node.roots
 IsSameSeen parts.Networks event p other q = p.node.networks ≡ q.node.networks
 IsSameSeen parts.Failsafe event p other q = p.node.armed ≡ q.node.armed
-IsSameSeen parts.Versions event p other q = (p.node.versions ≡ q.node.versions) × (p.node.changes ≡ q.node.changes) × (p.node.changed ≡ q.node.changed)
+IsSameSeen parts.Versions event p other q = (p.node.versions ≡ q.node.versions) × (p.node.changes ≡ q.node.changes)
 IsSameSeen parts.Events event p other q = p.events.shared ≡ q.events.shared
 IsSameSeen parts.Numbers event p other q = p.events.next ≡ q.events.next
 IsSameSeen parts.Boot event p other q = p.node.boot ≡ q.node.boot
@@ -34,7 +34,7 @@ is_same_seen parts.Fabrics event p other q = are_same of_fabrics p.node.fabrics 
 is_same_seen parts.Roots event p other q = are_same of_roots p.node.roots q.node.roots
 is_same_seen parts.Networks event p other q = are_same of_networks p.node.networks q.node.networks
 is_same_seen parts.Failsafe event p other q = are_same of_failsafe p.node.armed q.node.armed
-is_same_seen parts.Versions event p other q = are_same of_versions p.node.versions q.node.versions && (are_same of_changes p.node.changes q.node.changes && p.node.changed == q.node.changed)
+is_same_seen parts.Versions event p other q = are_same of_versions p.node.versions q.node.versions && are_same of_changes p.node.changes q.node.changes
 is_same_seen parts.Events event p other q = are_same of_happened p.events.shared q.events.shared
 is_same_seen parts.Numbers event p other q = p.events.next == q.events.next
 is_same_seen parts.Boot event p other q = p.node.boot == q.node.boot

@@ -1,12 +1,13 @@
 -- Basic Information: the node's own data.
 use Rattle.std.specs.Prelude.{ℕ, List, [], ◌∷◌}
 use Rattle.mt_model.specs.declared.tables.access.Privilege.TheVariants.{View, Manage, Administer}
+use Rattle.mt_model.specs.declared.limits.TheConstants.{LOCATION_BYTES, NODE_LABEL_BYTES}
 use Rattle.mt_meta.specs.declared.meta.Kind.TheVariants as kinds
 use Rattle.mt_meta.specs.declared.rows.AttributeRow.{AttributeRow}
 use Rattle.mt_meta.specs.declared.rows.EventRow.{EventRow}
 use Rattle.mt_meta.specs.declared.rows.FirstValue.TheVariants as first
 use Rattle.mt_meta.specs.declared.rows.Form.TheVariants as forms
-use Rattle.mt_meta.specs.Rows.{plain, written_by, taking, kept, stored, event}
+use Rattle.mt_meta.specs.Rows.{plain, written_by, at_least, taking, kept, stored, event}
 
 abbrev pub cluster : ℕ
 cluster = 0x28
@@ -18,8 +19,8 @@ attributes =
     ∷ plain 2 kinds.Uint  -- VendorID
     ∷ plain 3 kinds.Text  -- ProductName
     ∷ plain 4 kinds.Uint  -- ProductID
-    ∷ stored first.EmptyText (kept (taking (forms.Text 0 32) (written_by Manage 32 (plain 5 kinds.Text))))  -- NodeLabel
-    ∷ stored (first.Country 88 88) (kept (taking (forms.Text 2 2) (written_by Administer 2 (plain 6 kinds.Text))))  -- Location: "XX"
+    ∷ stored first.EmptyText (kept (taking (forms.Text 0 NODE_LABEL_BYTES) (written_by Manage NODE_LABEL_BYTES (plain 5 kinds.Text))))  -- NodeLabel
+    ∷ stored (first.Country 88 88) (kept (taking (forms.Text LOCATION_BYTES LOCATION_BYTES) (at_least LOCATION_BYTES (written_by Administer LOCATION_BYTES (plain 6 kinds.Text)))))  -- Location: "XX"
     ∷ plain 7 kinds.Uint  -- HardwareVersion
     ∷ plain 8 kinds.Text  -- HardwareVersionString
     ∷ plain 9 kinds.Uint  -- SoftwareVersion

@@ -1,7 +1,7 @@
 -- Bench, a cluster of this project: a list in which each fabric has items of its own, and a number.
 use Rattle.std.specs.Prelude.{ℕ, List, [], ◌∷◌}
 use Rattle.mt_model.specs.declared.tables.access.Privilege.TheVariants.{View, Operate}
-use Rattle.mt_model.specs.declared.limits.TheConstants.{LIST_ITEMS}
+use Rattle.mt_model.specs.declared.limits.TheConstants.{LIST_ITEMS, BENCH_NAME_BYTES, BENCH_SECRET_BYTES}
 use Rattle.mt_meta.specs.declared.meta.Kind.TheVariants as kinds
 use Rattle.mt_meta.specs.declared.rows.AttributeRow.{AttributeRow}
 use Rattle.mt_meta.specs.declared.rows.CommandRow.{CommandRow}
@@ -34,7 +34,7 @@ events =
 -- the fields of an item
 abbrev pub fields : List Field
 fields =
-    needed 1 (forms.Text 0 32)  -- the name
-    ∷ needed 2 (forms.Octets 0 64)  -- the secret
+    needed 1 (forms.Text 0 BENCH_NAME_BYTES)  -- the name
+    ∷ needed 2 (forms.Octets 0 BENCH_SECRET_BYTES)  -- the secret
     ∷ fabric_field
     ∷ []

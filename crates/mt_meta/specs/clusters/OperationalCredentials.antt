@@ -1,5 +1,6 @@
 -- Operational Credentials.
 use Rattle.std.specs.Prelude.{ℕ, List, [], ◌∷◌, ◌==◌, if◌then◌else◌}
+use Rattle.mt_model.specs.declared.limits.TheConstants.{IPK_BYTES, NONCE_BYTES}
 use Rattle.mt_model.specs.declared.tables.access.Privilege.TheVariants.{Administer}
 use Rattle.mt_meta.specs.declared.meta.Kind.TheVariants as kinds
 use Rattle.mt_meta.specs.declared.rows.AttributeRow.{AttributeRow}
@@ -42,7 +43,7 @@ responses =
 
 abbrev pub csr_request_fields : List Field
 csr_request_fields =
-    needed 0 (forms.Octets 32 32)  -- CSRNonce
+    needed 0 (forms.Octets NONCE_BYTES NONCE_BYTES)  -- CSRNonce
     ∷ optional 1 forms.Bool  -- IsForUpdateNOC
     ∷ []
 
@@ -50,7 +51,7 @@ abbrev pub add_noc_fields : List Field
 add_noc_fields =
     needed 0 any_octets  -- NOCValue
     ∷ optional 1 any_octets  -- ICACValue
-    ∷ needed 2 (forms.Octets 16 16)  -- IPKValue
+    ∷ needed 2 (forms.Octets IPK_BYTES IPK_BYTES)  -- IPKValue
     ∷ needed 3 any_number  -- CaseAdminSubject
     ∷ needed 4 (forms.Uint 0xffff)  -- AdminVendorId
     ∷ []

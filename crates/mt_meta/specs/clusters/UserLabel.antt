@@ -1,7 +1,7 @@
 -- User Label.
 use Rattle.std.specs.Prelude.{ℕ, List, [], ◌∷◌}
 use Rattle.mt_model.specs.declared.tables.access.Privilege.TheVariants.{Manage}
-use Rattle.mt_model.specs.declared.limits.TheConstants.{LIST_ITEMS}
+use Rattle.mt_model.specs.declared.limits.TheConstants.{LIST_ITEMS, LABEL_TEXT_BYTES}
 use Rattle.mt_meta.specs.declared.meta.Kind.TheVariants as kinds
 use Rattle.mt_meta.specs.declared.rows.AttributeRow.{AttributeRow}
 use Rattle.mt_meta.specs.declared.rows.Field.{Field}
@@ -20,6 +20,6 @@ attributes =
 -- the fields of an item
 abbrev pub fields : List Field
 fields =
-    needed 0 (forms.Text 0 16)  -- Label
-    ∷ needed 1 (forms.Text 0 16)  -- Value
+    needed 0 (forms.Text 0 LABEL_TEXT_BYTES)  -- Label
+    ∷ needed 1 (forms.Text 0 LABEL_TEXT_BYTES)  -- Value
     ∷ []

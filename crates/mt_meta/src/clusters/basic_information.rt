@@ -74,6 +74,7 @@ pub(crate) static ATTRIBUTES: [AttributeRow; 12] = [
             kind: Kind::Text,
             write: Some(Privilege::Administer),
             kept: true,
+            least: LOCATION_BYTES as u16,
             limit: LOCATION_BYTES as u16,
             ..PLAIN
         },

@@ -3,6 +3,7 @@
 use Rattle.std.specs.Prelude.{ℕ, ◌==◌, ◌&&◌, nat_le, bytes_eq, Bool, false, List, length, Option, Some, None}
 use Rattle.std.specs.List.{list_any}
 use Rattle.mt_model.specs.texts.Config.{has_identity, has_up_to, is_of}
+use Rattle.mt_model.specs.declared.limits.TheConstants.{NETWORK_ID_BYTES, NETWORK_SECRET_BYTES}
 use Rattle.mt_model.specs.declared.tables.access.AclEntry.{AclEntry}
 use Rattle.mt_model.specs.declared.tables.fabric.Credentials.{Credentials}
 use Rattle.mt_model.specs.declared.tables.fabric.Fabric.{Fabric}
@@ -16,7 +17,7 @@ abbrev pub is_root_of : List ℕ → Fabric → Bool
 is_root_of root fabric = bytes_eq fabric.credentials.root root
 
 abbrev pub is_network : Network → Bool
-is_network network = has_up_to 32 network.id && nat_le (length network.secret) 64
+is_network network = has_up_to NETWORK_ID_BYTES network.id && nat_le (length network.secret) NETWORK_SECRET_BYTES
 
 abbrev pub have_one_id : Network → Network → Bool
 have_one_id a b = bytes_eq a.id b.id

@@ -1,5 +1,5 @@
 -- The rules on configurations.
-use Rattle.std.specs.Prelude.{ℕ, ◌+◌, ◌/◌, ◌%◌, ◌^◌, ◌==◌, nat_le, Bool, true, false, not, ◌&&◌, ◌||◌, is_some, List, [], ◌∷◌, length, count_by, bytes_eq}
+use Rattle.std.specs.Prelude.{ℕ, ◌+◌, ◌/◌, ◌%◌, ◌^◌, ◌==◌, nat_le, nat_lt, Bool, true, false, not, ◌&&◌, ◌||◌, Option, Some, None, is_some, List, [], ◌∷◌, length, count_by, bytes_eq}
 use Rattle.std.specs.List.{list_all, list_any}
 use Rattle.std.specs.Str.{is_utf8}
 use Rattle.mt_model.specs.declared.tables.access.AclEntry.{AclEntry}
@@ -40,6 +40,7 @@ is_operational node = nat_le 1 node && nat_le node LAST_OPERATIONAL_NODE
 abbrev pub are_credentials : Credentials → Bool
 are_credentials given = is_certificate given.root
     && (length given.root_key == ROOT_KEY_BYTES)
+    && nat_lt given.fabric_id (2 ^ 64)
     && is_operational given.node_id
     && is_certificate given.noc
     && is_intermediate given.icac
@@ -50,7 +51,7 @@ abbrev pub is_label : List ℕ → Bool
 is_label bytes = nat_le (length bytes) LABEL_BYTES && is_utf8 bytes
 
 abbrev pub is_fabric : Fabric → Bool
-is_fabric fabric = are_credentials fabric.credentials && is_label fabric.label
+is_fabric fabric = are_credentials fabric.credentials && is_label fabric.label && nat_lt fabric.vendor (2 ^ 16)
 
 -- whether the indexes are this one, the next and so on
 abbrev pub are_numbered_from : ℕ → List Fabric → Bool
@@ -93,10 +94,19 @@ may_be_granted Case privilege = true
 may_be_granted Group Administer = false
 may_be_granted Group privilege = true
 
+-- a number of so many bits, where there is one
+abbrev pub has_bits : ℕ → Option ℕ → Bool
+has_bits bits None = true
+has_bits bits (Some number) = nat_lt number (2 ^ bits)
+
+abbrev pub has_widths : Target → Bool
+has_widths target = has_bits 32 target.cluster && has_bits 16 target.endpoint && has_bits 32 target.device
+
 -- whether the target says something, and not both an endpoint and a device type
 abbrev pub is_target : Target → Bool
 is_target target = (is_some target.cluster || is_some target.endpoint || is_some target.device)
     && not (is_some target.endpoint && is_some target.device)
+    && has_widths target
 
 abbrev pub is_entry : AclEntry → Bool
 is_entry entry = may_be_granted entry.auth entry.privilege
@@ -188,6 +198,7 @@ is_join row = is_certificate row.root
     && is_certificate row.noc
     && is_intermediate row.icac
     && (length row.nonce == NONCE_BYTES)
+    && nat_lt row.fabric_id (2 ^ 64)
 
 unfoldable pub are_joins : List JoinRow → Bool
 are_joins rows = nat_le (length rows) VERDICTS && list_all is_join rows

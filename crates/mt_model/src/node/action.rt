@@ -111,7 +111,7 @@ pub enum NodeStep {
         index: u8,
         label: Bytes,
     },
-    /// An event of this place happened. It changes nothing that is kept yet: events are not recorded.
+    /// An event of this place happened. It changes nothing of the state: events are remembered beside it.
     Emit {
         place: Place,
         priority: u8,

@@ -9,4 +9,4 @@ returns-clause-sent c = λ given fabric w events rules valid some.
 pub returns-clause-held : goal.returns-clause-held
 returns-clause-held c = λ given fabric w events rules valid some.
     replays_left given c.wholes_are_valid.ensures.stays rules fabric some c.whole_leaves_the_own_on_the_veil.ensures.veil c.ticks_see_the_mark_alone.ensures.veil c.whole_keeps_the_own.ensures
-    c.veil_keeps_the_own.ensures events w valid
+    c.veil_keeps_the_own.ensures.own events w valid

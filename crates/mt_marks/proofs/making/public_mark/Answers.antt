@@ -26,7 +26,6 @@ returns c =
         armed = c.in_ok-bare_failsafe.ensures i;
         versions = c.in_ok-copy-3.ensures i;
         changes = c.in_ok-copy-4.ensures i;
-        changed = state.changed;
         boot = state.boot;
         clock = state.clock;
       };

@@ -18,6 +18,16 @@ made_valid : TimesStayValid → AllStayValid → (asking : Option Actor) (steps 
 made_valid times all asking steps now s copied t valid taken same made =
     subst IsValid (sym (made ∙ ap (λ (x : NodeState). after_all asking steps (at_time now x)) same)) (all asking steps (at_time now s) (times s now valid) taken)
 
+pub make_all-requires-clause-valid : goal.make_all-requires-clause-valid
+make_all-requires-clause-valid c = c.states_are_valid.ensures.times c.in_ok-behind.behind c.args.now (subst IsValid (sym c.in_ok-behind.ensures) c.node.invariant)
+
+pub differing_between-requires : goal.differing_between-requires
+differing_between-requires c =
+    let s = c.args.node.now.state in
+    let there : c.node.inside.state ≡ s = ap (λ (kept : ConfiguredNode). kept.state) c.node.view_is in
+    made_valid c.states_are_valid.ensures.times c.steps_leave_states_valid.ensures.all c.args.asking c.args.steps c.args.now s c.in_ok-behind.behind c.make_all.new.state
+    (subst IsValid there c.node.invariant) c.requires (c.in_ok-behind.ensures ∙ there) c.in_ok-make_all.ensures
+
 pub settle-requires-clause-stand : goal.settle-requires-clause-stand
 settle-requires-clause-stand c =
     let s = c.args.node.now.state in

@@ -6,3 +6,4 @@ returns-clause-opens c = valid.opens c.states_are_valid.ensures.opens c.ledgers_
 
 pub returns-clause-stays : goal.returns-clause-stays
 returns-clause-stays c = valid.stays c.states_are_valid.ensures.stays c.ledgers_stay_ledgers.ensures.stays c.sessions_keep_their_ids.ensures
+    c.deadlines_stand.ensures.lines c.deadlines_stand.ensures.actions

@@ -19,6 +19,8 @@ returns-in-Err-Bad g c =
           (g.W.Sink.written c.tell_bad_words.new.out) (g.W.Sink.faults c.tell_bad_words.new.out) c.tell_bad_words.result c.tell_bad_words.ensures);
       isolated = c.runs_are_isolated.ensures;
       denied = c.denials_are_exact.ensures;
+      replied = c.replies_are_exact.ensures;
+      expired = c.expiries_are_rollbacks.ensures;
       compared = c.comparisons_are_exact.ensures;
     }
 
@@ -38,6 +40,8 @@ returns-in-Ok-read_configuration g c =
           h.2 h.1 (c.read_configuration.ensures.calm (is_no_fault c.read_configuration.result c.in-Ok-read_configuration.is)) c.carry_out.ensures.ends);
       isolated = c.runs_are_isolated.ensures;
       denied = c.denials_are_exact.ensures;
+      replied = c.replies_are_exact.ensures;
+      expired = c.expiries_are_rollbacks.ensures;
       compared = c.comparisons_are_exact.ensures;
     }
 
@@ -52,6 +56,8 @@ returns-in-Err g c =
           c.in-Err.ensures.err (λ quiet. c.read_configuration.ensures.calm (not_read c.read_configuration.result c.in-Err.fault c.in-Err.is quiet)) c.finish.ensures);
       isolated = c.runs_are_isolated.ensures;
       denied = c.denials_are_exact.ensures;
+      replied = c.replies_are_exact.ensures;
+      expired = c.expiries_are_rollbacks.ensures;
       compared = c.comparisons_are_exact.ensures;
     }
 
@@ -60,5 +66,7 @@ returns-in-Err-Memory g c = record {
   ends = rw c.tell_memory.ensures.status (c.endings_add_up.ensures.no_memory (asked_of (words_of c.args.words.now)) (moment (input (g.C.Source.left c.args.config.now) (g.C.Source.faults c.args.config.now)) (input (g.A.Source.left c.args.first.now) (g.A.Source.faults c.args.first.now)) (input (g.B.Source.left c.args.second.now) (g.B.Source.faults c.args.second.now)) (g.W.Sink.written c.args.out.now) (g.W.Sink.faults c.args.out.now)) (g.W.Sink.written c.tell_memory.new.out) (g.W.Sink.faults c.tell_memory.new.out) c.tell_memory.ensures.tells);
   isolated = c.runs_are_isolated.ensures;
   denied = c.denials_are_exact.ensures;
+  replied = c.replies_are_exact.ensures;
+  expired = c.expiries_are_rollbacks.ensures;
   compared = c.comparisons_are_exact.ensures;
 }
