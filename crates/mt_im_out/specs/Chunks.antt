@@ -18,7 +18,7 @@ use Rattle.mt_model.specs.declared.messages.message.Reply.TheVariants as replies
 use Rattle.mt_model.specs.declared.messages.opcode.TheConstants.{STATUS_RESPONSE, SUBSCRIBE_RESPONSE, REPORT_DATA, WRITE_RESPONSE, INVOKE_RESPONSE}
 use Rattle.mt_model.specs.messages.Blocks.{item_tree}
 use Rattle.mt_im.specs.Requests.{command_tree}
-use Rattle.mt_im_out.specs.Messages.{status_response_tree, subscribe_response_tree, write_response_tree, command_status_tree, invoke_response_tree, report_tree}
+use Rattle.mt_im_out.specs.Messages.{status_response_tree, subscribe_response_tree, write_response_tree, command_failure_tree, command_status_tree, invoke_response_tree, report_tree}
 
 -- A list that is too long.
 
@@ -123,4 +123,5 @@ chunks_of (replies.Subscribed id ceiling) = payload SUBSCRIBE_RESPONSE (subscrib
 chunks_of (replies.Written items) = payload WRITE_RESPONSE (write_response_tree items) ∷ []
 chunks_of (replies.Invoked command fields) = payload INVOKE_RESPONSE (invoke_response_tree 0 (command_tree command fields)) ∷ []
 chunks_of (replies.InvokeStatus command code) = payload INVOKE_RESPONSE (invoke_response_tree 1 (command_status_tree command code)) ∷ []
+chunks_of (replies.InvokeClusterStatus command code reason) = payload INVOKE_RESPONSE (invoke_response_tree 1 (command_failure_tree command code reason)) ∷ []
 chunks_of replies.Nothing = []

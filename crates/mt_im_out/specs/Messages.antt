@@ -31,6 +31,14 @@ write_response_tree items = structure (more (Context 0) (array (status_elements 
 abbrev pub command_status_tree : Place → ℕ → Tree
 command_status_tree command code = refused_tree (command_path_tree command) code
 
+-- Status with a code of the cluster's own: 0 code, 1 cluster code
+abbrev pub cluster_status_tree : ℕ → ℕ → Tree
+cluster_status_tree code reason = structure (more (Context 0) (uint code) (more (Context 1) (uint reason) none))
+
+-- CommandStatus with such a Status
+abbrev pub command_failure_tree : Place → ℕ → ℕ → Tree
+command_failure_tree command code reason = structure (more (Context 0) (command_path_tree command) (more (Context 1) (cluster_status_tree code reason) none))
+
 -- InvokeResponse of one block: 0 whether no answer is wanted, which is false, 1 responses, of which each is
 -- a structure with 0 CommandData or 1 CommandStatus
 abbrev pub invoke_response_tree : ℕ → Tree → Tree

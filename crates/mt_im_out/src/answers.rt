@@ -5,10 +5,13 @@ ghost use Rattle.mt_tlv.specs.Narrow.{narrow, narrow_elements, length_and_value,
 ghost use Rattle.mt_tlv.specs.Tree.{bool};
 ghost use Rattle.mt_tlv.specs.declared.value.Tag.TheVariants.{Anonymous, Context};
 ghost use Rattle.mt_im_out.specs.Chunks.{payload};
-ghost use Rattle.mt_im_out.specs.Messages.{status_response_tree, subscribe_response_tree, status_elements, write_response_tree, command_status_tree, invoke_response_tree};
+ghost use Rattle.mt_im_out.specs.Messages.{status_response_tree, subscribe_response_tree, status_elements, write_response_tree, command_failure_tree, command_status_tree, invoke_response_tree};
 ghost use Rattle.mt_im.specs.Requests.{revision, command_path_tree, command_tree};
 
-use crate::blocks::{write_attribute_status, write_command_data, write_command_path, write_status};
+use crate::blocks::{
+    write_attribute_status, write_cluster_status, write_command_data, write_command_path,
+    write_status,
+};
 use crate::fields::{
     ARRAY, LIST, STRUCTURE, close, end_message, open, open_field, write_bool, write_number,
 };
@@ -97,6 +100,22 @@ pub fn invoke_status(alloc: Global, command: &Place, code: u8) -> Result<Payload
     one(alloc, INVOKE_RESPONSE, out)
 }
 
+/// An InvokeResponse with the status of a command that failed for a reason of its cluster's.
+pub fn invoke_cluster_status(
+    alloc: Global,
+    command: &Place,
+    code: u8,
+    reason: u8,
+) -> Result<Payloads, AllocError>
+    ensures { IfOk result (λ payloads. payloads ≡ payload INVOKE_RESPONSE (invoke_response_tree 1 (command_failure_tree command.now code reason)) ∷ []) }
+{
+    let mut out = Vec::new(alloc);
+    begin_invoke_response(1, &mut out)?;
+    write_command_failure(command, code, reason, &mut out)?;
+    end_invoke_response(&mut out)?;
+    one(alloc, INVOKE_RESPONSE, out)
+}
+
 // What stands before the body of the answer to a command, which has this tag in its block.
 fn begin_invoke_response(tag: u8, out: &mut Vec<u8>) -> Result<(), AllocError>
     ensures { OnOk result (out.new.items ≡ out.old.items ++ (opening Anonymous STRUCTURE ++ (narrow (Context 0) (bool false) ++ (opening (Context 1) ARRAY ++ (opening Anonymous STRUCTURE ++ opening (Context tag) STRUCTURE))))) }
@@ -124,6 +143,21 @@ fn write_command_status(command: &Place, code: u8, out: &mut Vec<u8>) -> Result<
     open_field(0, LIST, out)?;
     write_command_path(command, out)?;
     write_status(1, code, out)?;
+    close(out)
+}
+
+// The body of a CommandStatus with a code of the cluster's own.
+fn write_command_failure(
+    command: &Place,
+    code: u8,
+    reason: u8,
+    out: &mut Vec<u8>,
+) -> Result<(), AllocError>
+    ensures { OnOk result (out.new.items ≡ out.old.items ++ length_and_value (command_failure_tree command.now code reason)) }
+{
+    open_field(0, LIST, out)?;
+    write_command_path(command, out)?;
+    write_cluster_status(1, code, reason, out)?;
     close(out)
 }
 

@@ -4,6 +4,7 @@ ghost use Rattle.std.specs.Prelude.{◌≡◌, ◌++◌, OnOk};
 ghost use Rattle.mt_tlv.specs.declared.value.Tag.TheVariants.{Context};
 ghost use Rattle.mt_tlv.specs.Narrow.{narrow, narrow_elements, length_and_value};
 ghost use Rattle.mt_model.specs.declared.messages.message.Item.TheVariants as items;
+ghost use Rattle.mt_im_out.specs.Messages.{cluster_status_tree};
 ghost use Rattle.mt_model.specs.messages.Blocks.{path_tree, event_path_tree, path_of, index_field, status_tree, refused_tree, event_tree, item_block};
 ghost use Rattle.mt_im.specs.Requests.{command_path_tree, command_tree};
 
@@ -54,6 +55,21 @@ pub fn write_status(tag: u8, code: u8, out: &mut Vec<u8>) -> Result<(), AllocErr
 {
     open_field(tag, STRUCTURE, out)?;
     write_number(0, code as u64, out)?;
+    close(out)
+}
+
+/// A Status with a code of the cluster's own, under a context tag.
+pub fn write_cluster_status(
+    tag: u8,
+    code: u8,
+    reason: u8,
+    out: &mut Vec<u8>,
+) -> Result<(), AllocError>
+    ensures { OnOk result (out.new.items ≡ out.old.items ++ narrow (Context tag) (cluster_status_tree code reason)) }
+{
+    open_field(tag, STRUCTURE, out)?;
+    write_number(0, code as u64, out)?;
+    write_number(1, reason as u64, out)?;
     close(out)
 }
 

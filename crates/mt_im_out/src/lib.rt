@@ -47,6 +47,11 @@ pub fn chunks(alloc: Global, reply: &Reply) -> Result<Payloads, AllocError>
         Reply::Written { items } => answers::written(alloc, items.as_slice()),
         Reply::Invoked { command, fields } => answers::invoked(alloc, command, fields),
         Reply::InvokeStatus { command, code } => answers::invoke_status(alloc, command, *code),
+        Reply::InvokeClusterStatus {
+            command,
+            code,
+            cluster,
+        } => answers::invoke_cluster_status(alloc, command, *code, *cluster),
         Reply::Nothing => Ok(Payloads::new(alloc)),
     }
 }
