@@ -1,10 +1,11 @@
 //! Answers in words.
 
-use crate::fronts::{Fronts, STRUCTURE, Unread};
+use crate::fronts::{Fronts, Refusal, STRUCTURE, Unread};
 use crate::hearing::{
     Happening, Hears, Report, expected_report, hear_invoked, hear_report, hear_written,
 };
 use crate::page::{Colour, Page};
+use crate::shapes::reason;
 use crate::words::{ITEM, Leaf, show_message_name, show_path, whole_of};
 use mt_model::Path;
 use mt_model::opcode::{
@@ -26,6 +27,19 @@ pub(crate) fn show_status(page: &mut Page, code: u8) {
     page.text(")");
     if code != 0 {
         page.end()
+    }
+}
+
+// The reason that a cluster gives by a code of its own, behind the status.
+fn show_reason(page: &mut Page, cluster: Option<u32>, code: u8) {
+    page.text(", ");
+    match reason(cluster, code) {
+        Some(words) => page.text(words),
+        None => {
+            page.text("code ");
+            page.number(code as u64);
+            page.text(" of the cluster")
+        }
     }
 }
 
@@ -168,14 +182,17 @@ impl Hears for Page {
     }
 
     // Which items of lists were meant is said where they were asked.
-    fn refused(&mut self, path: &Path, leaf: Leaf, code: u8) {
+    fn refused(&mut self, path: &Path, leaf: Leaf, refusal: Refusal) {
         self.blanks(ITEM);
         if let Leaf::Event = leaf {
             self.text("events ");
         }
         show_path(self, &whole_of(path), leaf);
         self.text("  ");
-        show_status(self, code);
+        show_status(self, refusal.code);
+        if let Some(code) = refusal.reason {
+            show_reason(self, path.cluster, code);
+        }
         self.end_line()
     }
 }

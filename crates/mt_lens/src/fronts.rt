@@ -33,6 +33,15 @@ pub(crate) const REVISION: u8 = 255;
 #[derive(Clone, Copy)]
 pub(crate) struct Unread;
 
+/// With what something is answered that has no data.
+#[derive(Clone, Copy)]
+pub(crate) struct Refusal {
+    /// The status.
+    pub code: u8,
+    /// The reason for it, where the cluster gives one, as a code of its own.
+    pub reason: Option<u8>,
+}
+
 /// A place in a payload.
 #[derive(Clone, Copy)]
 pub(crate) struct Fronts<'a> {
@@ -131,12 +140,15 @@ impl<'a> Fronts<'a> {
         Ok(number)
     }
 
-    /// A status under the context tag 1.
-    pub(crate) fn status(&mut self) -> Result<u8, Unread> {
+    /// A status under the context tag 1: its code (0), and the code of the cluster, where there is one (1).
+    pub(crate) fn refusal(&mut self) -> Result<Refusal, Unread> {
         self.pass(&[FIELD + STRUCTURE, 1])?;
-        let code = self.octet(0)?;
+        let refusal = Refusal {
+            code: self.octet(0)?,
+            reason: self.octet(1).ok(),
+        };
         self.pass(&[END])?;
-        Ok(code)
+        Ok(refusal)
     }
 
     /// A path under a context tag, whose fields are numbered from `first` on: endpoint, cluster, what of it, item of a list.

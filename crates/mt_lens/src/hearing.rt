@@ -2,7 +2,7 @@
 //! read is told at once to whoever shows it, so no answer is kept.
 
 use crate::fronts::{
-    ARRAY, END, FALSE, FIELD, Fronts, REVISION, STRUCTURE, TRUE, Unread, has_members,
+    ARRAY, END, FALSE, FIELD, Fronts, REVISION, Refusal, STRUCTURE, TRUE, Unread, has_members,
 };
 use crate::shapes::{Shape, shape_of_attribute, shape_of_event, shape_of_response, unknown};
 use crate::values::{Shows, Where, show_number, show_value};
@@ -46,7 +46,7 @@ pub(crate) trait Hears: Shows {
     fn end_response(&mut self);
 
     /// What was asked of a path is answered with a status.
-    fn refused(&mut self, path: &Path, leaf: Leaf, code: u8);
+    fn refused(&mut self, path: &Path, leaf: Leaf, refusal: Refusal);
 }
 
 /// What a ReportData seems to say beside its items, by its front and its end. Only whoever has heard it knows: a
@@ -134,8 +134,8 @@ fn hear_refused<H: Hears>(
     leaf: Leaf,
 ) -> Result<(), Unread> {
     let path = fronts.path(0, first)?;
-    let code = fronts.status()?;
-    out.refused(&path, leaf, code);
+    let refusal = fronts.refusal()?;
+    out.refused(&path, leaf, refusal);
     fronts.pass(&[END])
 }
 

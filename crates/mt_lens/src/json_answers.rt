@@ -1,6 +1,6 @@
 //! Answers as objects of JSON.
 
-use crate::fronts::{Fronts, STRUCTURE, Unread};
+use crate::fronts::{Fronts, Refusal, STRUCTURE, Unread};
 use crate::hearing::{
     Happening, Hears, Report, expected_report, hear_invoked, hear_report, hear_written,
 };
@@ -132,13 +132,13 @@ impl Hears for Object {
     fn end_response(&mut self) {}
 
     // What is refused of a command is told beside its message, any other as an item.
-    fn refused(&mut self, path: &Path, leaf: Leaf, code: u8) {
+    fn refused(&mut self, path: &Path, leaf: Leaf, refusal: Refusal) {
         if let Leaf::Command = leaf {
-            return put_refused(self, path, leaf, code);
+            return put_refused(self, path, leaf, refusal);
         }
         self.next_item();
         self.open();
-        put_refused(self, path, leaf, code);
+        put_refused(self, path, leaf, refusal);
         self.close()
     }
 }

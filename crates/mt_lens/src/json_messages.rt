@@ -1,8 +1,9 @@
 //! Requests as objects of JSON.
 
+use crate::fronts::Refusal;
 use crate::json_objects::Object;
 use crate::json_values::put_text;
-use crate::shapes::{shape_of_attribute, shape_of_command};
+use crate::shapes::{reason, shape_of_attribute, shape_of_command};
 use crate::values::{Where, show_tree};
 use crate::words::{Leaf, query_of, show_cluster, show_fault, show_path, whole_of};
 use mt_im::ImFault;
@@ -117,11 +118,25 @@ pub(crate) fn put_path(out: &mut Object, path: &Path, leaf: Leaf) {
 }
 
 /// What is refused, and why.
-pub(crate) fn put_refused(out: &mut Object, path: &Path, leaf: Leaf, code: u8) {
+pub(crate) fn put_refused(out: &mut Object, path: &Path, leaf: Leaf, refusal: Refusal) {
     put_cluster(out, path);
-    out.number("code", code as u64);
+    if let Some(code) = refusal.reason {
+        out.number("clusterCode", code as u64);
+    }
+    out.number("code", refusal.code as u64);
     put_leaf(out, path, leaf);
-    put_status_name(out, code)
+    put_reason(out, path.cluster, refusal.reason);
+    put_status_name(out, refusal.code)
+}
+
+// The reason that a cluster gives by a code of its own, in words where they are known.
+fn put_reason(out: &mut Object, cluster: Option<u32>, code: Option<u8>) {
+    let Some(code) = code else {
+        return;
+    };
+    if let Some(words) = reason(cluster, code) {
+        out.text("reason", words);
+    }
 }
 
 fn put_cluster(out: &mut Object, path: &Path) {

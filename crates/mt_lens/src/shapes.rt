@@ -1,6 +1,9 @@
 //! What the fields of a value are called, and what their numbers stand for.
 
-use mt_meta::clusters::{ACCESS_CONTROL, access_control};
+use mt_meta::clusters::{
+    ACCESS_CONTROL, ADMINISTRATOR_COMMISSIONING, GROUP_KEY_MANAGEMENT, access_control,
+    group_key_management,
+};
 use mt_meta::{Kind, find};
 use mt_model::{Auth, Path, Place, Privilege};
 use mt_names::{
@@ -17,6 +20,8 @@ pub(crate) enum Shape {
     Entry,
     /// The event that tells of one of these.
     Changed,
+    /// Their fields have these names, and field 0 is a group key set.
+    KeySet(&'static [Named]),
 }
 
 /// No names are known.
@@ -51,15 +56,38 @@ fn shape_at(place: Place) -> Shape {
 
 /// What the fields of a command are.
 pub(crate) fn shape_of_command(command: &Place) -> Shape {
-    Shape::Fields(command_field_names(command.cluster, command.leaf))
+    let names = command_field_names(command.cluster, command.leaf);
+    if is_key_set_write(command) {
+        Shape::KeySet(names)
+    } else {
+        Shape::Fields(names)
+    }
+}
+
+fn is_key_set_write(command: &Place) -> bool {
+    command.cluster == GROUP_KEY_MANAGEMENT && command.leaf == group_key_management::KEY_SET_WRITE
 }
 
 /// What the fields of a response are.
 pub(crate) fn shape_of_response(path: &Path) -> Shape {
     match path.place() {
-        Some(response) => Shape::Fields(response_field_names(response.cluster, response.leaf)),
+        Some(response) => shape_from(&response),
         None => unknown(),
     }
+}
+
+fn shape_from(response: &Place) -> Shape {
+    let names = response_field_names(response.cluster, response.leaf);
+    if is_key_set_read(response) {
+        Shape::KeySet(names)
+    } else {
+        Shape::Fields(names)
+    }
+}
+
+fn is_key_set_read(response: &Place) -> bool {
+    response.cluster == GROUP_KEY_MANAGEMENT
+        && response.leaf == group_key_management::KEY_SET_READ_RESPONSE
 }
 
 /// What the value of an event is.
@@ -79,7 +107,7 @@ impl Shape {
     /// The name of a field; None where none is known.
     pub(crate) fn name(self, field: u8) -> Option<&'static str> {
         let names = match self {
-            Shape::Fields(names) => names,
+            Shape::Fields(names) | Shape::KeySet(names) => names,
             Shape::Entry => item_field_names(Kind::Acl),
             Shape::Changed => {
                 event_field_names(ACCESS_CONTROL, access_control::ACCESS_CONTROL_ENTRY_CHANGED)
@@ -93,6 +121,7 @@ impl Shape {
         match (self, field) {
             (Shape::Entry, access_control::TARGETS) => Shape::Fields(target_field_names()),
             (Shape::Changed, 4) => Shape::Entry,
+            (Shape::KeySet(_), 0) => Shape::Fields(item_field_names(Kind::KeySets)),
             _ => unknown(),
         }
     }
@@ -156,6 +185,19 @@ fn change(number: u64) -> Option<&'static str> {
         0 => Some("changed"),
         1 => Some("added"),
         2 => Some("removed"),
+        _ => None,
+    }
+}
+
+/// What a code of a cluster's own means; None where it is a number alone.
+pub(crate) fn reason(cluster: Option<u32>, code: u8) -> Option<&'static str> {
+    if cluster != Some(ADMINISTRATOR_COMMISSIONING) {
+        return None;
+    }
+    match code {
+        2 => Some("busy"),
+        3 => Some("PAKE parameter error"),
+        4 => Some("window not open"),
         _ => None,
     }
 }

@@ -5,13 +5,13 @@ use Rattle.std.proofs.lemmas.Bool.{and_parts, cases_Bool, eqb-true}
 use Rattle.mt_model.specs.rows.Sight.{same_place}
 use Rattle.mt_model.specs.rows.Stored.{is_stored_place, stored_places}
 use Rattle.mt_model.specs.declared.rows.place.Place.{Place}
-use Rattle.mt_meta.specs.Finding.{find_of}
-use Rattle.mt_meta.specs.Places.{all_places, is_at}
+use Rattle.mt_meta.specs.Finding.{find_data_of}
+use Rattle.mt_meta.specs.Places.{data_places, is_at}
 use Rattle.mt_meta.specs.Stored.{is_stored}
 use Rattle.mt_meta.specs.Table.{attributes_of, clusters_of, endpoints, extensions_of, globals}
-use Rattle.mt_meta.proofs.TableFacts.{any-ext, eqb-sym, found-listed}
+use Rattle.mt_meta.proofs.TableFacts.{any-ext, data-listed, eqb-sym}
 
-stored-listed : filter is_stored all_places ≡ stored_places
+stored-listed : filter is_stored data_places ≡ stored_places
 unfolding endpoints clusters_of attributes_of globals extensions_of is_stored
 stored-listed = refl
 
@@ -46,8 +46,8 @@ among-filter p place (q ∷ places) = elim (cases_Bool (same_place place q)) [
   ]
 ]
 
-pub stored-kept : (place : Place) → is_stored_place place ≡ (is_stored place && is_ok (find_of place))
+pub stored-kept : (place : Place) → is_stored_place place ≡ (is_stored place && is_ok (find_data_of place))
 stored-kept place =
     ap (list_any (same_place place)) (sym stored-listed)
-    ∙ among-filter is_stored place all_places
-    ∙ ap (λ (b : Bool). is_stored place && b) (any-ext (same_place place) (is_at place) (same-sym place) all_places ∙ sym (found-listed place))
+    ∙ among-filter is_stored place data_places
+    ∙ ap (λ (b : Bool). is_stored place && b) (any-ext (same_place place) (is_at place) (same-sym place) data_places ∙ sym (data-listed place))

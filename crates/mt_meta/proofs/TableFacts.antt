@@ -1,9 +1,9 @@
 -- What holds of the table as a whole.
-use Rattle.std.proofs.Common.{ℕ, ◌≡◌, ◌==◌, ◌&&◌, ◌||◌, Bool, true, false, List, [], ◌∷◌, Option, Some, None, not, inl, inr, if◌then◌else◌, is_some, is_ok, map, refl, sym, ◌∙◌, ap}
+use Rattle.std.proofs.Common.{ℕ, ◌≡◌, ◌==◌, ◌&&◌, ◌||◌, ◌++◌, Bool, true, false, List, [], ◌∷◌, Option, Some, None, Ok, not, inl, inr, if◌then◌else◌, is_some, is_ok, map, refl, sym, ◌∙◌, ap}
 use Rattle.std.specs.Prelude.{All, IsTrue, ok_or}
 use Rattle.std.specs.List.{find, list_any, flat_map}
 use Rattle.std.specs.Option.{option_map}
-use Rattle.std.proofs.lemmas.Bool.{eqb-true, eq-eqb}
+use Rattle.std.proofs.lemmas.Bool.{cases_Bool, eqb-true, eq-eqb}
 use Rattle.std.proofs.lemmas.Bool.Decides.{eqb_tells}
 use Rattle.std.proofs.lemmas.List.Folds.{list_any-append, list_any_at}
 use Rattle.std.proofs.lemmas.List.Elements.{All-filter}
@@ -14,9 +14,10 @@ use Rattle.mt_model.specs.declared.rows.place.Place.{Place}
 use Rattle.mt_model.specs.declared.messages.status.Status.{Status}
 use Rattle.mt_model.specs.declared.messages.status.Status.TheVariants.{UnsupportedEndpoint, UnsupportedCluster, UnsupportedAttribute}
 use Rattle.mt_meta.specs.declared.rows.AttributeRow.{AttributeRow}
-use Rattle.mt_meta.specs.Table.{all_attributes_of, attributes_of, clusters_of, endpoints, extensions_of, globals}
-use Rattle.mt_meta.specs.Places.{all_places, ascend, is_named, place_of, places, places_of_cluster, places_of_endpoint, is_at}
-use Rattle.mt_meta.specs.Finding.{attribute_of, find_of, found, is_endpoint, has_cluster}
+use Rattle.mt_meta.specs.declared.meta.Meta.{Meta}
+use Rattle.mt_meta.specs.Table.{all_attributes_of, all_data_of, attributes_of, clusters_of, endpoints, extensions_of, globals, hidden_of}
+use Rattle.mt_meta.specs.Places.{all_places, ascend, data_places, is_named, place_of, places, is_at}
+use Rattle.mt_meta.specs.Finding.{find_data_of, find_of, found, is_endpoint, has_cluster, missing_of}
 
 pub all-ascend : IsTrue (ascend all_places)
 unfolding endpoints clusters_of attributes_of globals extensions_of
@@ -68,31 +69,38 @@ any-at : (a : ℕ) (p : ℕ → Bool) (xs : List ℕ) → list_any (λ x. (x == 
 any-at a p [] = refl
 any-at a p (x ∷ xs) = ap (λ rest. ((x == a) && p x) || rest) (any-at a p xs) ∙ at-step (x == a) (p x) (p a) (list_any (λ x. x == a) xs) (λ same. ap p (eqb-true x a same))
 
--- Places.
+-- Places, of the rows that each cluster has.
 
--- whether the cluster has the place's attribute
-has_attribute : Place → ℕ → Bool
-has_attribute place cluster = list_any (λ (row : AttributeRow). row.number == place.leaf) (all_attributes_of cluster)
+module _ (rows_of : ℕ → List AttributeRow) where
+  abbrev of_cluster : ℕ → ℕ → List Place
+  of_cluster endpoint cluster = map (place_of endpoint cluster) (rows_of cluster)
 
-in-cluster : (place : Place) (endpoint cluster : ℕ) → list_any (is_at place) (places_of_cluster endpoint cluster) ≡ (endpoint == place.endpoint && (cluster == place.cluster && has_attribute place cluster))
-unfolding has_attribute
-in-cluster place endpoint cluster =
-    any-map (is_at place) (place_of endpoint cluster) (all_attributes_of cluster)
-    ∙ any-and (endpoint == place.endpoint) (λ (row : AttributeRow). cluster == place.cluster && row.number == place.leaf) (all_attributes_of cluster)
-    ∙ ap (λ rest. endpoint == place.endpoint && rest) (any-and (cluster == place.cluster) (λ (row : AttributeRow). row.number == place.leaf) (all_attributes_of cluster))
+  abbrev of_endpoint : ℕ → List Place
+  of_endpoint endpoint = flat_map (of_cluster endpoint) (clusters_of endpoint)
 
-in-endpoint : (place : Place) (endpoint : ℕ) → list_any (is_at place) (places_of_endpoint endpoint) ≡ (endpoint == place.endpoint && (has_cluster endpoint place.cluster && has_attribute place place.cluster))
-in-endpoint place endpoint =
-    any-flat_map (is_at place) (places_of_cluster endpoint) (clusters_of endpoint)
-    ∙ any-ext (λ cluster. list_any (is_at place) (places_of_cluster endpoint cluster)) (λ cluster. endpoint == place.endpoint && (cluster == place.cluster && has_attribute place cluster)) (in-cluster place endpoint) (clusters_of endpoint)
-    ∙ any-and (endpoint == place.endpoint) (λ cluster. cluster == place.cluster && has_attribute place cluster) (clusters_of endpoint)
-    ∙ ap (λ rest. endpoint == place.endpoint && rest) (any-at place.cluster (has_attribute place) (clusters_of endpoint))
+  -- whether the cluster has the place's row
+  has_row : Place → ℕ → Bool
+  has_row place cluster = list_any (λ (row : AttributeRow). row.number == place.leaf) (rows_of cluster)
 
-in-all : (place : Place) → list_any (is_at place) all_places ≡ (is_endpoint place.endpoint && (has_cluster place.endpoint place.cluster && has_attribute place place.cluster))
-in-all place =
-    any-flat_map (is_at place) places_of_endpoint endpoints
-    ∙ any-ext (λ endpoint. list_any (is_at place) (places_of_endpoint endpoint)) (λ endpoint. endpoint == place.endpoint && (has_cluster endpoint place.cluster && has_attribute place place.cluster)) (in-endpoint place) endpoints
-    ∙ any-at place.endpoint (λ endpoint. has_cluster endpoint place.cluster && has_attribute place place.cluster) endpoints
+  in-cluster : (place : Place) (endpoint cluster : ℕ) → list_any (is_at place) (of_cluster endpoint cluster) ≡ (endpoint == place.endpoint && (cluster == place.cluster && has_row place cluster))
+  unfolding has_row
+  in-cluster place endpoint cluster =
+      any-map (is_at place) (place_of endpoint cluster) (rows_of cluster)
+      ∙ any-and (endpoint == place.endpoint) (λ (row : AttributeRow). cluster == place.cluster && row.number == place.leaf) (rows_of cluster)
+      ∙ ap (λ rest. endpoint == place.endpoint && rest) (any-and (cluster == place.cluster) (λ (row : AttributeRow). row.number == place.leaf) (rows_of cluster))
+
+  in-endpoint : (place : Place) (endpoint : ℕ) → list_any (is_at place) (of_endpoint endpoint) ≡ (endpoint == place.endpoint && (has_cluster endpoint place.cluster && has_row place place.cluster))
+  in-endpoint place endpoint =
+      any-flat_map (is_at place) (of_cluster endpoint) (clusters_of endpoint)
+      ∙ any-ext (λ cluster. list_any (is_at place) (of_cluster endpoint cluster)) (λ cluster. endpoint == place.endpoint && (cluster == place.cluster && has_row place cluster)) (in-cluster place endpoint) (clusters_of endpoint)
+      ∙ any-and (endpoint == place.endpoint) (λ cluster. cluster == place.cluster && has_row place cluster) (clusters_of endpoint)
+      ∙ ap (λ rest. endpoint == place.endpoint && rest) (any-at place.cluster (has_row place) (clusters_of endpoint))
+
+  in-all : (place : Place) → list_any (is_at place) (flat_map of_endpoint endpoints) ≡ (is_endpoint place.endpoint && (has_cluster place.endpoint place.cluster && has_row place place.cluster))
+  in-all place =
+      any-flat_map (is_at place) of_endpoint endpoints
+      ∙ any-ext (λ endpoint. list_any (is_at place) (of_endpoint endpoint)) (λ endpoint. endpoint == place.endpoint && (has_cluster endpoint place.cluster && has_row place place.cluster)) (in-endpoint place) endpoints
+      ∙ any-at place.endpoint (λ endpoint. has_cluster endpoint place.cluster && has_row place place.cluster) endpoints
 
 is_some-find : {X : Type 0} (p : X → Bool) (xs : List X) → is_some (find p xs) ≡ list_any p xs
 is_some-find p [] = refl
@@ -111,15 +119,40 @@ found-step false b row no_endpoint no_cluster no_row = refl
 found-step true false row no_endpoint no_cluster no_row = refl
 found-step true true row no_endpoint no_cluster no_row = is_ok-ok_or row no_row
 
-has_attribute-row : (place : Place) → is_some (attribute_of place) ≡ has_attribute place place.cluster
-unfolding has_attribute
-has_attribute-row place = let rows = all_attributes_of place.cluster in is_some-map (λ (row : AttributeRow). row.meta) (find (λ row. row.number == place.leaf) rows) ∙ is_some-find (λ (row : AttributeRow). row.number == place.leaf) rows
+module _ (rows_of : ℕ → List AttributeRow) (place : Place) where
+  abbrev meta_there : Option Meta
+  meta_there = option_map (λ (row : AttributeRow). row.meta) (find (λ row. row.number == place.leaf) (rows_of place.cluster))
+
+  has_row-meta : is_some meta_there ≡ has_row rows_of place place.cluster
+  unfolding has_row
+  has_row-meta = let rows = rows_of place.cluster in is_some-map (λ (row : AttributeRow). row.meta) (find (λ row. row.number == place.leaf) rows) ∙ is_some-find (λ (row : AttributeRow). row.number == place.leaf) rows
+
+  listed : is_ok (found (missing_of place) meta_there UnsupportedAttribute) ≡ list_any (is_at place) (flat_map (of_endpoint rows_of) endpoints)
+  listed =
+      found-step (is_endpoint place.endpoint) (has_cluster place.endpoint place.cluster) meta_there UnsupportedEndpoint UnsupportedCluster UnsupportedAttribute
+      ∙ ap (λ there. is_endpoint place.endpoint && (has_cluster place.endpoint place.cluster && there)) has_row-meta
+      ∙ sym (in-all rows_of place)
 
 pub found-listed : (place : Place) → is_ok (find_of place) ≡ list_any (is_at place) all_places
-found-listed place =
-    found-step (is_endpoint place.endpoint) (has_cluster place.endpoint place.cluster) (attribute_of place) UnsupportedEndpoint UnsupportedCluster UnsupportedAttribute
-    ∙ ap (λ there. is_endpoint place.endpoint && (has_cluster place.endpoint place.cluster && there)) (has_attribute-row place)
-    ∙ sym (in-all place)
+found-listed place = listed all_attributes_of place
+
+pub data-listed : (place : Place) → is_ok (find_data_of place) ≡ list_any (is_at place) data_places
+data-listed place = listed all_data_of place
+
+-- what is known of an attribute is known of the data of its place
+
+known-on : (missing : Option Status) (rows others : List AttributeRow) (leaf : ℕ) (meta : Meta)
+    → found missing (option_map (λ (row : AttributeRow). row.meta) (find (λ (row : AttributeRow). row.number == leaf) rows)) UnsupportedAttribute ≡ Ok meta
+    → found missing (option_map (λ (row : AttributeRow). row.meta) (find (λ (row : AttributeRow). row.number == leaf) (rows ++ others))) UnsupportedAttribute ≡ Ok meta
+known-on (Some status) rows others leaf meta is = is
+known-on None [] others leaf meta is = absurd (cc)
+known-on None (row ∷ rows) others leaf meta is = elim (cases_Bool (row.number == leaf)) [
+  | inl this ↦ rw this (sym (rw this refl) ∙ is)
+  | inr other ↦ rw other (known-on None rows others leaf meta (sym (rw other refl) ∙ is))
+]
+
+pub data-known : (place : Place) (meta : Meta) → find_of place ≡ Ok meta → find_data_of place ≡ Ok meta
+data-known place meta is = known-on (missing_of place) (all_attributes_of place.cluster) (hidden_of place.cluster) place.leaf meta is
 
 -- each place is found
 

@@ -41,6 +41,14 @@ is_null_or_array test null = true
 is_null_or_array test (array es) = all_elements test es
 is_null_or_array test tree = false
 
+abbrev pub is_null_or : (Tree → Bool) → Tree → Bool
+is_null_or test null = true
+is_null_or test tree = test tree
+
+abbrev pub is_structure : Tree → Bool
+is_structure (structure es) = true
+is_structure tree = false
+
 abbrev pub has_type : Form → Tree → Bool
 has_type forms.Bool tree = is_bool tree
 has_type (forms.Uint greatest) tree = is_number greatest tree
@@ -49,6 +57,9 @@ has_type (forms.Octets least most) tree = are_octets tree
 has_type forms.Subjects tree = is_null_or_array is_unsigned tree
 has_type forms.Targets tree = is_null_or_array is_target tree
 has_type forms.FabricIndex tree = is_unsigned tree
+has_type (forms.NullableUint greatest) tree = is_null_or (is_number greatest) tree
+has_type (forms.NullableOctets least most) tree = is_null_or are_octets tree
+has_type forms.Structure tree = is_structure tree
 
 -- Limits, asked of what has the type.
 
@@ -63,6 +74,7 @@ octets_fit least most tree = true
 abbrev pub is_within : Form → Tree → Bool
 is_within (forms.Text least most) tree = text_fits least most tree
 is_within (forms.Octets least most) tree = octets_fit least most tree
+is_within (forms.NullableOctets least most) tree = octets_fit least most tree
 is_within form tree = true
 
 -- Fields of a structure. Those that are not named are passed over.

@@ -17,7 +17,7 @@ use Rattle.mt_meta.specs.declared.meta.Meta.{Meta}
 use Rattle.mt_meta.specs.declared.rows.AttributeRow.{AttributeRow}
 use Rattle.mt_meta.specs.declared.rows.CommandRow.{CommandRow}
 use Rattle.mt_meta.specs.declared.rows.EventRow.{EventRow}
-use Rattle.mt_meta.specs.Table.{all_attributes_of, clusters_of, commands_of, endpoints, events_of}
+use Rattle.mt_meta.specs.Table.{all_attributes_of, all_data_of, clusters_of, commands_of, endpoints, events_of}
 
 abbrev pub is_endpoint : ℕ → Bool
 is_endpoint endpoint = list_any (λ e. e == endpoint) endpoints
@@ -49,6 +49,13 @@ found None row status = ok_or row status
 
 abbrev pub find_of : Place → Result Meta Status
 find_of place = found (missing_of place) (attribute_of place) UnsupportedAttribute
+
+-- the data of the place, which is an attribute's or is hidden
+abbrev pub data_of : Place → Option Meta
+data_of place = option_map (λ (row : AttributeRow). row.meta) (find (λ row. row.number == place.leaf) (all_data_of place.cluster))
+
+abbrev pub find_data_of : Place → Result Meta Status
+find_data_of place = found (missing_of place) (data_of place) UnsupportedAttribute
 
 abbrev pub find_command_of : Place → Result CommandMeta Status
 find_command_of place = found (missing_of place) (command_of place) UnsupportedCommand

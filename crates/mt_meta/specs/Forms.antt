@@ -8,6 +8,7 @@ use Rattle.mt_tlv.specs.declared.value.Value.{Value}
 use Rattle.mt_tlv.specs.declared.value.Value.TheVariants as values
 use Rattle.mt_model.specs.texts.Config.{has_up_to, is_entry}
 use Rattle.mt_model.specs.tables.Entries.{entry_in}
+use Rattle.mt_model.specs.tables.KeySets.{is_key_set}
 use Rattle.mt_model.specs.declared.limits.TheConstants.{NETWORK_ID_BYTES}
 use Rattle.mt_model.specs.declared.tables.access.AclEntry.{AclEntry}
 use Rattle.mt_meta.specs.Fields.{is_kept_item}
@@ -49,6 +50,8 @@ is_of_kind kinds.Labels least limit fabric (values.Array es) = nat_le (count_in 
 is_of_kind kinds.Binding least limit fabric (values.Struct es) = is_kept_item (fields_of kinds.Binding) fabric (structure es)
 is_of_kind kinds.Bench least limit fabric (values.Struct es) = is_kept_item (fields_of kinds.Bench) fabric (structure es)
 is_of_kind kinds.Acl least limit fabric value = is_entry_item (entry_in value)
+is_of_kind kinds.GroupKeyMap least limit fabric (values.Struct es) = is_kept_item (fields_of kinds.GroupKeyMap) fabric (structure es)
+is_of_kind kinds.KeySets least limit fabric (values.Struct es) = is_key_set es && is_kept_item (fields_of kinds.KeySets) fabric (structure es)
 is_of_kind kind least limit fabric value = false
 
 -- the same of an attribute

@@ -7,7 +7,7 @@ use Rattle.mt_model.specs.rows.Sight.{same_place}
 use Rattle.mt_model.specs.declared.messages.message.Path.{Path}
 use Rattle.mt_model.specs.declared.rows.place.Place.{Place}
 use Rattle.mt_meta.specs.declared.rows.AttributeRow.{AttributeRow}
-use Rattle.mt_meta.specs.Table.{all_attributes_of, clusters_of, endpoints, globals}
+use Rattle.mt_meta.specs.Table.{all_attributes_of, all_data_of, clusters_of, endpoints, globals}
 
 abbrev pub place_of : ℕ → ℕ → AttributeRow → Place
 place_of endpoint cluster row = record { endpoint = endpoint; cluster = cluster; leaf = row.number }
@@ -22,6 +22,17 @@ places_of_endpoint endpoint = flat_map (places_of_cluster endpoint) (clusters_of
 -- all places, ascending by endpoint, cluster and attribute
 abbrev pub all_places : List Place
 all_places = flat_map places_of_endpoint endpoints
+
+-- The places of all data, which are those at which rows may stand.
+
+abbrev pub data_of_cluster : ℕ → ℕ → List Place
+data_of_cluster endpoint cluster = map (place_of endpoint cluster) (all_data_of cluster)
+
+abbrev pub data_of_endpoint : ℕ → List Place
+data_of_endpoint endpoint = flat_map (data_of_cluster endpoint) (clusters_of endpoint)
+
+abbrev pub data_places : List Place
+data_places = flat_map data_of_endpoint endpoints
 
 -- the place has each field that the path has
 abbrev pub is_named : Path → Place → Bool

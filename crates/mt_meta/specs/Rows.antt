@@ -38,6 +38,10 @@ written_by privilege limit row = record row { meta = record row.meta { write = S
 abbrev pub at_least : ℕ → AttributeRow → AttributeRow
 at_least least row = record row { meta = record row.meta { least = least } }
 
+-- with the most items of one fabric, where nobody may write it
+abbrev pub limited : ℕ → AttributeRow → AttributeRow
+limited limit row = record row { meta = record row.meta { limit = limit } }
+
 -- a value of this form
 abbrev pub taking : Form → AttributeRow → AttributeRow
 taking form row = record row { takes = takes.Value form }

@@ -1,4 +1,4 @@
--- Which attributes are stored, the rows of a new node, and the sensitive fields of items, as the table says.
+-- Which data is stored, the rows of a new node, and the sensitive fields of items, as the table says.
 use Rattle.std.specs.Prelude.{ℕ, ◌==◌, ◌||◌, ◌&&◌, not, if◌then◌else◌, Bool, true, false, List, [], ◌∷◌, Option, Some, None, filter, length}
 use Rattle.std.specs.List.{find, flat_map}
 use Rattle.std.specs.Option.{option_map}
@@ -15,7 +15,7 @@ use Rattle.mt_meta.specs.declared.rows.Origin.{Origin}
 use Rattle.mt_meta.specs.declared.rows.Origin.TheVariants.{Computed, Stored, StoredItems}
 use Rattle.mt_meta.specs.declared.rows.Sensitive.{Sensitive}
 use Rattle.mt_meta.specs.declared.rows.Sensitive.TheVariants.{Nothing, OneField, TwoFields, AllButFabric}
-use Rattle.mt_meta.specs.Table.{all_attributes_of, clusters_of, endpoints}
+use Rattle.mt_meta.specs.Table.{all_attributes_of, all_data_of, clusters_of, endpoints}
 
 -- the row of the table for an attribute of a cluster
 abbrev pub row_in : List AttributeRow → ℕ → Option AttributeRow
@@ -23,7 +23,7 @@ row_in rows leaf = find (λ (row : AttributeRow). row.number == leaf) rows
 
 -- where its data stands
 abbrev pub origin_of : Place → Option Origin
-origin_of place = option_map (λ (row : AttributeRow). row.origin) (row_in (all_attributes_of place.cluster) place.leaf)
+origin_of place = option_map (λ (row : AttributeRow). row.origin) (row_in (all_data_of place.cluster) place.leaf)
 
 abbrev pub is_stored_origin : Option Origin → Bool
 is_stored_origin None = false
@@ -100,4 +100,4 @@ is_sensitive_in_row (Some row) field = is_sensitive_in row.sensitive field
 
 -- whether the table says that a field of a place's items is sensitive
 abbrev pub is_sensitive_by_table : Place → ℕ → Bool
-is_sensitive_by_table place field = is_sensitive_in_row (row_in (all_attributes_of place.cluster) place.leaf) field
+is_sensitive_by_table place field = is_sensitive_in_row (row_in (all_data_of place.cluster) place.leaf) field

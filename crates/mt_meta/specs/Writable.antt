@@ -35,6 +35,7 @@ abbrev pub fits_list : Bool → Bool → ℕ → Kind → Bool
 fits_list is_stored scoped limit kinds.Labels = is_stored && not scoped
 fits_list is_stored scoped limit kinds.Binding = is_stored && scoped
 fits_list is_stored scoped limit kinds.Bench = is_stored && scoped
+fits_list is_stored scoped limit kinds.GroupKeyMap = is_stored && scoped
 fits_list is_stored scoped limit kinds.Acl = scoped && limit == ENTRIES
 fits_list is_stored scoped limit kind = false
 

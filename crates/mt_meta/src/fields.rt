@@ -8,7 +8,7 @@ ghost use Rattle.mt_tlv.specs.declared.value.Value.{Value};
 ghost use Rattle.mt_model.specs.Trees.{field_in};
 ghost use Rattle.mt_meta.specs.declared.rows.Field.{Field};
 ghost use Rattle.mt_meta.specs.Targets.{is_target, is_unsigned};
-ghost use Rattle.mt_meta.specs.Fields.{all_elements, are_octets, are_within, field_has_type, field_is_within, has_fields, has_type, have_types, is_bool, is_item, is_null_or_array, is_number, is_text, is_within, octets_fit, text_fits};
+ghost use Rattle.mt_meta.specs.Fields.{all_elements, are_octets, are_within, field_has_type, field_is_within, has_fields, has_type, have_types, is_bool, is_item, is_null_or, is_null_or_array, is_number, is_structure, is_text, is_within, octets_fit, text_fits};
 
 use crate::rows::{Field, Form};
 use crate::targets::target_of;
@@ -27,6 +27,9 @@ pub fn has_type(form: Form, value: &Value) -> bool
         Form::Subjects => are_subjects(value),
         Form::Targets => are_targets(value),
         Form::FabricIndex => is_unsigned(value),
+        Form::NullableUint { greatest } => is_null_or_number(greatest, value),
+        Form::NullableOctets { .. } => is_null_or_octets(value),
+        Form::Structure => is_structure(value),
     }
 }
 
@@ -53,6 +56,35 @@ fn is_unsigned(value: &Value) -> bool
 {
     match value {
         Value::Uint(_) => true,
+        _ => false,
+    }
+}
+
+fn is_null_or_number(greatest: u64, value: &Value) -> bool
+    ensures { result ≡ is_null_or (is_number greatest) (tree value.now) }
+{
+    match value {
+        Value::Null => true,
+        Value::Uint(number) => *number <= greatest,
+        _ => false,
+    }
+}
+
+fn is_null_or_octets(value: &Value) -> bool
+    ensures { result ≡ is_null_or are_octets (tree value.now) }
+{
+    match value {
+        Value::Null => true,
+        Value::Octets(_) => true,
+        _ => false,
+    }
+}
+
+fn is_structure(value: &Value) -> bool
+    ensures { result ≡ is_structure (tree value.now) }
+{
+    match value {
+        Value::Struct(_) => true,
         _ => false,
     }
 }
@@ -134,6 +166,7 @@ pub fn is_within(form: Form, value: &Value) -> bool
     match form {
         Form::Text { least, most } => text_fits(least, most, value),
         Form::Octets { least, most } => octets_fit(least, most, value),
+        Form::NullableOctets { least, most } => octets_fit(least, most, value),
         _ => true,
     }
 }

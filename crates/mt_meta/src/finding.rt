@@ -5,14 +5,15 @@ ghost use Rattle.std.specs.List.{find, list_any};
 ghost use Rattle.std.specs.Option.{option_map};
 ghost use Rattle.mt_model.specs.declared.messages.status.Status.TheVariants.{UnsupportedEndpoint, UnsupportedCluster};
 ghost use Rattle.mt_meta.specs.Stored.{is_stored, is_stored_origin, origin_of, row_in};
-ghost use Rattle.mt_meta.specs.Table.{all_attributes_of};
+ghost use Rattle.mt_meta.specs.Table.{all_attributes_of, all_data_of};
 ghost use Rattle.mt_meta.specs.Writable.{takes_of};
-ghost use Rattle.mt_meta.specs.Finding.{attribute_of, command_of, event_of, find_command_of, find_event_of, find_of, has_cluster, is_endpoint, missing_of, privilege_found, privilege_of};
+ghost use Rattle.mt_meta.specs.Finding.{attribute_of, command_of, data_of, event_of, find_command_of, find_data_of, find_event_of, find_of, has_cluster, is_endpoint, missing_of, privilege_found, privilege_of};
 
 use crate::meta::{CommandMeta, EventMeta, Meta};
 use crate::rows::{AttributeRow, Origin, Takes};
 use crate::table::{
     attributes_of, clusters_of, commands_of, endpoints, events_of, extensions_of, globals,
+    hidden_of,
 };
 use mt_model::{Place, Privilege, Status};
 
@@ -25,6 +26,17 @@ pub fn find(place: &Place) -> Result<Meta, Status>
         return Err(status);
     }
     attribute_of(place).ok_or(Status::UnsupportedAttribute)
+}
+
+/// What the table says of the data of a place, which is an attribute's, or is that of the group key sets, which no
+/// path names. What is not there is refused as by `find`.
+pub fn find_data(place: &Place) -> Result<Meta, Status>
+    ensures { result ≡ find_data_of place.now }
+{
+    if let Some(status) = missing(place) {
+        return Err(status);
+    }
+    data_of(place).ok_or(Status::UnsupportedAttribute)
 }
 
 /// What the table says of a command. What is not there is refused with UNSUPPORTED_ENDPOINT,
@@ -123,7 +135,23 @@ fn attribute_of(place: &Place) -> Option<Meta>
 fn origin_of(place: &Place) -> Option<Origin>
     ensures { result ≡ origin_of place.now }
 {
-    Some(row_of(place)?.origin)
+    Some(data_row_of(place)?.origin)
+}
+
+fn data_of(place: &Place) -> Option<Meta>
+    ensures { result ≡ data_of place.now }
+{
+    Some(data_row_of(place)?.meta)
+}
+
+// The row of the table for the data of a place.
+fn data_row_of(place: &Place) -> Option<&'static AttributeRow>
+    ensures { option_copied result ≡ row_in (all_data_of place.now.cluster) place.now.leaf }
+{
+    if let Some(row) = row_of(place) {
+        return Some(row);
+    }
+    row_among(hidden_of(place.cluster), place.leaf)
 }
 
 // The row of the table for the attribute of a place. Each of the three lists is gone through by itself,

@@ -1,10 +1,11 @@
 //! Laws of the table. Each is the contract of a function that does nothing.
 
-ghost use Rattle.std.specs.Prelude.{◌≡◌, ◌&&◌, ℕ, IsTrue, is_ok, is_some, true};
+ghost use Rattle.std.specs.Prelude.{◌≡◌, ◌&&◌, ℕ, IsTrue, Ok, is_ok, is_some, true};
 ghost use Rattle.std.specs.List.{list_all, list_any};
 ghost use Rattle.mt_model.specs.rows.Devices.{device_of};
 ghost use Rattle.mt_model.specs.declared.rows.place.Place.{Place};
-ghost use Rattle.mt_meta.specs.Finding.{find_of, is_endpoint};
+ghost use Rattle.mt_meta.specs.Finding.{find_data_of, find_of, is_endpoint};
+ghost use Rattle.mt_meta.specs.declared.meta.Meta.{Meta};
 ghost use Rattle.mt_meta.specs.Places.{all_places, ascend, is_at};
 ghost use Rattle.mt_meta.specs.Stored.{begins_rightly, is_sensitive_by_table, is_stored};
 ghost use Rattle.mt_meta.specs.Writable.{takes_rightly};
@@ -26,6 +27,11 @@ pub fn endpoints_have_devices()
     ensures { (endpoint : ℕ) → is_endpoint endpoint ≡ is_some (device_of endpoint) }
 {}
 
+/// What is known of an attribute is known of the data of its place.
+pub fn attributes_are_data()
+    ensures { (place : Place) (meta : Meta) → find_of place ≡ Ok meta → find_data_of place ≡ Ok meta }
+{}
+
 /// The sensitive fields of the table are those that a fabric is not shown of the items of others.
 pub fn sensitive_fields_are_those_of_sight()
     ensures { (place : Place) (field : ℕ) → is_sensitive_by_table place field ≡ is_sensitive_field place field }
@@ -37,9 +43,9 @@ pub fn stored_places_begin()
     ensures { IsTrue (list_all begins_rightly all_places) }
 {}
 
-/// Rows are kept under a place exactly where the table has the place and it is stored.
+/// Rows are kept under a place exactly where the table has data there and it is stored.
 pub fn stored_places_are_those_of_the_model()
-    ensures { (place : Place) → is_stored_place place ≡ (is_stored place && is_ok (find_of place)) }
+    ensures { (place : Place) → is_stored_place place ≡ (is_stored place && is_ok (find_data_of place)) }
 {}
 
 /// An attribute takes something exactly where it has a privilege to write it, and then what fits its kind.

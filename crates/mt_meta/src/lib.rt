@@ -27,12 +27,15 @@ mod targets;
 
 pub use expansion::{ExpandFault, all_places, expand, is_global, is_named_by, is_not_global};
 pub use fields::{are_items, are_within, has_fields, has_type, is_item, is_within};
-pub use finding::{Asked, find, find_command, find_event, is_stored, privilege_asked, takes};
+pub use finding::{
+    Asked, find, find_command, find_data, find_event, is_stored, privilege_asked, takes,
+};
 pub use first::first_rows;
 pub use given::{flag_of, given_number, number_of, octets_of, text_of};
 pub use laws::{
-    endpoints_have_devices, places_are_found, places_ascend, sensitive_fields_are_those_of_sight,
-    stored_places_are_those_of_the_model, stored_places_begin, writable_attributes_take_something,
+    attributes_are_data, endpoints_have_devices, places_are_found, places_ascend,
+    sensitive_fields_are_those_of_sight, stored_places_are_those_of_the_model, stored_places_begin,
+    writable_attributes_take_something,
 };
 pub use meta::{CommandMeta, EventMeta, Kind, Meta};
 pub use rows::{

@@ -28,6 +28,10 @@ pub enum Kind {
     Roots,
     Labels,
     Bench,
+    GroupKeyMap,
+    GroupTable,
+    /// Group key sets, which are no attribute.
+    KeySets,
 }
 
 /// What is known of an attribute.

@@ -52,6 +52,12 @@ pub enum Form {
     Targets,
     /// A number, in whose place the writer's fabric is kept.
     FabricIndex,
+    /// Null, or a number of at most this size.
+    NullableUint { greatest: u64 },
+    /// Null, or so many octets.
+    NullableOctets { least: u16, most: u16 },
+    /// A structure, of whose fields its command asks itself.
+    Structure,
 }
 
 /// A field of an item of a list that is written, or of a command.

@@ -2,13 +2,14 @@
 //! proved to be that of `specs/Table.antt`, and its rows to be those of `specs/clusters/`.
 
 ghost use Rattle.std.specs.Prelude.{◌≡◌};
-ghost use Rattle.mt_meta.specs.Table.{attributes_of, clusters_of, command_fields, commands_of, endpoints, events_of, extensions_of, fields_of, globals, responses_of};
+ghost use Rattle.mt_meta.specs.Table.{attributes_of, clusters_of, command_fields, commands_of, endpoints, events_of, extensions_of, fields_of, globals, hidden_of, responses_of};
 
 use crate::clusters::{
-    ACCESS_CONTROL, BASIC_INFORMATION, BENCH, BINDING, DESCRIPTOR, GENERAL_COMMISSIONING,
-    NETWORK_COMMISSIONING, ON_OFF, OPERATIONAL_CREDENTIALS, USER_LABEL, access_control,
-    basic_information, bench, binding, descriptor, general_commissioning, network_commissioning,
-    on_off, operational_credentials, user_label,
+    ACCESS_CONTROL, ADMINISTRATOR_COMMISSIONING, BASIC_INFORMATION, BENCH, BINDING, DESCRIPTOR,
+    GENERAL_COMMISSIONING, GROUP_KEY_MANAGEMENT, NETWORK_COMMISSIONING, ON_OFF,
+    OPERATIONAL_CREDENTIALS, USER_LABEL, access_control, administrator_commissioning,
+    basic_information, bench, binding, descriptor, general_commissioning, group_key_management,
+    network_commissioning, on_off, operational_credentials, user_label,
 };
 use crate::meta::Kind;
 use crate::rows::{AttributeRow, CommandRow, EventRow, Field, computed};
@@ -32,13 +33,15 @@ pub const CLUSTER_REVISION: u32 = 0xfffd;
 
 static ENDPOINTS: [u16; 2] = [0, 1];
 
-static ROOT_CLUSTERS: [u32; 6] = [
+static ROOT_CLUSTERS: [u32; 8] = [
     DESCRIPTOR,
     ACCESS_CONTROL,
     BASIC_INFORMATION,
     GENERAL_COMMISSIONING,
     NETWORK_COMMISSIONING,
+    ADMINISTRATOR_COMMISSIONING,
     OPERATIONAL_CREDENTIALS,
+    GROUP_KEY_MANAGEMENT,
 ];
 
 static DEVICE_CLUSTERS: [u32; 5] = [ON_OFF, DESCRIPTOR, BINDING, USER_LABEL, BENCH];
@@ -94,7 +97,9 @@ pub fn attributes_of(cluster: u32) -> &'static [AttributeRow]
         BASIC_INFORMATION => &basic_information::ATTRIBUTES,
         GENERAL_COMMISSIONING => &general_commissioning::ATTRIBUTES,
         NETWORK_COMMISSIONING => &network_commissioning::ATTRIBUTES,
+        ADMINISTRATOR_COMMISSIONING => &administrator_commissioning::ATTRIBUTES,
         OPERATIONAL_CREDENTIALS => &operational_credentials::ATTRIBUTES,
+        GROUP_KEY_MANAGEMENT => &group_key_management::ATTRIBUTES,
         USER_LABEL => &user_label::ATTRIBUTES,
         BENCH => &bench::ATTRIBUTES,
         _ => &[],
@@ -102,12 +107,25 @@ pub fn attributes_of(cluster: u32) -> &'static [AttributeRow]
 }
 
 /// The attributes of a cluster that stand above the global ones, ascending, as those of a vendor's
-/// extension of a standard cluster do. No cluster has one yet.
+/// extension of a standard cluster do.
 #[tactic(auto, unfolding(crate::specs::Table::extensions_of))]
-pub fn extensions_of(_cluster: u32) -> &'static [AttributeRow]
-    ensures { result.now ≡ extensions_of _cluster }
+pub fn extensions_of(cluster: u32) -> &'static [AttributeRow]
+    ensures { result.now ≡ extensions_of cluster }
 {
-    &[]
+    match cluster {
+        ADMINISTRATOR_COMMISSIONING => &administrator_commissioning::EXTENSIONS,
+        _ => &[],
+    }
+}
+
+/// The data of a cluster that is no attribute's, ascending: rows stand there, but no path names them.
+pub(crate) fn hidden_of(cluster: u32) -> &'static [AttributeRow]
+    ensures { result.now ≡ hidden_of cluster }
+{
+    match cluster {
+        GROUP_KEY_MANAGEMENT => &group_key_management::HIDDEN,
+        _ => &[],
+    }
 }
 
 /// The commands that a cluster accepts, ascending; none where there is no such cluster.
@@ -119,7 +137,9 @@ pub fn commands_of(cluster: u32) -> &'static [CommandRow]
         ON_OFF => &on_off::COMMANDS,
         GENERAL_COMMISSIONING => &general_commissioning::COMMANDS,
         NETWORK_COMMISSIONING => &network_commissioning::COMMANDS,
+        ADMINISTRATOR_COMMISSIONING => &administrator_commissioning::COMMANDS,
         OPERATIONAL_CREDENTIALS => &operational_credentials::COMMANDS,
+        GROUP_KEY_MANAGEMENT => &group_key_management::COMMANDS,
         BENCH => &bench::COMMANDS,
         _ => &[],
     }
@@ -133,7 +153,9 @@ pub fn command_fields(cluster: u32, command: u32) -> &'static [Field]
     match cluster {
         GENERAL_COMMISSIONING => general_commissioning::command_fields(command),
         NETWORK_COMMISSIONING => network_commissioning::command_fields(command),
+        ADMINISTRATOR_COMMISSIONING => administrator_commissioning::command_fields(command),
         OPERATIONAL_CREDENTIALS => operational_credentials::command_fields(command),
+        GROUP_KEY_MANAGEMENT => group_key_management::command_fields(command),
         _ => &[],
     }
 }
@@ -147,6 +169,7 @@ pub fn responses_of(cluster: u32) -> &'static [u32]
         GENERAL_COMMISSIONING => &general_commissioning::RESPONSES,
         NETWORK_COMMISSIONING => &network_commissioning::RESPONSES,
         OPERATIONAL_CREDENTIALS => &operational_credentials::RESPONSES,
+        GROUP_KEY_MANAGEMENT => &group_key_management::RESPONSES,
         _ => &[],
     }
 }
@@ -164,8 +187,8 @@ pub fn events_of(cluster: u32) -> &'static [EventRow]
     }
 }
 
-/// The fields of an item of a list that is written, ascending, by the kind of the list; none for every
-/// other kind.
+/// The fields of an item of a list that is written, and of a group key set, ascending, by the kind; none for
+/// every other kind.
 #[tactic(auto, unfolding(crate::specs::Table::fields_of))]
 pub fn fields_of(kind: Kind) -> &'static [Field]
     ensures { result.now ≡ fields_of kind }
@@ -175,6 +198,8 @@ pub fn fields_of(kind: Kind) -> &'static [Field]
         Kind::Acl => &access_control::FIELDS,
         Kind::Labels => &user_label::FIELDS,
         Kind::Bench => &bench::FIELDS,
+        Kind::GroupKeyMap => &group_key_management::MAP_FIELDS,
+        Kind::KeySets => &group_key_management::SET_FIELDS,
         _ => &[],
     }
 }

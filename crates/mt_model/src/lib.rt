@@ -12,40 +12,105 @@ mod rows;
 mod tables;
 mod texts;
 
-pub use fields::{field, is_utf8, structure_of, take_field, unsigned_of};
-pub use laws::{
-    entries_are_in_order, entries_are_read_again, fabrics_are_in_order, in_order_sees,
-    limits_are_these, numbered_fabrics_ascend, opcodes_are_those_of_the_standard,
-    rows_of_a_place_are_in_order, set_entries_stand_in_order, set_rows_stand_in_order,
-    what_is_told_the_same_is, what_stays_stands_in_order,
-};
-pub use listed::{ExactCopy, Listed};
-pub use messages::message::{
-    Happened, Index, Item, Items, Path, Paths, Payload, Payloads, Places, Reply, Request,
-    WriteItem, Writes,
-};
+pub use fields::field;
+pub use fields::is_utf8;
+pub use fields::structure_of;
+pub use fields::take_field;
+pub use fields::unsigned_of;
+pub use laws::command_limits_are_these;
+pub use laws::entries_are_in_order;
+pub use laws::entries_are_read_again;
+pub use laws::fabrics_are_in_order;
+pub use laws::in_order_sees;
+pub use laws::limits_are_these;
+pub use laws::numbered_fabrics_ascend;
+pub use laws::opcodes_are_those_of_the_standard;
+pub use laws::rows_of_a_place_are_in_order;
+pub use laws::set_entries_stand_in_order;
+pub use laws::set_rows_stand_in_order;
+pub use laws::what_is_told_the_same_is;
+pub use laws::what_stays_stands_in_order;
+pub use listed::ExactCopy;
+pub use listed::Listed;
+pub use messages::message::Happened;
+pub use messages::message::Index;
+pub use messages::message::Item;
+pub use messages::message::Items;
+pub use messages::message::Path;
+pub use messages::message::Paths;
+pub use messages::message::Payload;
+pub use messages::message::Payloads;
+pub use messages::message::Places;
+pub use messages::message::Reply;
+pub use messages::message::Request;
+pub use messages::message::WriteItem;
+pub use messages::message::Writes;
 pub use messages::opcode;
 pub use messages::size::item_size;
 pub use messages::status::Status;
-pub use node::action::{
-    Action, Effect, NodeStep, PlainDeadline, PlainDeadlines, SessionIds, Steps, Values,
-};
-pub use node::state::{
-    ChangeNumber, ChangeNumbers, NodeSession, NodeSessions, NodeState, Standing, Version, Versions,
-};
-pub use rows::place::{Place, Row, Rows, device_type};
+pub use node::action::Action;
+pub use node::action::Effect;
+pub use node::action::NodeStep;
+pub use node::action::PlainDeadline;
+pub use node::action::PlainDeadlines;
+pub use node::action::SessionIds;
+pub use node::action::Steps;
+pub use node::action::Values;
+pub use node::state::ChangeNumber;
+pub use node::state::ChangeNumbers;
+pub use node::state::NodeSession;
+pub use node::state::NodeSessions;
+pub use node::state::NodeState;
+pub use node::state::Standing;
+pub use node::state::Version;
+pub use node::state::Versions;
+pub use rows::place::Place;
+pub use rows::place::Row;
+pub use rows::place::Rows;
+pub use rows::place::device_type;
 pub use rows::setting::set_entries;
-pub use rows::shown::{shown_items, shown_value};
-pub use rows::sight::{Sight, View, sees};
-pub use rows::stored::{StoredRows, stored_places};
-pub use tables::access::{
-    AclEntries, AclEntry, Actor, Auth, Privilege, Subjects, Target, Targets, entries_ascend_from,
-    entries_of,
-};
-pub use tables::fabric::{Credentials, Fabric, Fabrics, is_operational, stays};
-pub use tables::network::{Armed, Network, Networks, Roots};
-pub use texts::config::{
-    Config, CsrRow, CsrRows, JoinRow, JoinRows, RootRow, RootRows, SessionRow, SessionRows, Ssids,
-};
-pub use texts::recording::{Event, Events, Sent, SentList, To};
-pub use texts::verdicts::{TableVerdicts, Verdicts};
+pub use rows::shown::shown_items;
+pub use rows::shown::shown_value;
+pub use rows::sight::Sight;
+pub use rows::sight::View;
+pub use rows::sight::sees;
+pub use rows::stored::StoredRows;
+pub use rows::stored::stored_places;
+pub use tables::access::AclEntries;
+pub use tables::access::AclEntry;
+pub use tables::access::Actor;
+pub use tables::access::Auth;
+pub use tables::access::Privilege;
+pub use tables::access::Subjects;
+pub use tables::access::Target;
+pub use tables::access::Targets;
+pub use tables::access::entries_ascend_from;
+pub use tables::access::entries_of;
+pub use tables::fabric::Credentials;
+pub use tables::fabric::Fabric;
+pub use tables::fabric::Fabrics;
+pub use tables::fabric::is_operational;
+pub use tables::fabric::stays;
+pub use tables::key_set::is_key_set;
+pub use tables::key_set::key_sets;
+pub use tables::network::Armed;
+pub use tables::network::Network;
+pub use tables::network::Networks;
+pub use tables::network::Roots;
+pub use texts::config::Config;
+pub use texts::config::CsrRow;
+pub use texts::config::CsrRows;
+pub use texts::config::JoinRow;
+pub use texts::config::JoinRows;
+pub use texts::config::RootRow;
+pub use texts::config::RootRows;
+pub use texts::config::SessionRow;
+pub use texts::config::SessionRows;
+pub use texts::config::Ssids;
+pub use texts::recording::Event;
+pub use texts::recording::Events;
+pub use texts::recording::Sent;
+pub use texts::recording::SentList;
+pub use texts::recording::To;
+pub use texts::verdicts::TableVerdicts;
+pub use texts::verdicts::Verdicts;

@@ -152,3 +152,39 @@ pub const BENCH_SECRET_BYTES: u16 = 64;
 
 /// The most bytes of the name and of the value of a label.
 pub const LABEL_TEXT_BYTES: u16 = 16;
+
+/// The most group key sets of one fabric, beside set 0, which is always there.
+pub const KEY_SETS: usize = 3;
+
+/// The most items of one fabric's GroupKeyMap.
+pub const KEY_MAP_ITEMS: usize = 4;
+
+/// The bytes of an epoch key of a group key set.
+pub const EPOCH_KEY_BYTES: usize = 16;
+
+/// The greatest id of a group key set; the least is 1 where it is written.
+pub const LAST_KEY_SET: u64 = 65_535;
+
+/// For how long a commissioning window is open at least, in seconds.
+pub const SHORTEST_WINDOW: u64 = 180;
+
+/// For how long a commissioning window is open at most, in seconds.
+pub const LONGEST_WINDOW: u64 = 900;
+
+/// The greatest discriminator of a commissioning window.
+pub const LAST_DISCRIMINATOR: u64 = 4095;
+
+/// The bytes of the verifier of a passcode.
+pub const VERIFIER_BYTES: usize = 97;
+
+/// The least iterations by which a verifier is made.
+pub const LEAST_ITERATIONS: u64 = 1000;
+
+/// The most iterations by which a verifier is made.
+pub const MOST_ITERATIONS: u64 = 100_000;
+
+/// The least bytes of the salt of a verifier.
+pub const LEAST_SALT_BYTES: usize = 16;
+
+/// The most bytes of the salt of a verifier.
+pub const MOST_SALT_BYTES: usize = 32;

@@ -3,4 +3,5 @@
 
 pub(crate) mod access;
 pub(crate) mod fabric;
+pub(crate) mod key_set;
 pub(crate) mod network;

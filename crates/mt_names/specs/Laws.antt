@@ -3,7 +3,7 @@ use Rattle.std.specs.Prelude.{ℕ, Bool, true, not, ◌==◌, ◌&&◌, List, []
 use Rattle.std.specs.List.{flat_map, list_any}
 use Rattle.mt_meta.specs.Table as rows
 use Rattle.mt_names.specs.Columns.{Name, name_in}
-use Rattle.mt_names.specs.Names.{attributes_of, clusters, commands_of, events_of, responses_of}
+use Rattle.mt_names.specs.Names.{all_attributes_of, clusters, commands_of, events_of, responses_of}
 
 -- the clusters that stand on an endpoint
 abbrev pub standing : List ℕ
@@ -22,4 +22,4 @@ differ (name ∷ names) = not (list_any (λ (other : Name). other.0 == name.0) n
 
 -- of the columns of a cluster
 abbrev pub columns_differ : Name → Bool
-columns_differ cluster = differ (attributes_of cluster.0) && (differ (commands_of cluster.0) && (differ (responses_of cluster.0) && differ (events_of cluster.0)))
+columns_differ cluster = differ (all_attributes_of cluster.0) && (differ (commands_of cluster.0) && (differ (responses_of cluster.0) && differ (events_of cluster.0)))

@@ -1,14 +1,16 @@
 -- The names of what stands in the table of clusters: a column beside each list of its rows.
-use Rattle.std.specs.Prelude.{ℕ, List, [], ◌∷◌, ◌==◌, codes, if◌then◌else◌}
+use Rattle.std.specs.Prelude.{ℕ, List, [], ◌∷◌, ◌++◌, ◌==◌, codes, if◌then◌else◌}
 use Rattle.mt_meta.specs.declared.meta.Kind.{Kind}
 use Rattle.mt_meta.specs.declared.meta.Kind.TheVariants as kinds
 use Rattle.mt_names.specs.Columns.{Name}
 use Rattle.mt_names.specs.clusters.AccessControl as access_control
+use Rattle.mt_names.specs.clusters.AdministratorCommissioning as administrator_commissioning
 use Rattle.mt_names.specs.clusters.BasicInformation as basic_information
 use Rattle.mt_names.specs.clusters.Bench as bench
 use Rattle.mt_names.specs.clusters.Binding as binding
 use Rattle.mt_names.specs.clusters.Descriptor as descriptor
 use Rattle.mt_names.specs.clusters.GeneralCommissioning as general_commissioning
+use Rattle.mt_names.specs.clusters.GroupKeyManagement as group_key_management
 use Rattle.mt_names.specs.clusters.NetworkCommissioning as network_commissioning
 use Rattle.mt_names.specs.clusters.OnOff as on_off
 use Rattle.mt_names.specs.clusters.OperationalCredentials as operational_credentials
@@ -23,7 +25,9 @@ clusters =
     ∷ (0x28, codes "Basic-Information")
     ∷ (0x30, codes "General-Commissioning")
     ∷ (0x31, codes "Network-Commissioning")
+    ∷ (0x3c, codes "Administrator-Commissioning")
     ∷ (0x3e, codes "Operational-Credentials")
+    ∷ (0x3f, codes "Group-Key-Management")
     ∷ (0x41, codes "User-Label")
     ∷ (0xfff1fc00, codes "Bench")
     ∷ []
@@ -38,7 +42,7 @@ globals =
     ∷ (0xfffd, codes "ClusterRevision")
     ∷ []
 
--- the other attributes of a cluster
+-- the other attributes of a cluster, but for those that stand above the global ones
 unfoldable pub attributes_of : ℕ → List Name
 attributes_of cluster =
     if cluster == 0x6 then on_off.attributes
@@ -48,10 +52,22 @@ attributes_of cluster =
     else if cluster == 0x28 then basic_information.attributes
     else if cluster == 0x30 then general_commissioning.attributes
     else if cluster == 0x31 then network_commissioning.attributes
+    else if cluster == 0x3c then administrator_commissioning.attributes
     else if cluster == 0x3e then operational_credentials.attributes
+    else if cluster == 0x3f then group_key_management.attributes
     else if cluster == 0x41 then user_label.attributes
     else if cluster == 0xfff1fc00 then bench.attributes
     else []
+
+-- the attributes of a cluster whose numbers stand above the global ones
+unfoldable pub extensions_of : ℕ → List Name
+extensions_of cluster =
+    if cluster == 0x3c then administrator_commissioning.extensions
+    else []
+
+-- all attributes of a cluster
+abbrev pub all_attributes_of : ℕ → List Name
+all_attributes_of cluster = attributes_of cluster ++ (globals ++ extensions_of cluster)
 
 -- the commands that a cluster accepts
 unfoldable pub commands_of : ℕ → List Name
@@ -59,7 +75,9 @@ commands_of cluster =
     if cluster == 0x6 then on_off.commands
     else if cluster == 0x30 then general_commissioning.commands
     else if cluster == 0x31 then network_commissioning.commands
+    else if cluster == 0x3c then administrator_commissioning.commands
     else if cluster == 0x3e then operational_credentials.commands
+    else if cluster == 0x3f then group_key_management.commands
     else if cluster == 0xfff1fc00 then bench.commands
     else []
 
@@ -69,6 +87,7 @@ responses_of cluster =
     if cluster == 0x30 then general_commissioning.responses
     else if cluster == 0x31 then network_commissioning.responses
     else if cluster == 0x3e then operational_credentials.responses
+    else if cluster == 0x3f then group_key_management.responses
     else []
 
 -- the events of a cluster
@@ -84,7 +103,9 @@ unfoldable pub command_fields : ℕ → ℕ → List Name
 command_fields cluster command =
     if cluster == 0x30 then general_commissioning.command_fields command
     else if cluster == 0x31 then network_commissioning.command_fields command
+    else if cluster == 0x3c then administrator_commissioning.command_fields command
     else if cluster == 0x3e then operational_credentials.command_fields command
+    else if cluster == 0x3f then group_key_management.command_fields command
     else []
 
 -- the fields of a command with which a cluster answers
@@ -93,6 +114,7 @@ response_fields cluster command =
     if cluster == 0x30 then general_commissioning.response_fields command
     else if cluster == 0x31 then network_commissioning.response_fields command
     else if cluster == 0x3e then operational_credentials.response_fields command
+    else if cluster == 0x3f then group_key_management.response_fields command
     else []
 
 -- the fields of an event
@@ -111,14 +133,17 @@ value_fields cluster attribute =
     else if cluster == 0x30 then general_commissioning.value_fields attribute
     else if cluster == 0x31 then network_commissioning.value_fields attribute
     else if cluster == 0x3e then operational_credentials.value_fields attribute
+    else if cluster == 0x3f then group_key_management.value_fields attribute
     else []
 
--- the fields of an item of a list that is written, by the kind of the list
+-- the fields of an item of a list that is written, and of a group key set, by the kind
 unfoldable pub item_fields : Kind → List Name
 item_fields kinds.Binding = binding.item_fields
 item_fields kinds.Acl = access_control.item_fields
 item_fields kinds.Labels = user_label.item_fields
 item_fields kinds.Bench = bench.item_fields
+item_fields kinds.GroupKeyMap = group_key_management.map_item_fields
+item_fields kinds.KeySets = group_key_management.set_fields
 item_fields kind = []
 
 -- the fields of a target of an access control entry

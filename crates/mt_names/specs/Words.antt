@@ -31,6 +31,7 @@ status_name statuses.UnsupportedAttribute = codes "UNSUPPORTED_ATTRIBUTE"
 status_name statuses.ConstraintError = codes "CONSTRAINT_ERROR"
 status_name statuses.UnsupportedWrite = codes "UNSUPPORTED_WRITE"
 status_name statuses.ResourceExhausted = codes "RESOURCE_EXHAUSTED"
+status_name statuses.NotFound = codes "NOT_FOUND"
 status_name statuses.InvalidDataType = codes "INVALID_DATA_TYPE"
 status_name statuses.DataVersionMismatch = codes "DATA_VERSION_MISMATCH"
 status_name statuses.Timeout = codes "TIMEOUT"
@@ -56,6 +57,7 @@ status_of code =
     else if code == 0x87 then Some statuses.ConstraintError
     else if code == 0x88 then Some statuses.UnsupportedWrite
     else if code == 0x89 then Some statuses.ResourceExhausted
+    else if code == 0x8b then Some statuses.NotFound
     else if code == 0x8d then Some statuses.InvalidDataType
     else if code == 0x92 then Some statuses.DataVersionMismatch
     else if code == 0x94 then Some statuses.Timeout

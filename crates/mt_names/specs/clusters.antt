@@ -1,9 +1,11 @@
 pub mod AccessControl
+pub mod AdministratorCommissioning
 pub mod BasicInformation
 pub mod Bench
 pub mod Binding
 pub mod Descriptor
 pub mod GeneralCommissioning
+pub mod GroupKeyManagement
 pub mod NetworkCommissioning
 pub mod OnOff
 pub mod OperationalCredentials

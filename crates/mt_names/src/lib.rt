@@ -23,7 +23,7 @@ pub use looking::{
 };
 pub use table::{
     attribute_names, cluster_names, command_field_names, command_names, event_field_names,
-    event_names, global_names, item_field_names, response_field_names, response_names,
-    target_field_names, value_field_names,
+    event_names, extension_names, global_names, item_field_names, response_field_names,
+    response_names, target_field_names, value_field_names,
 };
 pub use words::{auth_name, message_name, privilege_name, status_name, status_of};

@@ -9,11 +9,12 @@ ghost use Rattle.mt_meta.specs.declared.rows.CommandRow.{CommandRow};
 ghost use Rattle.mt_meta.specs.declared.rows.EventRow.{EventRow};
 ghost use Rattle.mt_names.specs.declared.columns.Named.{Named};
 ghost use Rattle.mt_names.specs.Columns.{entry, name_in};
-ghost use Rattle.mt_names.specs.Names.{attributes_of, clusters, commands_of, events_of, globals, responses_of};
+ghost use Rattle.mt_names.specs.Names.{all_attributes_of, clusters, commands_of, events_of, extensions_of, globals, responses_of};
 
 use crate::columns::Named;
 use crate::table::{
-    attribute_names, cluster_names, command_names, event_names, global_names, response_names,
+    attribute_names, cluster_names, command_names, event_names, extension_names, global_names,
+    response_names,
 };
 
 /// The name of a number in a column; None where it is not in it.
@@ -39,13 +40,24 @@ pub fn cluster_name(cluster: u32) -> Option<&'static str>
 
 /// The name of an attribute of a cluster. Those that every cluster has are named in any.
 pub fn attribute_name(cluster: u32, attribute: u32) -> Option<&'static str>
-    ensures name { option_map (λ name. name.now) result ≡ name_in attribute (attributes_of cluster ++ globals) }
+    ensures name { option_map (λ name. name.now) result ≡ name_in attribute (all_attributes_of cluster) }
     // There is one exactly where the table has the attribute.
     ensures there { is_some result ≡ list_any (λ (row : AttributeRow). row.number == attribute) (rows.all_attributes_of cluster) }
 {
     match name_among(attribute_names(cluster), attribute) {
         Some(name) => Some(name),
-        None => name_among(global_names(), attribute),
+        None => other_name(cluster, attribute),
+    }
+}
+
+// The name of an attribute that every cluster has, or that stands above those.
+fn other_name(cluster: u32, attribute: u32) -> Option<&'static str>
+    ensures name { option_map (λ name. name.now) result ≡ name_in attribute (globals ++ extensions_of cluster) }
+    ensures there { is_some result ≡ list_any (λ (row : AttributeRow). row.number == attribute) (rows.globals ++ rows.extensions_of cluster) }
+{
+    match name_among(global_names(), attribute) {
+        Some(name) => Some(name),
+        None => name_among(extension_names(cluster), attribute),
     }
 }
 

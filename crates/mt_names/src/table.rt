@@ -8,23 +8,25 @@ ghost use Rattle.mt_meta.specs.declared.rows.CommandRow.{CommandRow};
 ghost use Rattle.mt_meta.specs.declared.rows.EventRow.{EventRow};
 ghost use Rattle.mt_meta.specs.declared.rows.Field.{Field};
 ghost use Rattle.mt_names.specs.Columns.{entry, number_of};
-ghost use Rattle.mt_names.specs.Names.{attributes_of, clusters, command_fields, commands_of, event_fields, events_of, globals, item_fields, response_fields, responses_of, target_fields, value_fields};
+ghost use Rattle.mt_names.specs.Names.{attributes_of, clusters, command_fields, commands_of, event_fields, events_of, extensions_of, globals, item_fields, response_fields, responses_of, target_fields, value_fields};
 
 use crate::clusters::{
-    access_control, basic_information, bench, binding, descriptor, general_commissioning,
-    network_commissioning, on_off, operational_credentials, user_label,
+    access_control, administrator_commissioning, basic_information, bench, binding, descriptor,
+    general_commissioning, group_key_management, network_commissioning, on_off,
+    operational_credentials, user_label,
 };
 use crate::columns::Named;
 use mt_meta::clusters::{
-    ACCESS_CONTROL, BASIC_INFORMATION, BENCH, BINDING, DESCRIPTOR, GENERAL_COMMISSIONING,
-    NETWORK_COMMISSIONING, ON_OFF, OPERATIONAL_CREDENTIALS, USER_LABEL,
+    ACCESS_CONTROL, ADMINISTRATOR_COMMISSIONING, BASIC_INFORMATION, BENCH, BINDING, DESCRIPTOR,
+    GENERAL_COMMISSIONING, GROUP_KEY_MANAGEMENT, NETWORK_COMMISSIONING, ON_OFF,
+    OPERATIONAL_CREDENTIALS, USER_LABEL,
 };
 use mt_meta::{
     ACCEPTED_COMMAND_LIST, ATTRIBUTE_LIST, CLUSTER_REVISION, FEATURE_MAP, GENERATED_COMMAND_LIST,
     Kind,
 };
 
-static CLUSTERS: [Named; 10] = [
+static CLUSTERS: [Named; 12] = [
     Named {
         number: ON_OFF,
         name: "On-Off",
@@ -54,8 +56,16 @@ static CLUSTERS: [Named; 10] = [
         name: "Network-Commissioning",
     },
     Named {
+        number: ADMINISTRATOR_COMMISSIONING,
+        name: "Administrator-Commissioning",
+    },
+    Named {
         number: OPERATIONAL_CREDENTIALS,
         name: "Operational-Credentials",
+    },
+    Named {
+        number: GROUP_KEY_MANAGEMENT,
+        name: "Group-Key-Management",
     },
     Named {
         number: USER_LABEL,
@@ -122,7 +132,8 @@ pub fn global_names() -> &'static [Named]
     &GLOBALS
 }
 
-/// The names of the attributes of a cluster, without those that every cluster has; none where there is no such cluster.
+/// The names of the attributes of a cluster that stand below those that every cluster has; none where there is no such
+/// cluster.
 #[tactic(auto, unfolding(crate::specs::Names::attributes_of, mt_meta::specs::Table::attributes_of))]
 pub fn attribute_names(cluster: u32) -> &'static [Named]
     ensures names { map entry result.now ≡ attributes_of cluster }
@@ -136,9 +147,24 @@ pub fn attribute_names(cluster: u32) -> &'static [Named]
         BASIC_INFORMATION => &basic_information::ATTRIBUTES,
         GENERAL_COMMISSIONING => &general_commissioning::ATTRIBUTES,
         NETWORK_COMMISSIONING => &network_commissioning::ATTRIBUTES,
+        ADMINISTRATOR_COMMISSIONING => &administrator_commissioning::ATTRIBUTES,
         OPERATIONAL_CREDENTIALS => &operational_credentials::ATTRIBUTES,
+        GROUP_KEY_MANAGEMENT => &group_key_management::ATTRIBUTES,
         USER_LABEL => &user_label::ATTRIBUTES,
         BENCH => &bench::ATTRIBUTES,
+        _ => &[],
+    }
+}
+
+/// The names of the attributes of a cluster that stand above those that every cluster has, as those of a vendor's
+/// extension of a standard cluster do.
+#[tactic(auto, unfolding(crate::specs::Names::extensions_of, mt_meta::specs::Table::extensions_of))]
+pub fn extension_names(cluster: u32) -> &'static [Named]
+    ensures names { map entry result.now ≡ extensions_of cluster }
+    ensures numbers { map number_of result.now ≡ map (λ (row : AttributeRow). row.number) (rows.extensions_of cluster) }
+{
+    match cluster {
+        ADMINISTRATOR_COMMISSIONING => &administrator_commissioning::EXTENSIONS,
         _ => &[],
     }
 }
@@ -153,7 +179,9 @@ pub fn command_names(cluster: u32) -> &'static [Named]
         ON_OFF => &on_off::COMMANDS,
         GENERAL_COMMISSIONING => &general_commissioning::COMMANDS,
         NETWORK_COMMISSIONING => &network_commissioning::COMMANDS,
+        ADMINISTRATOR_COMMISSIONING => &administrator_commissioning::COMMANDS,
         OPERATIONAL_CREDENTIALS => &operational_credentials::COMMANDS,
+        GROUP_KEY_MANAGEMENT => &group_key_management::COMMANDS,
         BENCH => &bench::COMMANDS,
         _ => &[],
     }
@@ -169,6 +197,7 @@ pub fn response_names(cluster: u32) -> &'static [Named]
         GENERAL_COMMISSIONING => &general_commissioning::RESPONSES,
         NETWORK_COMMISSIONING => &network_commissioning::RESPONSES,
         OPERATIONAL_CREDENTIALS => &operational_credentials::RESPONSES,
+        GROUP_KEY_MANAGEMENT => &group_key_management::RESPONSES,
         _ => &[],
     }
 }
@@ -196,7 +225,9 @@ pub fn command_field_names(cluster: u32, command: u32) -> &'static [Named]
     match cluster {
         GENERAL_COMMISSIONING => general_commissioning::command_fields(command),
         NETWORK_COMMISSIONING => network_commissioning::command_fields(command),
+        ADMINISTRATOR_COMMISSIONING => administrator_commissioning::command_fields(command),
         OPERATIONAL_CREDENTIALS => operational_credentials::command_fields(command),
+        GROUP_KEY_MANAGEMENT => group_key_management::command_fields(command),
         _ => &[],
     }
 }
@@ -210,6 +241,7 @@ pub fn response_field_names(cluster: u32, command: u32) -> &'static [Named]
         GENERAL_COMMISSIONING => general_commissioning::response_fields(command),
         NETWORK_COMMISSIONING => network_commissioning::response_fields(command),
         OPERATIONAL_CREDENTIALS => operational_credentials::response_fields(command),
+        GROUP_KEY_MANAGEMENT => group_key_management::response_fields(command),
         _ => &[],
     }
 }
@@ -238,11 +270,12 @@ pub fn value_field_names(cluster: u32, attribute: u32) -> &'static [Named]
         GENERAL_COMMISSIONING => general_commissioning::value_fields(attribute),
         NETWORK_COMMISSIONING => network_commissioning::value_fields(attribute),
         OPERATIONAL_CREDENTIALS => operational_credentials::value_fields(attribute),
+        GROUP_KEY_MANAGEMENT => group_key_management::value_fields(attribute),
         _ => &[],
     }
 }
 
-/// The names of the fields of an item of a list that is written, by the kind of the list.
+/// The names of the fields of an item of a list that is written, and of a group key set, by the kind.
 #[tactic(auto, unfolding(crate::specs::Names::item_fields, mt_meta::specs::Table::fields_of))]
 pub fn item_field_names(kind: Kind) -> &'static [Named]
     ensures names { map entry result.now ≡ item_fields kind }
@@ -253,6 +286,8 @@ pub fn item_field_names(kind: Kind) -> &'static [Named]
         Kind::Acl => &access_control::ITEM_FIELDS,
         Kind::Labels => &user_label::ITEM_FIELDS,
         Kind::Bench => &bench::ITEM_FIELDS,
+        Kind::GroupKeyMap => &group_key_management::MAP_ITEM_FIELDS,
+        Kind::KeySets => &group_key_management::SET_FIELDS,
         _ => &[],
     }
 }

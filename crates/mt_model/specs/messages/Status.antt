@@ -15,6 +15,7 @@ code_of statuses.UnsupportedAttribute = 0x86
 code_of statuses.ConstraintError = 0x87
 code_of statuses.UnsupportedWrite = 0x88
 code_of statuses.ResourceExhausted = 0x89
+code_of statuses.NotFound = 0x8b
 code_of statuses.InvalidDataType = 0x8d
 code_of statuses.DataVersionMismatch = 0x92
 code_of statuses.Timeout = 0x94

@@ -21,7 +21,7 @@ stands_at place row = same_place row.place place
 abbrev pub version_in : List Version → ℕ → ℕ → ℕ
 version_in versions endpoint cluster = unwrap_or (option_map (λ (v : Version). v.version) (find (λ (v : Version). v.endpoint == endpoint && v.cluster == cluster) versions)) 0
 
--- whether the attribute is the access control list, the list of NOCs, or the bench list
+-- whether the attribute is the access control list, the list of NOCs, or the bench list, and whether the place is that of the group key sets
 abbrev pub is_acl : Place → Bool
 is_acl place = place.cluster == 0x1f && place.leaf == 0
 
@@ -31,17 +31,21 @@ is_nocs place = place.cluster == 0x3e && place.leaf == 0
 abbrev pub is_bench_list : Place → Bool
 is_bench_list place = place.cluster == 0xfff1fc00 && place.leaf == 0
 
--- Which fields of an item are sensitive: of an access control entry all but 254, the fabric index; of
+abbrev pub is_key_sets : Place → Bool
+is_key_sets place = place.cluster == 0x3f && place.leaf == 0xfff10000
+
+-- Which fields of an item are sensitive: of an access control entry and of a group key set all but 254, the fabric index; of
 -- a NOC item the certificates; of a bench item the secret.
 abbrev pub is_sensitive_field : Place → ℕ → Bool
 is_sensitive_field place field =
     if is_acl place then not (field == 254)
     else if is_nocs place then field == 1 || field == 2
+    else if is_key_sets place then not (field == 254)
     else is_bench_list place && field == 2
 
 abbrev pub is_sensitive : Place → Tag → Bool
 is_sensitive place (Context field) = is_sensitive_field place field
-is_sensitive place tag = is_acl place
+is_sensitive place tag = is_acl place || is_key_sets place
 
 -- the members that are not sensitive, in their order
 abbrev pub bare_elements : Place → Elements → Elements

@@ -20,6 +20,12 @@ stored_places =
     ∷ record { endpoint = 0; cluster = 0x31; leaf = 4 }  -- Network Commissioning: InterfaceEnabled
     ∷ record { endpoint = 0; cluster = 0x31; leaf = 5 }  -- LastNetworkingStatus
     ∷ record { endpoint = 0; cluster = 0x31; leaf = 6 }  -- LastNetworkID
+    ∷ record { endpoint = 0; cluster = 0x3c; leaf = 0 }  -- Administrator Commissioning: WindowStatus
+    ∷ record { endpoint = 0; cluster = 0x3c; leaf = 1 }  -- AdminFabricIndex
+    ∷ record { endpoint = 0; cluster = 0x3c; leaf = 2 }  -- AdminVendorId
+    ∷ record { endpoint = 0; cluster = 0x3c; leaf = 0xfff10000 }  -- WindowEnd
+    ∷ record { endpoint = 0; cluster = 0x3f; leaf = 0 }  -- Group Key Management: GroupKeyMap
+    ∷ record { endpoint = 0; cluster = 0x3f; leaf = 0xfff10000 }  -- the key sets, which are no attribute's
     ∷ record { endpoint = 1; cluster = 0x06; leaf = 0 }  -- On/Off: OnOff
     ∷ record { endpoint = 1; cluster = 0x1e; leaf = 0 }  -- Binding: Binding
     ∷ record { endpoint = 1; cluster = 0x41; leaf = 0 }  -- User Label: LabelList

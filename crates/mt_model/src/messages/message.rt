@@ -274,6 +274,12 @@ pub enum Reply {
         command: Place,
         code: u8,
     },
+    /// The status of a command that failed for a reason that its cluster has a code for.
+    InvokeClusterStatus {
+        command: Place,
+        code: u8,
+        cluster: u8,
+    },
     /// No message.
     Nothing,
 }

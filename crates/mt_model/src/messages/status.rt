@@ -17,6 +17,7 @@ pub enum Status {
     ConstraintError = 0x87,
     UnsupportedWrite = 0x88,
     ResourceExhausted = 0x89,
+    NotFound = 0x8b,
     InvalidDataType = 0x8d,
     DataVersionMismatch = 0x92,
     Timeout = 0x94,

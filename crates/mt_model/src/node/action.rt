@@ -1,7 +1,7 @@
 //! What the node is asked to do, and what an answer makes of it, as data.
 
 ghost use Rattle.std.specs.Prelude.{◌≡◌};
-ghost use Rattle.mt_model.specs.messages.Effects.{answered_with, refused_at};
+ghost use Rattle.mt_model.specs.messages.Effects.{answered_with, failed_with, refused_at};
 
 use crate::listed::Listed;
 use crate::messages::message::{Reply, Request};
@@ -151,6 +151,20 @@ impl Effect {
         ensures { result ≡ refused_at command.now status }
     {
         Effect::answered_with(command, status, Steps::new(alloc))
+    }
+
+    /// The command fails with FAILURE and this code of its cluster, and nothing changes. It takes no memory.
+    pub fn failed_with(alloc: Global, command: &Place, reason: u8) -> Effect
+        ensures { result ≡ failed_with command.now reason }
+    {
+        Effect {
+            reply: Reply::InvokeClusterStatus {
+                command: *command,
+                code: Status::Failure.code(),
+                cluster: reason,
+            },
+            steps: Steps::new(alloc),
+        }
     }
 }
 

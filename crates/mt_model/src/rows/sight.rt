@@ -5,7 +5,7 @@ ghost use Rattle.mt_tlv.specs.View.{elements};
 ghost use Rattle.mt_model.specs.texts.Config.{ascend_from};
 ghost use Rattle.mt_model.specs.rows.Order.{fabrics_ascend};
 ghost use Rattle.mt_model.specs.rows.Shown.{shown_items, shown_value};
-ghost use Rattle.mt_model.specs.rows.Sight.{bare_elements, bare_value, is_acl, is_bench_list, is_nocs, is_sensitive, is_sensitive_field, seen_by, version_in};
+ghost use Rattle.mt_model.specs.rows.Sight.{bare_elements, bare_value, is_acl, is_bench_list, is_key_sets, is_nocs, is_sensitive, is_sensitive_field, seen_by, version_in};
 ghost use Rattle.mt_model.specs.declared.tables.access.AclEntry.{AclEntry};
 ghost use Rattle.mt_model.specs.declared.rows.place.Place.{Place};
 ghost use Rattle.mt_model.specs.declared.rows.place.Row.{Row};
@@ -128,7 +128,7 @@ fn is_sensitive(place: &Place, tag: Tag) -> bool
 {
     match tag {
         Tag::Context(field) => is_sensitive_field(place, field),
-        _ => is_acl(place),
+        _ => is_acl(place) || is_key_sets(place),
     }
 }
 
@@ -140,6 +140,9 @@ fn is_sensitive_field(place: &Place, field: u8) -> bool
     }
     if is_nocs(place) {
         return field == 1 || field == 2;
+    }
+    if is_key_sets(place) {
+        return field != FABRIC_INDEX;
     }
     is_bench_list(place) && field == 2
 }
@@ -163,4 +166,10 @@ fn is_bench_list(place: &Place) -> bool
     ensures { result ≡ is_bench_list place.now }
 {
     place.cluster == 0xfff1_fc00 && place.leaf == 0
+}
+
+fn is_key_sets(place: &Place) -> bool
+    ensures { result ≡ is_key_sets place.now }
+{
+    place.cluster == 0x3f && place.leaf == 0xfff1_0000
 }

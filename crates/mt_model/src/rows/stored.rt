@@ -30,7 +30,7 @@ macro_rules! at {
 }
 
 // The places whose rows are stored, ascending.
-static STORED_PLACES: [Place; 12] = [
+static STORED_PLACES: [Place; 18] = [
     // Basic Information: NodeLabel and Location.
     at!(0, 0x28, 5),
     at!(0, 0x28, 6),
@@ -41,6 +41,14 @@ static STORED_PLACES: [Place; 12] = [
     at!(0, 0x31, 4),
     at!(0, 0x31, 5),
     at!(0, 0x31, 6),
+    // Administrator Commissioning: WindowStatus, AdminFabricIndex, AdminVendorId and WindowEnd.
+    at!(0, 0x3c, 0),
+    at!(0, 0x3c, 1),
+    at!(0, 0x3c, 2),
+    at!(0, 0x3c, 0xfff1_0000),
+    // Group Key Management: GroupKeyMap, and the key sets, which are no attribute's.
+    at!(0, 0x3f, 0),
+    at!(0, 0x3f, 0xfff1_0000),
     // On/Off: OnOff.
     at!(1, 0x06, 0),
     // Binding: Binding.
@@ -52,7 +60,7 @@ static STORED_PLACES: [Place; 12] = [
     at!(1, 0xfff1_fc00, 1),
 ];
 
-/// The places whose rows are stored, ascending: those of the table of clusters.
+/// The places whose rows are stored, ascending: those of the table of clusters, and that of the group key sets.
 pub fn stored_places() -> &'static [Place]
     ensures { result.now ≡ stored_places }
 {

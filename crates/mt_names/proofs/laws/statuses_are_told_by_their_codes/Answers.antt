@@ -18,6 +18,7 @@ told statuses.UnsupportedAttribute = refl
 told statuses.ConstraintError = refl
 told statuses.UnsupportedWrite = refl
 told statuses.ResourceExhausted = refl
+told statuses.NotFound = refl
 told statuses.InvalidDataType = refl
 told statuses.DataVersionMismatch = refl
 told statuses.Timeout = refl

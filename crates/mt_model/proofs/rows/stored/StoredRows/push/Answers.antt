@@ -1,8 +1,11 @@
 use Rattle.std.proofs.Common.{◌≡◌, ◌∙◌, ◌++◌, ◌∷◌, [], List, true, refl, sym, ap, subst}
 use Rattle.mt_model.specs.rows.Order.{are_ascending}
 use Rattle.mt_model.specs.declared.rows.place.Row.{Row}
-use Rattle.mt_model.proofs.Stored.{added_through, kept_added, kept_same}
+use Rattle.mt_model.proofs.Stored.{added_through, kept_added, kept_same, stored_found}
 use Rattle.mt_model.proofs.rows.stored.StoredRows.push.Goals as goal
+
+pub returns-in_default : goal.returns-in_default
+returns-in_default c = absurd (stored_found c.self.inside.places c.args.row.place c.self.invariant c.requires.stored (sym c.in_default.ensures.value))
 
 pub invariant_of-self-in_err-push : goal.invariant_of-self-in_err-push
 invariant_of-self-in_err-push c =
