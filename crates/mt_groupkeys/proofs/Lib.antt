@@ -1,0 +1,4 @@
+pub mod Tagged
+pub mod Found
+pub mod Kept
+pub mod Steps
