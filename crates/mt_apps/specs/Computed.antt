@@ -11,6 +11,7 @@ use Rattle.mt_meta.specs.clusters.AccessControl as access_control
 use Rattle.mt_meta.specs.clusters.BasicInformation as basic_information
 use Rattle.mt_meta.specs.clusters.Descriptor as descriptor
 use Rattle.mt_meta.specs.clusters.GeneralCommissioning as general_commissioning
+use Rattle.mt_meta.specs.clusters.GroupKeyManagement as group_key_management
 use Rattle.mt_meta.specs.clusters.NetworkCommissioning as network_commissioning
 use Rattle.mt_meta.specs.clusters.OperationalCredentials as operational_credentials
 use Rattle.mt_apps.specs.AccessControl.{access_control_value, entry_row}
@@ -18,6 +19,7 @@ use Rattle.mt_apps.specs.BasicInformation.{basic_information_value}
 use Rattle.mt_apps.specs.Descriptor.{descriptor_value}
 use Rattle.mt_apps.specs.GeneralCommissioning.{general_commissioning_value}
 use Rattle.mt_apps.specs.Globals.{global_value}
+use Rattle.mt_apps.specs.GroupKeyManagement.{group_key_management_value}
 use Rattle.mt_apps.specs.NetworkCommissioning.{network_commissioning_value}
 use Rattle.mt_apps.specs.OperationalCredentials.{fabric_row, is_fabrics, noc_row, operational_credentials_value}
 use Rattle.mt_apps.specs.Parts.{Parts}
@@ -32,6 +34,7 @@ particular_value parts place =
     else if place.cluster == general_commissioning.cluster then general_commissioning_value place.leaf
     else if place.cluster == network_commissioning.cluster then network_commissioning_value parts.networks place.leaf
     else if place.cluster == operational_credentials.cluster then operational_credentials_value parts place.leaf
+    else if place.cluster == group_key_management.cluster then group_key_management_value place.leaf
     else None
 
 -- a global attribute, or one of the cluster's own

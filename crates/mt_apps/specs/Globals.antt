@@ -3,14 +3,18 @@ use Rattle.std.specs.Prelude.{ℕ, ◌==◌, List, Option, Some, None, map, if�
 use Rattle.mt_tlv.specs.declared.value.Value.{Value}
 use Rattle.mt_tlv.specs.declared.value.Value.TheVariants as values
 use Rattle.mt_meta.specs.Table.{all_attributes_of, commands_of, responses_of}
+use Rattle.mt_meta.specs.clusters.AdministratorCommissioning as administrator_commissioning
 use Rattle.mt_meta.specs.clusters.NetworkCommissioning as network_commissioning
 use Rattle.mt_meta.specs.declared.rows.AttributeRow.{AttributeRow}
 use Rattle.mt_meta.specs.declared.rows.CommandRow.{CommandRow}
 use Rattle.mt_apps.specs.Parts.{numbers}
 
--- Network Commissioning has Wi-Fi, no other cluster has a feature
+-- Network Commissioning has Wi-Fi, Administrator Commissioning has basic windows, and no other cluster has a feature
 abbrev pub features_of : ℕ → ℕ
-features_of cluster = if cluster == network_commissioning.cluster then 1 else 0
+features_of cluster =
+    if cluster == network_commissioning.cluster then 1
+    else if cluster == administrator_commissioning.cluster then 1
+    else 0
 
 abbrev pub command_numbers : ℕ → List ℕ
 command_numbers cluster = map (λ (row : CommandRow). row.number) (commands_of cluster)

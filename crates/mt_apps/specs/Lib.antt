@@ -7,6 +7,7 @@ pub mod Descriptor
 pub mod EntryEvents
 pub mod GeneralCommissioning
 pub mod Globals
+pub mod GroupKeyManagement
 pub mod Lists
 pub mod Members
 pub mod NetworkCommissioning

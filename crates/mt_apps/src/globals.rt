@@ -5,7 +5,7 @@ ghost use Rattle.mt_apps.specs.Globals.{attribute_numbers, command_numbers, feat
 ghost use Rattle.mt_apps.specs.Parts.{numbers};
 
 use crate::arrays::array_of;
-use mt_meta::clusters::NETWORK_COMMISSIONING;
+use mt_meta::clusters::{ADMINISTRATOR_COMMISSIONING, NETWORK_COMMISSIONING};
 use mt_meta::{
     ACCEPTED_COMMAND_LIST, ATTRIBUTE_LIST, CLUSTER_REVISION, FEATURE_MAP, GENERATED_COMMAND_LIST,
     attributes_of, commands_of, extensions_of, globals, responses_of,
@@ -55,9 +55,9 @@ fn attribute_numbers(alloc: Global, cluster: u32) -> Result<Value, AllocError>
 fn features_of(cluster: u32) -> u64
     ensures { result ≡ features_of cluster }
 {
-    if cluster == NETWORK_COMMISSIONING {
-        1
-    } else {
-        0
+    match cluster {
+        NETWORK_COMMISSIONING => 1,
+        ADMINISTRATOR_COMMISSIONING => 1,
+        _ => 0,
     }
 }

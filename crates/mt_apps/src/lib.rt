@@ -6,7 +6,7 @@
 //! - `shown`: what of them is shown to a fabric;
 //! - `globals`: the attributes that every cluster has;
 //! - `descriptor`, `access_control`, `basic_information`, `general_commissioning`,
-//!   `network_commissioning`, `operational_credentials`: those of each cluster's own;
+//!   `group_key_management`, `network_commissioning`, `operational_credentials`: those of each cluster's own;
 //! - `commands`: what commands come to, by cluster: `on_off`, `bench`;
 //! - `events`: the events of the access control list;
 //! - `lists`: lists of which each item is a fabric's;
@@ -23,6 +23,7 @@ mod descriptor;
 mod events;
 mod general_commissioning;
 mod globals;
+mod group_key_management;
 mod laws;
 mod lists;
 mod network_commissioning;

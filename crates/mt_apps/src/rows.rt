@@ -9,12 +9,13 @@ use crate::basic_information::basic_information_value;
 use crate::descriptor::descriptor_value;
 use crate::general_commissioning::general_commissioning_value;
 use crate::globals::global_value;
+use crate::group_key_management::group_key_management_value;
 use crate::lists::{FabricList, list_rows};
 use crate::network_commissioning::network_commissioning_value;
 use crate::operational_credentials::{Fabrics, Nocs, operational_credentials_value};
 use mt_meta::clusters::{
-    ACCESS_CONTROL, BASIC_INFORMATION, DESCRIPTOR, GENERAL_COMMISSIONING, NETWORK_COMMISSIONING,
-    OPERATIONAL_CREDENTIALS,
+    ACCESS_CONTROL, BASIC_INFORMATION, DESCRIPTOR, GENERAL_COMMISSIONING, GROUP_KEY_MANAGEMENT,
+    NETWORK_COMMISSIONING, OPERATIONAL_CREDENTIALS,
 };
 use mt_model::{Place, Row, Rows, View};
 use mt_tlv::Value;
@@ -80,6 +81,7 @@ fn particular_value(alloc: Global, view: &View, place: &Place) -> Result<Option<
         GENERAL_COMMISSIONING => general_commissioning_value(alloc, place.leaf),
         NETWORK_COMMISSIONING => network_commissioning_value(alloc, view.networks, place.leaf),
         OPERATIONAL_CREDENTIALS => operational_credentials_value(alloc, view, place.leaf),
+        GROUP_KEY_MANAGEMENT => Ok(group_key_management_value(place.leaf)),
         _ => Ok(None),
     }
 }

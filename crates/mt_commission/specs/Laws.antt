@@ -4,7 +4,7 @@ use Rattle.std.specs.List.{list_all}
 use Rattle.mt_tlv.specs.View.{tree}
 use Rattle.mt_tlv.specs.declared.value.Value.{Value}
 use Rattle.mt_meta.specs.Fields.{has_fields}
-use Rattle.mt_meta.specs.Finding.{find_of}
+use Rattle.mt_meta.specs.Finding.{find_data_of}
 use Rattle.mt_meta.specs.Forms.{has_form}
 use Rattle.mt_meta.specs.Stored.{is_stored}
 use Rattle.mt_meta.specs.Table.{command_fields}
@@ -36,7 +36,7 @@ is_there networks id = is_some (place_among networks id)
 -- one, and there are at most four; the fail-safe is armed once, only who has armed it renews it and lets it expire, and only the fabric
 -- for which commissioning goes on completes it.
 abbrev pub is_sound_step : List Network → Option Armed → ℕ → NodeStep → Bool
-is_sound_step networks armed actor (SetRow place fabric values) = is_sound_row (is_stored place) fabric values (find_of place)
+is_sound_step networks armed actor (SetRow place fabric values) = is_sound_row (is_stored place) fabric values (find_data_of place)
 is_sound_step networks armed actor (PutNetwork id secret) = has_up_to NETWORK_ID_BYTES id && (nat_le (length secret) NETWORK_SECRET_BYTES && (is_there networks id || nat_lt (length networks) NETWORKS))
 is_sound_step networks armed actor (RemoveNetwork id) = is_there networks id
 is_sound_step networks armed actor (ConnectNetwork id) = is_there networks id

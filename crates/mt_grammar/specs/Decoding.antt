@@ -1,20 +1,22 @@
 -- What a map keeps, read key by key.
-use Rattle.std.specs.Prelude.{ℕ, List, [], ◌∷◌, ◌++◌, Option, Some, None, if◌then◌else◌}
+use Rattle.std.specs.Prelude.{ℕ, List, [], ◌∷◌, ◌++◌, Option, Some, None, Result, Ok, Err, if◌then◌else◌}
 use Rattle.mt_tlv.specs.Tree.{Tree}
 use Rattle.mt_tlv.specs.View.{tree}
 use Rattle.mt_tlv.specs.declared.value.Value.{Value}
 use Rattle.mt_durable.specs.declared.durable.Entry.{Entry}
 use Rattle.mt_model.specs.rows.Order.{row_at}
+use Rattle.mt_model.specs.declared.messages.status.Status.{Status}
 use Rattle.mt_model.specs.declared.rows.place.Place.{Place}
 use Rattle.mt_model.specs.declared.rows.place.Row.{Row}
 use Rattle.mt_model.specs.declared.tables.access.AclEntry.{AclEntry}
 use Rattle.mt_model.specs.declared.tables.fabric.Fabric.{Fabric}
 use Rattle.mt_model.specs.declared.tables.network.Armed.{Armed}
 use Rattle.mt_model.specs.declared.tables.network.Network.{Network}
-use Rattle.mt_meta.specs.declared.rows.AttributeRow.{AttributeRow}
+use Rattle.mt_meta.specs.Finding.{find_data_of}
+use Rattle.mt_meta.specs.declared.meta.Meta.{Meta}
 use Rattle.mt_grammar.specs.Fields.{number_in}
 use Rattle.mt_grammar.specs.Keys.{key_in}
-use Rattle.mt_grammar.specs.Values.{armed_in, entries_in, fabric_in, greatest_boot, greatest_ceiling, has_items, is_acl, items_in, may_stand, networks_in, roots_in, table_row}
+use Rattle.mt_grammar.specs.Values.{armed_in, entries_in, fabric_in, greatest_boot, greatest_ceiling, has_items, is_acl, items_in, may_stand, networks_in, roots_in}
 use Rattle.mt_grammar.specs.declared.keys.Key.{Key}
 use Rattle.mt_grammar.specs.declared.keys.Key.TheVariants as keys
 use Rattle.mt_grammar.specs.declared.kept.MapContents.{MapContents}
@@ -44,14 +46,15 @@ with_entries kept (Some entries) = Some (record kept { entries = kept.entries ++
 abbrev pub with_single : MapContents → Place → Value → Option MapContents
 with_single kept place value = if may_stand place value then with_rows kept (Some (row_at place 0 value ∷ [])) else None
 
-abbrev pub with_items_in : MapContents → ℕ → Place → Tree → Option AttributeRow → Option MapContents
-with_items_in kept fabric place tree None = None
-with_items_in kept fabric place tree (Some row) = if has_items row.meta
-    then (if is_acl row.meta.kind then with_entries kept (entries_in fabric tree) else with_rows kept (items_in place fabric row.meta tree))
+abbrev pub with_items_in : MapContents → ℕ → Place → Tree → Result Meta Status → Option MapContents
+with_items_in kept fabric place tree (Err status) = None
+with_items_in kept fabric place tree (Ok meta) = if has_items meta
+    then (if is_acl meta.kind then with_entries kept (entries_in fabric tree) else with_rows kept (items_in place fabric meta tree))
     else None
 
+-- the items of an attribute, or the group key sets, which no path names
 abbrev pub with_items : MapContents → ℕ → Place → Tree → Option MapContents
-with_items kept fabric place tree = with_items_in kept fabric place tree (table_row place)
+with_items kept fabric place tree = with_items_in kept fabric place tree (find_data_of place)
 
 abbrev pub with_fabric : MapContents → Option Fabric → Option MapContents
 with_fabric kept None = None

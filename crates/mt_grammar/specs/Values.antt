@@ -41,9 +41,9 @@ greatest_boot = 0x80000000
 abbrev pub greatest_ceiling : ℕ
 greatest_ceiling = 0x4000000000000000
 
--- 03 and 04: the attributes that are kept.
+-- 03 and 04: the attributes that are kept, and the group key sets.
 
--- the row of the table for an attribute that is there; none that every cluster has is kept
+-- the row of the table for an attribute that is there; none that every cluster has is kept, nor one above those
 abbrev pub table_row : Place → Option AttributeRow
 table_row place = if is_ok (find_of place) then row_in (attributes_of place.cluster) place.leaf else None
 
@@ -56,7 +56,7 @@ is_acl kind = false
 abbrev pub is_single : Meta → Bool
 is_single meta = meta.kept && (not meta.scoped && not (is_acl meta.kind))
 
--- kept, with items of each fabric, which are rows or entries
+-- kept, with items of each fabric, which are rows or entries; key sets are such items, too
 abbrev pub has_items : Meta → Bool
 has_items meta = meta.kept && meta.scoped
 

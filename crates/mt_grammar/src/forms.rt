@@ -13,8 +13,8 @@ ghost use Rattle.mt_grammar.specs.Values.{is_acl};
 use crate::fields::are_untagged;
 use crate::items::is_kept_item;
 use mt_meta::{Kind, Meta, fields_of};
-use mt_model::is_utf8;
 use mt_model::limits::NETWORK_ID_BYTES;
+use mt_model::{is_key_set, is_utf8};
 use mt_rules::has_up_to;
 use mt_tlv::{Tag, Value};
 
@@ -34,6 +34,8 @@ pub(crate) fn has_form(meta: &Meta, fabric: u8, value: &Value) -> bool
         Kind::Labels => are_labels(meta.limit, value),
         Kind::Binding => is_binding(fabric, value),
         Kind::Bench => is_bench(fabric, value),
+        Kind::GroupKeyMap => is_mapped(fabric, value),
+        Kind::KeySets => is_set(fabric, value),
         Kind::Null
         | Kind::Numbers
         | Kind::Structure
@@ -42,7 +44,8 @@ pub(crate) fn has_form(meta: &Meta, fabric: u8, value: &Value) -> bool
         | Kind::Networks
         | Kind::Nocs
         | Kind::Fabrics
-        | Kind::Roots => false,
+        | Kind::Roots
+        | Kind::GroupTable => false,
     }
 }
 
@@ -150,4 +153,23 @@ fn is_bench(fabric: u8, value: &Value) -> bool
     ensures { (least limit : ℕ) → result ≡ is_of_kind kinds.Bench least limit fabric value.now }
 {
     is_kept_item(fields_of(Kind::Bench), fabric, value)
+}
+
+fn is_mapped(fabric: u8, value: &Value) -> bool
+    ensures { (least limit : ℕ) → result ≡ is_of_kind kinds.GroupKeyMap least limit fabric value.now }
+{
+    is_kept_item(fields_of(Kind::GroupKeyMap), fabric, value)
+}
+
+// Group key sets.
+
+fn is_set(fabric: u8, value: &Value) -> bool
+    ensures { (least limit : ℕ) → result ≡ is_of_kind kinds.KeySets least limit fabric value.now }
+{
+    match value {
+        Value::Struct(members) => {
+            is_key_set(members.as_slice()) && is_kept_item(fields_of(Kind::KeySets), fabric, value)
+        },
+        _ => false,
+    }
 }

@@ -1,6 +1,6 @@
 //! What a map of durable state keeps, read key by key.
 
-ghost use Rattle.std.specs.Prelude.{◌≡◌, ◌++◌, IfOk, Some};
+ghost use Rattle.std.specs.Prelude.{◌≡◌, ◌++◌, IfOk, Ok};
 ghost use Rattle.mt_tlv.specs.View.{tree};
 ghost use Rattle.mt_grammar.specs.Decoding.{kept_in, nothing, with_boot, with_ceiling, with_entries, with_entry, with_fabric, with_failsafe, with_items, with_items_in, with_networks, with_roots, with_rows, with_single, with_value};
 ghost use Rattle.mt_grammar.specs.Fields.{number_in};
@@ -12,9 +12,9 @@ use crate::failsafe::armed_in;
 use crate::fields::number_in;
 use crate::keys::{Key, key_in};
 use crate::networks::{networks_in, roots_in};
-use crate::rows::{has_items, is_acl, items_in, may_stand, table_row};
+use crate::rows::{has_items, is_acl, items_in, may_stand};
 use mt_durable::{Durable, Entry};
-use mt_meta::AttributeRow;
+use mt_meta::{Meta, find_data};
 use mt_model::{AclEntries, Armed, Fabrics, Listed, Networks, Place, Roots, Row};
 use mt_tlv::Value;
 use std::alloc::{AllocError, Global};
@@ -165,9 +165,9 @@ fn with_items(
 ) -> Result<Option<MapContents>, AllocError>
     ensures { IfOk result (λ next. next ≡ with_items kept fabric place.now (tree value.now)) }
 {
-    match table_row(place) {
-        Some(row) => with_items_in(alloc, kept, fabric, place, value, row),
-        None => Ok(None),
+    match find_data(place) {
+        Ok(meta) => with_items_in(alloc, kept, fabric, place, value, &meta),
+        Err(_) => Ok(None),
     }
 }
 
@@ -177,17 +177,17 @@ fn with_items_in(
     fabric: u8,
     place: &Place,
     value: &Value,
-    row: &AttributeRow,
+    meta: &Meta,
 ) -> Result<Option<MapContents>, AllocError>
-    ensures { IfOk result (λ next. next ≡ with_items_in kept fabric place.now (tree value.now) (Some row.now)) }
+    ensures { IfOk result (λ next. next ≡ with_items_in kept fabric place.now (tree value.now) (Ok meta.now)) }
 {
-    if !has_items(&row.meta) {
+    if !has_items(meta) {
         return Ok(None);
     }
-    if is_acl(row.meta.kind) {
+    if is_acl(meta.kind) {
         return with_entries(kept, entries_in(alloc, fabric, value)?);
     }
-    with_rows(kept, items_in(alloc, place, fabric, &row.meta, value)?)
+    with_rows(kept, items_in(alloc, place, fabric, meta, value)?)
 }
 
 fn with_entries(

@@ -1,4 +1,4 @@
-//! Values and items of attributes that are kept.
+//! Values of attributes that are kept, and items of lists and group key sets.
 
 ghost use Rattle.std.specs.Prelude.{◌≡◌, ◌∷◌, [], false, Some, IfOk, bytes_eq, is_ok, option_copied};
 ghost use Rattle.mt_tlv.specs.Tree as trees;
@@ -19,8 +19,8 @@ use mt_rules::each;
 use mt_tlv::{Tag, Value};
 use std::alloc::{AllocError, Global};
 
-/// The row of the table for an attribute that is there; none that every cluster has is kept.
-pub(crate) fn table_row(place: &Place) -> Option<&'static AttributeRow>
+// The row of the table for an attribute that is there; none that every cluster has is kept, nor one above those.
+fn table_row(place: &Place) -> Option<&'static AttributeRow>
     ensures { option_copied result ≡ table_row place.now }
 {
     if is_there(place) {
@@ -57,7 +57,7 @@ fn is_single(meta: &Meta) -> bool
     meta.kept && !meta.scoped && !is_acl(meta.kind)
 }
 
-/// Whether items of an attribute are kept, which are rows or entries.
+/// Whether items are kept, which are rows or entries.
 pub(crate) fn has_items(meta: &Meta) -> bool
     ensures { result ≡ has_items meta.now }
 {

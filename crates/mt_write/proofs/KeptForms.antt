@@ -106,6 +106,9 @@ value-form kinds.Bool least limit fabric (forms.Octets fewest most) v fits typed
 value-form kinds.Bool least limit fabric forms.Subjects v fits typed within = absurd cc
 value-form kinds.Bool least limit fabric forms.Targets v fits typed within = absurd cc
 value-form kinds.Bool least limit fabric forms.FabricIndex v fits typed within = absurd cc
+value-form kinds.Bool least limit fabric (forms.NullableUint greatest) v fits typed within = absurd cc
+value-form kinds.Bool least limit fabric (forms.NullableOctets fewest most) v fits typed within = absurd cc
+value-form kinds.Bool least limit fabric forms.Structure v fits typed within = absurd cc
 value-form kinds.Uint least limit fabric forms.Bool v fits typed within = absurd cc
 value-form kinds.Uint least limit fabric (forms.Uint greatest) v fits typed within = uint-value least limit fabric greatest v fits typed
 value-form kinds.Uint least limit fabric (forms.Text fewest most) v fits typed within = absurd cc
@@ -113,6 +116,9 @@ value-form kinds.Uint least limit fabric (forms.Octets fewest most) v fits typed
 value-form kinds.Uint least limit fabric forms.Subjects v fits typed within = absurd cc
 value-form kinds.Uint least limit fabric forms.Targets v fits typed within = absurd cc
 value-form kinds.Uint least limit fabric forms.FabricIndex v fits typed within = absurd cc
+value-form kinds.Uint least limit fabric (forms.NullableUint greatest) v fits typed within = absurd cc
+value-form kinds.Uint least limit fabric (forms.NullableOctets fewest most) v fits typed within = absurd cc
+value-form kinds.Uint least limit fabric forms.Structure v fits typed within = absurd cc
 value-form kinds.Uint32 least limit fabric forms.Bool v fits typed within = absurd cc
 value-form kinds.Uint32 least limit fabric (forms.Uint greatest) v fits typed within = uint32-value least limit fabric greatest v fits typed
 value-form kinds.Uint32 least limit fabric (forms.Text fewest most) v fits typed within = absurd cc
@@ -120,6 +126,9 @@ value-form kinds.Uint32 least limit fabric (forms.Octets fewest most) v fits typ
 value-form kinds.Uint32 least limit fabric forms.Subjects v fits typed within = absurd cc
 value-form kinds.Uint32 least limit fabric forms.Targets v fits typed within = absurd cc
 value-form kinds.Uint32 least limit fabric forms.FabricIndex v fits typed within = absurd cc
+value-form kinds.Uint32 least limit fabric (forms.NullableUint greatest) v fits typed within = absurd cc
+value-form kinds.Uint32 least limit fabric (forms.NullableOctets fewest most) v fits typed within = absurd cc
+value-form kinds.Uint32 least limit fabric forms.Structure v fits typed within = absurd cc
 value-form kinds.NullableUint least limit fabric form v fits typed within = absurd cc
 value-form kinds.NullableOctets least limit fabric form v fits typed within = absurd cc
 value-form kinds.Null least limit fabric form v fits typed within = absurd cc
@@ -132,6 +141,9 @@ value-form kinds.Text least limit fabric (forms.Octets fewest most) v fits typed
 value-form kinds.Text least limit fabric forms.Subjects v fits typed within = absurd cc
 value-form kinds.Text least limit fabric forms.Targets v fits typed within = absurd cc
 value-form kinds.Text least limit fabric forms.FabricIndex v fits typed within = absurd cc
+value-form kinds.Text least limit fabric (forms.NullableUint greatest) v fits typed within = absurd cc
+value-form kinds.Text least limit fabric (forms.NullableOctets fewest most) v fits typed within = absurd cc
+value-form kinds.Text least limit fabric forms.Structure v fits typed within = absurd cc
 value-form kinds.Numbers least limit fabric form v fits typed within = absurd cc
 value-form kinds.Structure least limit fabric form v fits typed within = absurd cc
 value-form kinds.DeviceTypes least limit fabric form v fits typed within = absurd cc
@@ -143,6 +155,9 @@ value-form kinds.Fabrics least limit fabric form v fits typed within = absurd cc
 value-form kinds.Roots least limit fabric form v fits typed within = absurd cc
 value-form kinds.Labels least limit fabric form v fits typed within = absurd cc
 value-form kinds.Bench least limit fabric form v fits typed within = absurd cc
+value-form kinds.GroupKeyMap least limit fabric form v fits typed within = absurd cc
+value-form kinds.GroupTable least limit fabric form v fits typed within = absurd cc
+value-form kinds.KeySets least limit fabric form v fits typed within = absurd cc
 
 pub impossible : {A : Type 0} → false ≡ true → A
 impossible h = absurd cc
@@ -260,6 +275,11 @@ module _ (tree_value : (t : Tree) → tree (value_of t) ≡ t) where
   unfolding fields_of
   bench-item least limit fabric t v typed found =
       kept-struct (fields_of kinds.Bench) fabric t v (λ w. is_of_kind kinds.Bench least limit fabric w ≡ true) typed found (λ es types within. itself fabric es (fields_of kinds.Bench) refl types within)
+
+  pub map-item : (least limit fabric : ℕ) (t : Tree) (v : Value) → is_item (fields_of kinds.GroupKeyMap) t ≡ true → kept_item (fields_of kinds.GroupKeyMap) fabric t ≡ Some v → is_of_kind kinds.GroupKeyMap least limit fabric v ≡ true
+  unfolding fields_of
+  map-item least limit fabric t v typed found =
+      kept-struct (fields_of kinds.GroupKeyMap) fabric t v (λ w. is_of_kind kinds.GroupKeyMap least limit fabric w ≡ true) typed found (λ es types within. itself fabric es (fields_of kinds.GroupKeyMap) refl types within)
 
   pub binding-item : (least limit fabric : ℕ) (t : Tree) (v : Value) → is_item (fields_of kinds.Binding) t ≡ true → kept_item (fields_of kinds.Binding) fabric t ≡ Some v → is_of_kind kinds.Binding least limit fabric v ≡ true
   unfolding fields_of

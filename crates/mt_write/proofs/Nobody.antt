@@ -3,7 +3,7 @@ use Rattle.std.proofs.Common.{◌≡◌, ◌∙◌, ◌&&◌, ◌||◌, ◌==◌
 use Rattle.std.specs.Result.{result_unwrap_or}
 use Rattle.std.proofs.lemmas.Bool.{and_parts, not_from_false}
 use Rattle.mt_acl.specs.Access.{is_granted, is_granted_if_asked, is_over_pase}
-use Rattle.mt_meta.specs.Finding.{find_of, of_found, privilege_of}
+use Rattle.mt_meta.specs.Finding.{find_data_of, find_of, of_found, privilege_of}
 use Rattle.mt_meta.specs.Stored.{is_stored}
 use Rattle.mt_meta.specs.Writable.{fits_found, takes_of, takes_rightly}
 use Rattle.mt_meta.specs.declared.finding.Asked.TheVariants.{Write}
@@ -41,7 +41,7 @@ allowed-nobody : (seen : Seen) (actor : Actor) (place : Place) (asked : Option P
 allowed-nobody seen actor place None zero none writable may = impossible (sym writable)
 allowed-nobody seen actor place (Some asked) zero none writable may = granted-nobody seen.entries actor place asked (is_scoped (find_of place)) zero none may
 
-row-unscoped : (place : Place) (fabric : ℕ) (rows : Result (List Value) Status) → is_scoped (find_of place) ≡ false → Passes is_unscoped_step (row_step place fabric rows)
+row-unscoped : (place : Place) (fabric : ℕ) (rows : Result (List Value) Status) → is_scoped (find_data_of place) ≡ false → Passes is_unscoped_step (row_step place fabric rows)
 row-unscoped place fabric (Err status) unscoped = record { is = refl }
 row-unscoped place fabric (Ok rows) unscoped = record { is = not_from_false _ unscoped }
 
@@ -50,7 +50,7 @@ no-entries : (b : Bool) (x y : Result NodeStep Status) → (b ≡ true → false
 no-entries true x y never passes = impossible (never refl)
 no-entries false x y never passes = passes
 
-module _ (law : (place : Place) → is_ok (find_of place) ≡ true → takes_rightly place ≡ true) (seen : Seen) (actor : Actor) (zero : actor.fabric ≡ 0) (none : seen.entries ≡ []) where
+module _ (law : (place : Place) → is_ok (find_of place) ≡ true → takes_rightly place ≡ true) (known : (place : Place) (meta : Meta) → find_of place ≡ Ok meta → find_data_of place ≡ Ok meta) (seen : Seen) (actor : Actor) (zero : actor.fabric ≡ 0) (none : seen.entries ≡ []) where
   unscoped-at : (place : Place) (meta : Meta) → find_of place ≡ Ok meta → may_write seen actor place ≡ true → is_none meta.write ≡ false → is_scoped (find_of place) ≡ false
   unscoped-at place meta there may writable =
       let asked : privilege_of place Write ≡ meta.write = ap (λ (r : Result Meta Status). result_unwrap_or (of_found (λ (m : Meta). m.write) r) (Some View)) there in
@@ -64,8 +64,8 @@ module _ (law : (place : Place) → is_ok (find_of place) ≡ true → takes_rig
       let fits : fits_found (is_stored place) (Ok meta) (takes_of place) ≡ true = subst (λ r. fits_found (is_stored place) r (takes_of place) ≡ true) there (law place (ap is_ok there)) in
       no-entries (is_entry_list meta.kind) (entries_written item meta actor.fabric (entries_now actor.fabric steps seen.entries)) (rows_written item place meta own (rows_now place own steps (own_values own (seen.rows_at place))))
       (λ acl. sym unscoped ∙ ap is_scoped there ∙ (and_parts meta.scoped (meta.limit == 4) (entry-list (is_stored place) meta (takes_of place) acl writable fits)).0)
-      (row-unscoped place own _ unscoped)
+      (row-unscoped place own _ (ap is_scoped (known place meta there) ∙ (sym (ap is_scoped there) ∙ unscoped)))
 
-pub nobody_sets_scoped : ((place : Place) → is_ok (find_of place) ≡ true → takes_rightly place ≡ true) → NobodySetsScoped
-nobody_sets_scoped law seen actor items timed zero none =
-    each_passes is_unscoped_step seen actor timed (λ steps before item place meta there may writable. step-unscoped law seen actor zero none steps item place meta there may writable) items
+pub nobody_sets_scoped : ((place : Place) → is_ok (find_of place) ≡ true → takes_rightly place ≡ true) → ((place : Place) (meta : Meta) → find_of place ≡ Ok meta → find_data_of place ≡ Ok meta) → NobodySetsScoped
+nobody_sets_scoped law known seen actor items timed zero none =
+    each_passes is_unscoped_step seen actor timed (λ steps before item place meta there may writable. step-unscoped law known seen actor zero none steps item place meta there may writable) items

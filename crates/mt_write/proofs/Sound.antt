@@ -22,7 +22,7 @@ use Rattle.mt_model.specs.declared.messages.message.WriteItem.{WriteItem}
 use Rattle.mt_model.specs.declared.rows.place.Place.{Place}
 use Rattle.mt_model.specs.declared.messages.status.Status.{Status}
 use Rattle.mt_model.specs.declared.messages.status.Status.TheVariants.{InvalidDataType, ConstraintError}
-use Rattle.mt_meta.specs.Finding.{find_of}
+use Rattle.mt_meta.specs.Finding.{find_data_of, find_of}
 use Rattle.mt_meta.specs.Forms.{has_form, is_label_item, is_of_kind}
 use Rattle.mt_meta.specs.Stored.{is_stored}
 use Rattle.mt_meta.specs.Table.{fields_of}
@@ -40,7 +40,7 @@ use Rattle.mt_write.specs.Items.{is_append, kept_item}
 use Rattle.mt_write.specs.Latest.{entries_now, entries_set, latest, row_set, rows_now}
 use Rattle.mt_write.specs.Laws.{IsSoundSight, LeavesSound, are_as_many, are_entries_of, is_entry_of, is_sound_row, is_sound_step}
 use Rattle.mt_write.specs.Writing.{array_with, entries_step, entries_written, fabric_of, is_entry_list, list_with, members_of, new_rows, own_values, row_step, rows_with, rows_written, staying, written_at}
-use Rattle.mt_write.proofs.KeptForms.{and-both, and-true, bench-item, choose-false, choose-true, binding-item, impossible, label-item, value-form}
+use Rattle.mt_write.proofs.KeptForms.{and-both, and-true, bench-item, map-item, choose-false, choose-true, binding-item, impossible, label-item, value-form}
 use Rattle.mt_write.proofs.KeptLists.{labels-form, list-all, members-form}
 use Rattle.mt_write.proofs.Steps.{Passes, each_passes}
 
@@ -121,6 +121,12 @@ module _ (tree_value : (t : Tree) → tree (value_of t) ≡ t) where
       scoped-sound stored meta fabric index value there xs
       (subst (λ (k : Kind). (t : Tree) (x : Value) → is_item (fields_of k) t ≡ true → kept_item (fields_of k) fabric t ≡ Some x → is_of_kind k meta.least meta.limit fabric x ≡ true) (sym kind) (bench-item tree_value meta.least meta.limit fabric))
       fits all few h
+  rows-with-sound stored meta kinds.GroupKeyMap fabric index value there xs kind fits other nobodys all few h =
+      scoped-sound stored meta fabric index value there xs
+      (subst (λ (k : Kind). (t : Tree) (x : Value) → is_item (fields_of k) t ≡ true → kept_item (fields_of k) fabric t ≡ Some x → is_of_kind k meta.least meta.limit fabric x ≡ true) (sym kind) (map-item tree_value meta.least meta.limit fabric))
+      fits all few h
+  rows-with-sound stored meta kinds.GroupTable fabric index value there xs kind fits other nobodys all few h = impossible fits
+  rows-with-sound stored meta kinds.KeySets fabric index value there xs kind fits other nobodys all few h = impossible fits
 
   value-step : (a t w : Bool) (v : Value) (xs : List Value) → ◌≡◌ {A = Result (List Value) Status} (if a || not t then Err InvalidDataType else if not w then Err ConstraintError else Ok (v ∷ [])) (Ok xs) → (t ≡ true) × (w ≡ true) × (v ∷ [] ≡ xs)
   value-step true t w v xs h = absurd cc
@@ -226,6 +232,9 @@ acl-no-form kinds.Fabrics least limit form acl fits = acl
 acl-no-form kinds.Roots least limit form acl fits = acl
 acl-no-form kinds.Labels least limit form acl fits = acl
 acl-no-form kinds.Bench least limit form acl fits = acl
+acl-no-form kinds.GroupKeyMap least limit form acl fits = acl
+acl-no-form kinds.GroupTable least limit form acl fits = acl
+acl-no-form kinds.KeySets least limit form acl fits = acl
 
 acl-list : (stored scoped : Bool) (limit : ℕ) (kind : Kind) → is_entry_list kind ≡ true → fits_list stored scoped limit kind ≡ true → (scoped && limit == 4) ≡ true
 acl-list stored scoped limit kinds.Bool acl fits = impossible acl
@@ -246,6 +255,9 @@ acl-list stored scoped limit kinds.Fabrics acl fits = impossible acl
 acl-list stored scoped limit kinds.Roots acl fits = impossible acl
 acl-list stored scoped limit kinds.Labels acl fits = impossible acl
 acl-list stored scoped limit kinds.Bench acl fits = impossible acl
+acl-list stored scoped limit kinds.GroupKeyMap acl fits = impossible acl
+acl-list stored scoped limit kinds.GroupTable acl fits = impossible acl
+acl-list stored scoped limit kinds.KeySets acl fits = impossible acl
 
 list-stored : (stored scoped : Bool) (limit : ℕ) (kind : Kind) → is_entry_list kind ≡ false → fits_list stored scoped limit kind ≡ true → stored ≡ true
 list-stored stored scoped limit kinds.Bool other fits = impossible fits
@@ -266,6 +278,9 @@ list-stored stored scoped limit kinds.Fabrics other fits = impossible fits
 list-stored stored scoped limit kinds.Roots other fits = impossible fits
 list-stored stored scoped limit kinds.Labels other fits = (and-both stored (not scoped) fits).0
 list-stored stored scoped limit kinds.Bench other fits = (and-both stored scoped fits).0
+list-stored stored scoped limit kinds.GroupKeyMap other fits = (and-both stored scoped fits).0
+list-stored stored scoped limit kinds.GroupTable other fits = impossible fits
+list-stored stored scoped limit kinds.KeySets other fits = impossible fits
 
 pub entry-list : (stored : Bool) (meta : Meta) (taken : Option Takes) → is_entry_list meta.kind ≡ true → is_none meta.write ≡ false → fits_found stored (Ok meta) taken ≡ true → (meta.scoped && meta.limit == 4) ≡ true
 entry-list stored meta None acl writable fits = impossible fits
@@ -304,14 +319,14 @@ set-step : {X : Type 0} (fine : X → Type 0) (b : Bool) (set stored : X) (found
 set-step fine true set stored found here before = here refl
 set-step fine false set stored found here before = before
 
-module _ (place : Place) (meta : Meta) (there : find_of place ≡ Ok meta) (fabric : ℕ) (stored : List Value) where
+module _ (place : Place) (meta : Meta) (there : find_data_of place ≡ Ok meta) (fabric : ℕ) (stored : List Value) where
   record Fine (values : List Value) : Type 0 where
     form : list_all (has_form meta fabric) values ≡ true
     few : meta.scoped ≡ true → nat_le (length values) meta.limit ≡ true
 
-  row-fine : (at : Place) (whose : ℕ) (values : List Value) → same_place at place ≡ true → (whose == fabric) ≡ true → is_sound_row (is_stored at) whose values (find_of at) ≡ true → Fine values
+  row-fine : (at : Place) (whose : ℕ) (values : List Value) → same_place at place ≡ true → (whose == fabric) ≡ true → is_sound_row (is_stored at) whose values (find_data_of at) ≡ true → Fine values
   row-fine at whose values same own is =
-      let here : is_sound_row (is_stored place) whose values (find_of place) ≡ true = subst (λ p. is_sound_row (is_stored p) whose values (find_of p) ≡ true) (place-same at place same) is in
+      let here : is_sound_row (is_stored place) whose values (find_data_of place) ≡ true = subst (λ p. is_sound_row (is_stored p) whose values (find_data_of p) ≡ true) (place-same at place same) is in
       let found : is_sound_row (is_stored place) whose values (Ok meta) ≡ true = subst (λ r. is_sound_row (is_stored place) whose values r ≡ true) there here in
       let its : is_sound_row (is_stored place) fabric values (Ok meta) ≡ true = subst (λ n. is_sound_row (is_stored place) n values (Ok meta) ≡ true) (eqb-true whose fabric own) found in
       let both = and-both (is_stored place) (list_all (has_form meta fabric) values && are_as_many meta values) its in
@@ -390,7 +405,7 @@ entries-step-sound : (fabric : ℕ) (r : Result (List AclEntry) Status) → ((xs
 entries-step-sound fabric (Err status) each = record { is = refl }
 entries-step-sound fabric (Ok xs) each = record { is = each xs refl }
 
-row-step-sound : (place : Place) (fabric : ℕ) (r : Result (List Value) Status) → ((xs : List Value) → r ≡ Ok xs → is_sound_row (is_stored place) fabric xs (find_of place) ≡ true) → Passes is_sound_step (row_step place fabric r)
+row-step-sound : (place : Place) (fabric : ℕ) (r : Result (List Value) Status) → ((xs : List Value) → r ≡ Ok xs → is_sound_row (is_stored place) fabric xs (find_data_of place) ≡ true) → Passes is_sound_step (row_step place fabric r)
 row-step-sound place fabric (Err status) each = record { is = refl }
 row-step-sound place fabric (Ok xs) each = record { is = each xs refl }
 
@@ -403,7 +418,7 @@ nobodys : (b : Bool) (fabric : ℕ) → b ≡ false → (if b then fabric else 0
 nobodys true fabric is = impossible (sym is)
 nobodys false fabric is = refl
 
-module _ (law : (place : Place) → is_ok (find_of place) ≡ true → takes_rightly place ≡ true) (tree_value : (t : Tree) → tree (value_of t) ≡ t) (seen : Seen) (actor : Actor) (sight : IsSoundSight seen actor) (steps : List NodeStep) (before : list_all is_sound_step steps ≡ true) (item : WriteItem) (place : Place) where
+module _ (law : (place : Place) → is_ok (find_of place) ≡ true → takes_rightly place ≡ true) (known : (place : Place) (meta : Meta) → find_of place ≡ Ok meta → find_data_of place ≡ Ok meta) (tree_value : (t : Tree) → tree (value_of t) ≡ t) (seen : Seen) (actor : Actor) (sight : IsSoundSight seen actor) (steps : List NodeStep) (before : list_all is_sound_step steps ≡ true) (item : WriteItem) (place : Place) where
   fits : (meta : Meta) → find_of place ≡ Ok meta → fits_found (is_stored place) (Ok meta) (takes_of place) ≡ true
   fits meta there = subst (λ r. fits_found (is_stored place) r (takes_of place) ≡ true) there (law place (ap is_ok there))
 
@@ -421,8 +436,9 @@ module _ (law : (place : Place) → is_ok (find_of place) ≡ true → takes_rig
       let own = fabric_of actor meta in
       let kept = rows-stored (is_stored place) meta (takes_of place) other writable (fits meta there) in
       let stored = own_values own (seen.rows_at place) in
-      let now = rows-now place meta there own stored steps before (record { form = sight.rows place meta there kept; few = sight.few place meta there kept }) in
-      row-step-sound place own _ (λ xs h. subst (λ r. is_sound_row (is_stored place) own xs r ≡ true) (sym there)
+      let data_there = known place meta there in
+      let now = rows-now place meta data_there own stored steps before (record { form = sight.rows place meta data_there kept; few = sight.few place meta data_there kept }) in
+      row-step-sound place own _ (λ xs h. subst (λ r. is_sound_row (is_stored place) own xs r ≡ true) (sym data_there)
       (new-rows-sound tree_value (is_stored place) meta (takes_of place) own item.path.index item.value (rows_now place own steps stored) xs (fits meta there) other (nobodys meta.scoped actor.fabric) now.form now.few h))
 
   found-sound : (meta : Meta) → find_of place ≡ Ok meta → is_none meta.write ≡ false → Passes is_sound_step (written_at seen actor steps item place (Ok meta))
@@ -431,6 +447,6 @@ module _ (law : (place : Place) → is_ok (find_of place) ≡ true → takes_rig
       (rows_written item place meta (fabric_of actor meta) (rows_now place (fabric_of actor meta) steps (own_values (fabric_of actor meta) (seen.rows_at place))))
       (entries-case meta there writable) (rows-case meta there writable)
 
-pub leaves_sound : ((place : Place) → is_ok (find_of place) ≡ true → takes_rightly place ≡ true) → ((t : Tree) → tree (value_of t) ≡ t) → LeavesSound
-leaves_sound law tree_value seen actor items timed sight =
-    each_passes is_sound_step seen actor timed (λ steps before item place meta there may writable. found-sound law tree_value seen actor sight steps before item place meta there writable) items
+pub leaves_sound : ((place : Place) → is_ok (find_of place) ≡ true → takes_rightly place ≡ true) → ((place : Place) (meta : Meta) → find_of place ≡ Ok meta → find_data_of place ≡ Ok meta) → ((t : Tree) → tree (value_of t) ≡ t) → LeavesSound
+leaves_sound law known tree_value seen actor items timed sight =
+    each_passes is_sound_step seen actor timed (λ steps before item place meta there may writable. found-sound law known tree_value seen actor sight steps before item place meta there writable) items

@@ -2,7 +2,7 @@
 use Rattle.std.specs.Prelude.{◌≡◌, ◌↔◌, ◌==◌, not, Bool, true, false, List, [], Some, Err, IsTrue, if◌then◌else◌, ◌&&◌, ℕ, nat_le, Result, Ok, length}
 use Rattle.std.specs.List.{list_all, list_any}
 use Rattle.mt_acl.specs.Access.{implicit_grants, own_entry_grants}
-use Rattle.mt_meta.specs.Finding.{find_of, privilege_of}
+use Rattle.mt_meta.specs.Finding.{find_data_of, find_of, privilege_of}
 use Rattle.mt_meta.specs.Forms.{has_form}
 use Rattle.mt_meta.specs.Stored.{is_stored}
 use Rattle.mt_meta.specs.declared.meta.Meta.{Meta}
@@ -24,7 +24,7 @@ use Rattle.mt_write.specs.Writing.{fabric_of, is_scoped, item_step, own_values, 
 
 -- a step sets what is the asker's own, or nobody's where a place is not scoped, or tells the asker's fabric of something
 abbrev pub is_own_step : Actor → NodeStep → Bool
-is_own_step actor (SetRow place fabric values) = fabric == (if is_scoped (find_of place) then actor.fabric else 0)
+is_own_step actor (SetRow place fabric values) = fabric == (if is_scoped (find_data_of place) then actor.fabric else 0)
 is_own_step actor (SetEntries fabric entries) = fabric == actor.fabric
 is_own_step actor (Emit place priority fabric value) = fabric == actor.fabric
 is_own_step actor step = false
@@ -34,7 +34,7 @@ TouchesItsOwn = (seen : Seen) (actor : Actor) (items : List WriteItem) (timed : 
 
 -- a step sets the row of a place that is not scoped, or sets nothing
 abbrev pub is_unscoped_step : NodeStep → Bool
-is_unscoped_step (SetRow place fabric values) = not (is_scoped (find_of place))
+is_unscoped_step (SetRow place fabric values) = not (is_scoped (find_data_of place))
 is_unscoped_step (Emit place priority fabric value) = true
 is_unscoped_step step = false
 
@@ -74,15 +74,15 @@ abbrev pub are_entries_of : ℕ → List AclEntry → Bool
 are_entries_of fabric entries = list_all (is_entry_of fabric) entries && nat_le (length entries) ENTRIES
 
 abbrev pub is_sound_step : NodeStep → Bool
-is_sound_step (SetRow place fabric values) = is_sound_row (is_stored place) fabric values (find_of place)
+is_sound_step (SetRow place fabric values) = is_sound_row (is_stored place) fabric values (find_data_of place)
 is_sound_step (SetEntries fabric entries) = are_entries_of fabric entries
 is_sound_step (Emit place priority fabric value) = true
 is_sound_step step = false
 
 -- What the writer's fabric sees is its own in its form, and no more than it may have.
 pub record IsSoundSight (seen : Seen) (actor : Actor) : Type 0 where
-  pub rows : (place : Place) (meta : Meta) → find_of place ≡ Ok meta → is_stored place ≡ true → list_all (has_form meta (fabric_of actor meta)) (own_values (fabric_of actor meta) (seen.rows_at place)) ≡ true
-  pub few : (place : Place) (meta : Meta) → find_of place ≡ Ok meta → is_stored place ≡ true → meta.scoped ≡ true → nat_le (length (own_values (fabric_of actor meta) (seen.rows_at place))) meta.limit ≡ true
+  pub rows : (place : Place) (meta : Meta) → find_data_of place ≡ Ok meta → is_stored place ≡ true → list_all (has_form meta (fabric_of actor meta)) (own_values (fabric_of actor meta) (seen.rows_at place)) ≡ true
+  pub few : (place : Place) (meta : Meta) → find_data_of place ≡ Ok meta → is_stored place ≡ true → meta.scoped ≡ true → nat_le (length (own_values (fabric_of actor meta) (seen.rows_at place))) meta.limit ≡ true
   pub entries : are_entries_of actor.fabric seen.entries ≡ true
 
 abbrev pub LeavesSound : Type 0

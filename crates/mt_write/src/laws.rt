@@ -3,20 +3,23 @@
 
 ghost use Rattle.mt_write.specs.Laws.{DeniesWritesExactly, LeavesSound, NobodySetsScoped, TouchesItsOwn};
 
-use mt_meta::writable_attributes_take_something;
+use mt_meta::{attributes_are_data, writable_attributes_take_something};
 use mt_tlv::values_are_trees;
 
 /// A write touches what is the writer's own, and at places that are not fabric-scoped what is nobody's:
 /// each of its steps sets rows or entries of the writer's fabric, or the row of such a place.
 pub fn writes_touch_their_own()
     ensures { TouchesItsOwn }
-{}
+{
+    attributes_are_data();
+}
 
 /// A writer of no fabric, for whom no entry stands, as whoever commissions the node over PASE before it has
 /// a fabric, sets rows of places that are not fabric-scoped, and nothing else.
 pub fn nobody_writes_scoped()
     ensures { NobodySetsScoped }
 {
+    attributes_are_data();
     writable_attributes_take_something();
 }
 
@@ -34,6 +37,7 @@ pub fn write_denials_are_exact()
 pub fn writes_keep_forms()
     ensures { LeavesSound }
 {
+    attributes_are_data();
     writable_attributes_take_something();
     values_are_trees();
 }

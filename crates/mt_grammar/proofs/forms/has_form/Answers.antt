@@ -27,3 +27,9 @@ returns-in-Binding c = rw c.in-Binding.is (c.is_binding.ensures c.args.meta.now.
 
 pub returns-in-Bench : goal.returns-in-Bench
 returns-in-Bench c = rw c.in-Bench.is (c.is_bench.ensures c.args.meta.now.least c.args.meta.now.limit)
+
+pub returns-in-GroupKeyMap : goal.returns-in-GroupKeyMap
+returns-in-GroupKeyMap c = rw c.in-GroupKeyMap.is (c.is_mapped.ensures c.args.meta.now.least c.args.meta.now.limit)
+
+pub returns-in-KeySets : goal.returns-in-KeySets
+returns-in-KeySets c = rw c.in-KeySets.is (c.is_set.ensures c.args.meta.now.least c.args.meta.now.limit)
