@@ -29,4 +29,5 @@ with_none (replies.Subscribed id ceiling) = refl
 with_none (replies.Written items) = refl
 with_none (replies.Invoked command fields) = refl
 with_none (replies.InvokeStatus command code) = refl
+with_none (replies.InvokeClusterStatus command code cluster) = refl
 with_none replies.Nothing = refl

@@ -1,5 +1,5 @@
 -- What an action leaves of the events of fabrics that don't ask, and where nothing is told.
-use Rattle.std.proofs.Common.{◌≡◌, ℕ, ◌==◌, is_some, if◌then◌else◌, Bool, true, false, List, [], ◌∷◌, Option, Some, None, Result, Ok, Err, refl, ap, sym, ◌∙◌}
+use Rattle.std.proofs.Common.{◌≡◌, ℕ, ◌==◌, is_some, if◌then◌else◌, Bool, true, false, List, [], ◌∷◌, ◌++◌, Option, Some, None, Result, Ok, Err, refl, ap, sym, ◌∙◌}
 use Rattle.std.specs.List.{list_all}
 use Rattle.std.proofs.lemmas.Bool.{both_ways, cond-false, eqb-false}
 use Rattle.mt_failsafe.specs.Notes.{was_added}
@@ -12,11 +12,12 @@ use Rattle.mt_model.specs.declared.node.action.NodeStep.TheVariants as steps
 use Rattle.mt_model.specs.declared.node.state.NodeState.{NodeState}
 use Rattle.mt_model.specs.declared.tables.access.Actor.{Actor}
 use Rattle.mt_model.specs.declared.tables.network.Armed.{Armed}
+use Rattle.mt_admin.specs.Windows.{closed, has_ended, number_at, window_end}
 use Rattle.mt_machine.specs.Effects.{events_in}
 use Rattle.mt_machine.specs.Environment.{Environment}
 use Rattle.mt_machine.specs.Lines.{action_of}
 use Rattle.mt_machine.specs.Rollback.{added_in, is_due}
-use Rattle.mt_machine.specs.Step.{after_action, after_steps, asked_steps, asker, asker_of, at_time, gone_between, steps_of}
+use Rattle.mt_machine.specs.Step.{after_action, after_steps, asked_steps, asker, asker_of, at_time, gone_between, rows_of_nobody, steps_of, tick_steps}
 use Rattle.mt_machine.specs.Telling.{is_told_as, joined_between, leaving_events, told_between}
 use Rattle.mt_machine.specs.Touching.{StaysThere}
 use Rattle.mt_ledger.specs.history.Behind.{history_behind}
@@ -69,12 +70,14 @@ keeps_others given fabric s h actor asking asked deadline now told is apart ther
 
 -- A time step tells that a fabric leaves, and nothing else.
 
-due_told : (due : Bool) → list_all (is_told_as None) (if due then steps.Expire ∷ [] else []) ≡ true
-due_told true = refl
-due_told false = refl
+due_told : (due ended : Bool) → list_all (is_told_as None) ((if due then steps.Expire ∷ [] else []) ++ (if ended then closed else [])) ≡ true
+due_told true true = refl
+due_told true false = refl
+due_told false true = refl
+due_told false false = refl
 
-pub ticks_told : (s : NodeState) (now : ℕ) → list_all (is_told_as None) (if is_due s.armed now then steps.Expire ∷ [] else []) ≡ true
-ticks_told s now = due_told (is_due s.armed now)
+pub ticks_told : (s : NodeState) (now : ℕ) → list_all (is_told_as None) (tick_steps s now) ≡ true
+ticks_told s now = due_told (is_due s.armed now) (has_ended now (number_at (rows_of_nobody s) window_end))
 
 not_added : (fabric : ℕ) (armed : Option Armed) (due : Bool) → was_added fabric armed ≡ false → is_that fabric (if due then added_in armed else None) ≡ false
 not_added fabric None true added = refl
@@ -84,7 +87,7 @@ not_added fabric armed false added = refl
 pub ticks_spare : (given : Environment) (fabric : ℕ) (s : NodeState) (h : History) (now : ℕ) → gone_between s.fabrics (after_action given s actions.Expire now).fabrics ≡ (if is_due s.armed now then added_in s.armed else None) → was_added fabric s.armed ≡ false
     → own_events fabric (history_behind given s actions.Expire now h) ≡ own_events fabric h
 ticks_spare given fabric s h now gone added =
-    keeps_events fabric now None (if is_due s.armed now then steps.Expire ∷ [] else []) s (after_action given s actions.Expire now) h (ticks_told s now)
+    keeps_events fabric now None (tick_steps s now) s (after_action given s actions.Expire now) h (ticks_told s now)
     (λ somebody same. eqb-false fabric 0 somebody same)
     (ap (λ (g : Option ℕ). is_that fabric g) gone ∙ not_added fabric s.armed (is_due s.armed now) added)
     (λ some. absurd (both_ways false refl some))

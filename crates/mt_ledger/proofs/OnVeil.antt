@@ -1,5 +1,5 @@
 -- What an action leaves of a fabric's own events on its veil.
-use Rattle.std.proofs.Common.{◌≡◌, ℕ, ◌==◌, ◌&&◌, not, is_some, if◌then◌else◌, Bool, true, false, List, [], ◌∷◌, Option, Some, None, Result, filter, refl, ap, sym, ◌∙◌, inl, inr}
+use Rattle.std.proofs.Common.{◌≡◌, ℕ, ◌==◌, ◌&&◌, not, is_some, if◌then◌else◌, Bool, true, false, List, [], ◌∷◌, ◌++◌, Option, Some, None, Result, filter, refl, ap, sym, ◌∙◌, inl, inr}
 use Rattle.std.specs.List.{list_any}
 use Rattle.std.proofs.lemmas.Bool.{both_ways, cases_Bool, or_cases}
 use Rattle.mt_fabrics.specs.Table.{has_index}
@@ -12,6 +12,7 @@ use Rattle.mt_model.specs.declared.node.action.NodeStep.TheVariants as steps
 use Rattle.mt_model.specs.declared.node.state.NodeState.{NodeState}
 use Rattle.mt_model.specs.declared.tables.access.Actor.{Actor}
 use Rattle.mt_opcreds.specs.Laws.{KeepsRules}
+use Rattle.mt_admin.specs.Windows.{closed, has_ended, number_at, window_end}
 use Rattle.mt_machine.specs.Effects.{events_in}
 use Rattle.mt_machine.specs.Environment.{Environment}
 use Rattle.mt_machine.specs.Isolation.{Own, OwnOfWhole, own, veil}
@@ -20,14 +21,14 @@ use Rattle.mt_machine.specs.Leaving.{has_left}
 use Rattle.mt_machine.specs.Lines.{action_of}
 use Rattle.mt_machine.specs.Rollback.{is_due}
 use Rattle.mt_machine.specs.State.{IsValid, is_member}
-use Rattle.mt_machine.specs.Step.{after_action, after_steps, asker, asker_of, at_time, gone_between, steps_of}
+use Rattle.mt_machine.specs.Step.{after_action, asker, asker_of, gone_between, rows_of_nobody, steps_of, tick_steps}
 use Rattle.mt_machine.specs.Telling.{joined_between, told_between}
 use Rattle.mt_ledger.specs.history.Behind.{history_behind}
 use Rattle.mt_ledger.specs.history.History.{History, IsHistory, recorded_all, without_left}
 use Rattle.mt_ledger.specs.history.Isolation.{own_events, veiled_history}
 use Rattle.mt_ledger.proofs.Recording.{Alike, all_alike, left_alike}
 use Rattle.mt_ledger.proofs.Rings.{nobodys, own_again, veiled_many}
-use Rattle.mt_ledger.proofs.EventsTold.{gone_left, none_gone, own_told}
+use Rattle.mt_ledger.proofs.EventsTold.{gone_left, own_told}
 
 -- Whether a fabric is in the table, its own part says.
 
@@ -116,34 +117,24 @@ module _ (keeps_own : laws.KeepsItsOwnPart) (leaves_own : laws.ActionsLeaveTheOw
 
 -- A time step.
 
-no_events : (due : Bool) → events_in (if due then steps.Expire ∷ [] else []) ≡ []
-no_events true = refl
-no_events false = refl
+no_events : (due ended : Bool) → events_in ((if due then steps.Expire ∷ [] else []) ++ (if ended then closed else [])) ≡ []
+no_events true true = refl
+no_events true false = refl
+no_events false true = refl
+no_events false false = refl
 
-abbrev due_steps : Bool → List NodeStep
-due_steps due = if due then steps.Expire ∷ [] else []
+none_told : (s : NodeState) (now : ℕ) → events_in (tick_steps s now) ≡ []
+none_told s now = no_events (is_due s.armed now) (has_ended now (number_at (rows_of_nobody s) window_end))
 
-module _ (left_is_gone : laws.LeftIsGone) (fabric now : ℕ) (t : NodeState) where
-  -- by a time step at most one fabric leaves, of whatever state
-  one_due : (due : Bool) → has_left t (after_steps None (due_steps due) (at_time now t)) fabric ≡ is_that fabric (gone_between t.fabrics (after_steps None (due_steps due) (at_time now t)).fabrics)
-  one_due true = left_is_gone fabric None steps.Expire (at_time now t)
-  one_due false = none_left (is_member fabric t) ∙ ap (λ (g : Option ℕ). is_that fabric g) (sym (none_gone t.fabrics))
-    where
-      none_left : (b : Bool) → (b && not b) ≡ false
-      none_left true = refl
-      none_left false = refl
-
-pub ticks_leave : laws.KeepsItsOwnPart → laws.TicksOnTheVeil → laws.LeftIsGone → (given : Environment) (fabric : ℕ) (s : NodeState) (h : History) (now : ℕ) → IsValid s → IsHistory h
+pub ticks_leave : laws.KeepsItsOwnPart → laws.TicksOnTheVeil → laws.TicksTakeOne → (given : Environment) (fabric : ℕ) (s : NodeState) (h : History) (now : ℕ) → IsValid s → IsHistory h
     → own_events fabric (history_behind given (veil fabric s) Expire now (veiled_history fabric h)) ≡ own_events fabric (history_behind given s Expire now h)
-ticks_leave keeps_own ticks left_is_gone given fabric s h now valid is =
+ticks_leave keeps_own ticks one given fabric s h now valid is =
     let veiled = veil fabric s in
-    let due = is_due s.armed now in
-    let veiled_due = is_due veiled.armed now in
     let after = after_action given s Expire now in
     let veiled_after = after_action given veiled Expire now in
     let behind : own fabric veiled_after ≡ own fabric after = ap (λ (o : OwnOfWhole). o.node) (ticks given fabric (record { node = s; deadlines = [] }) now valid) in
-    left_on_veil fabric now h is None None (due_steps due) (due_steps veiled_due) s after veiled veiled_after
+    left_on_veil fabric now h is None None (tick_steps s now) (tick_steps veiled now) s after veiled veiled_after
     (λ some. absurd (both_ways false refl some))
     (λ some. absurd (both_ways false refl some))
-    (no_events veiled_due ∙ sym (no_events due))
-    (sym (one_due left_is_gone fabric now veiled veiled_due) ∙ left_same fabric veiled s veiled_after after (keeps_own fabric s valid) behind ∙ one_due left_is_gone fabric now s due)
+    (none_told veiled now ∙ sym (none_told s now))
+    (sym (one given veiled now fabric) ∙ left_same fabric veiled s veiled_after after (keeps_own fabric s valid) behind ∙ one given s now fabric)

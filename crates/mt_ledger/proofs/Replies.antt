@@ -56,7 +56,7 @@ module _ (keeps_own : laws.KeepsItsOwnPart) (given : Environment) (h : History) 
       let veiled = veil asking.fabric s in
       let hidden = veiled_history asking.fabric h in
       let replied : NodeState → History → Option Actor → Reply = λ t k whom. with_events (events_for t k whom request) (asked_reply given t request deadline now whom) in
-      let seen : Observation → Reply = λ o. if is_late deadline now then refusal (code_of Timeout) else reply_to given o asking (is_some deadline) request in
+      let seen : Observation → Reply = λ o. if is_late deadline now then refusal (code_of Timeout) else reply_to given (record o { clock = now }) asking (is_some deadline) request in
       ap (λ (whom : Option Actor). replied veiled hidden whom) on_veil
       ∙ (λ i. with_events (told_same s valid asking request i) (seen (sees asking.fabric s valid i)))
       ∙ ap (λ (whom : Option Actor). replied s h whom) (sym on_state)

@@ -1,13 +1,16 @@
 -- What whoever asks makes of a valid state: its fabric is in the table, or it has none and sets nothing that is scoped.
 use Rattle.mt_meta.specs.Places.{all_places}
 use Rattle.mt_model.specs.rows.Setting.{is_at}
-use Rattle.std.proofs.Common.{◌≡◌, ℕ, ◌≤◌, ◌^◌, inl, inr, Bool, true, false, not, ◌&&◌, ◌||◌, ◌==◌, nat_le, nat_lt, List, [], ◌∷◌, length, Option, Some, None, Ok, is_some, refl, sym, ap, ◌∙◌, subst, filter, map, if◌then◌else◌, arith, suc}
+use Rattle.std.proofs.Common.{◌≡◌, ℕ, ◌≤◌, ◌^◌, inl, inr, Bool, true, false, not, ◌&&◌, ◌||◌, ◌==◌, nat_le, nat_lt, List, [], ◌∷◌, ◌++◌, length, Option, Some, None, Ok, is_some, refl, sym, ap, ◌∙◌, subst, filter, map, if◌then◌else◌, arith, suc}
 use Rattle.std.proofs.lemmas.Bool.{and_from, and_parts, cases_Bool, eqb-true, leb-true, lt-ltb, or_cases, or_left, or_right, cond_both, le-leb, le-ltb}
 use Rattle.std.proofs.lemmas.List.Sums.{length-filter}
 use Rattle.std.specs.List.{count_by, find, list_all, list_any}
 use Rattle.std.specs.Option.{option_and_then, option_map}
 use Rattle.mt_tlv.specs.declared.value.Value.{Value}
-use Rattle.mt_meta.specs.Finding.{find_of}
+use Rattle.mt_meta.specs.Finding.{find_command_of, find_data_of}
+use Rattle.mt_meta.specs.clusters.AdministratorCommissioning as administrator_commissioning
+use Rattle.mt_meta.specs.clusters.GroupKeyManagement as group_key_management
+use Rattle.mt_meta.specs.declared.meta.CommandMeta.{CommandMeta}
 use Rattle.mt_meta.specs.Forms.{has_form}
 use Rattle.mt_meta.specs.Stored.{is_stored}
 use Rattle.mt_meta.specs.declared.meta.Meta.{Meta}
@@ -36,10 +39,12 @@ use Rattle.mt_model.specs.declared.node.state.Standing.{Standing}
 use Rattle.mt_model.specs.declared.node.state.Standing.TheVariants.{Waits, Live, Ended}
 use Rattle.mt_write.specs.Laws.{IsSoundSight, LeavesSound, NobodySetsScoped, TouchesItsOwn, are_entries_of, is_entry_of, is_own_step, is_sound_step, is_unscoped_step}
 use Rattle.mt_write.specs.Writing.{fabric_of, is_scoped, own_values, write_answer}
+use Rattle.mt_admin.specs.Commands as admin
 use Rattle.mt_apps.specs.Commands.{invoked}
 use Rattle.mt_commission.specs.Commands as commission
 use Rattle.mt_commission.specs.Laws.{StepsAreSound, StepsStandFirst}
 use Rattle.mt_commission.specs.Laws as commission_laws
+use Rattle.mt_groupkeys.specs.Commands as group_keys
 use Rattle.mt_opcreds.specs.Commands as credentials
 use Rattle.mt_opcreds.specs.Laws as credentials_laws
 use Rattle.mt_model.specs.tables.Known.{bare_armed, bare_network, known_to}
@@ -47,15 +52,20 @@ use Rattle.mt_opcreds.specs.Laws.{KeepsRules, StepsAreWellFormed, StepsFit, is_w
 use Rattle.mt_opcreds.specs.Moves.{IsMove, StepsAreMoves}
 use Rattle.mt_subs.specs.Changes.{IsChanges, newest_of, noted}
 use Rattle.mt_machine.specs.Changes.{differing, differs}
-use Rattle.mt_machine.specs.Commands.{command_effect, nobodys_rows}
+use Rattle.mt_machine.specs.Commands.{command_effect, nobodys_rows, of_others}
+use Rattle.mt_machine.specs.Commands as commands
 use Rattle.mt_machine.specs.Environment.{Environment}
 use Rattle.mt_machine.specs.Effects.{after, after_all}
 use Rattle.mt_machine.specs.Observation.{observation}
-use Rattle.mt_machine.specs.Rollback.{is_due}
+use Rattle.mt_machine.specs.Requests.{RequestLaws}
+use Rattle.mt_machine.specs.Rollback.{is_due, rollback}
 use Rattle.mt_machine.specs.State.{IsValid, is_among, is_plain_of, is_row, is_row_at, is_row_of, is_session, rows_of, stands_rightly, has_change}
 use Rattle.mt_machine.specs.Taking.{fits, may_take_all}
-use Rattle.mt_machine.specs.Step.{after_steps, asked_steps, asker, asker_of, asker_on, at_time, is_late, live_actor, pase_actor, plain_asker, steps_of, steps_to, with_events}
+use Rattle.mt_machine.specs.Step.{after_steps, asked_steps, asker, asker_of, asker_on, at_time, is_late, live_actor, pase_actor, plain_asker, steps_of, steps_to, window_steps, with_events}
 use Rattle.mt_machine.proofs.Carried.{command_by}
+use Rattle.mt_machine.proofs.Clusters.{admin_fits, admin_own, admin_sound, keys_pass}
+use Rattle.mt_machine.proofs.Windows.{windows_fit}
+use Rattle.mt_model.specs.declared.node.action.Effect.{Effect}
 use Rattle.mt_machine.proofs.Commands.{fitting_events, fitting_invoked, own_invoked}
 use Rattle.mt_machine.proofs.Good.{in_time, own_written, requested, with_its_events}
 use Rattle.mt_machine.proofs.Moving.{all_fit, all_well, moved_taken, sound_taken}
@@ -179,17 +189,17 @@ seen_as_whole true fabric n own = or_left _ _ own
 seen_as_whole false fabric n own = or_right _ _ own
 
 module _ (s : NodeState) (valid : IsValid s) (actor : Actor) where
-  row_form : (place : Place) (meta : Meta) → find_of place ≡ Ok meta → (row : Row) → stands_at place row ≡ true → is_row s.fabrics row ≡ true → has_form meta row.fabric row.value ≡ true
+  row_form : (place : Place) (meta : Meta) → find_data_of place ≡ Ok meta → (row : Row) → stands_at place row ≡ true → is_row s.fabrics row ≡ true → has_form meta row.fabric row.value ≡ true
   row_form place meta there row at is =
-      let found : find_of row.place ≡ Ok meta = ap find_of (place-same row.place place at) ∙ there in
-      let here : is_row_at s.fabrics row (find_of row.place) ≡ true = (and_parts _ _ is).1 in
+      let found : find_data_of row.place ≡ Ok meta = ap find_data_of (place-same row.place place at) ∙ there in
+      let here : is_row_at s.fabrics row (find_data_of row.place) ≡ true = (and_parts _ _ is).1 in
       let is_at : is_row_at s.fabrics row (Ok meta) ≡ true = subst (λ r. is_row_at s.fabrics row r ≡ true) found here in
       (and_parts (has_form meta row.fabric row.value) (is_row_of s.fabrics meta.scoped row.fabric) is_at).0
 
   rows_at : (place : Place) → is_stored place ≡ true → rows_of s place ≡ filter (stands_at place) s.rows
   rows_at place stored = rw stored refl
 
-  seen_forms : (place : Place) (meta : Meta) → find_of place ≡ Ok meta → is_stored place ≡ true
+  seen_forms : (place : Place) (meta : Meta) → find_data_of place ≡ Ok meta → is_stored place ≡ true
       → list_all (has_form meta (fabric_of actor meta)) (own_values (fabric_of actor meta) (map (seen_by actor.fabric) (in_order actor.fabric (rows_of s place)))) ≡ true
   seen_forms place meta there stored =
       let all : list_all (λ (row : Row). has_form meta row.fabric row.value) (filter (stands_at place) s.rows) ≡ true =
@@ -213,7 +223,7 @@ module _ (s : NodeState) (valid : IsValid s) (actor : Actor) where
             | inr elsewhere ↦ rw elsewhere rest
           ]
 
-  seen_few : (place : Place) (meta : Meta) → find_of place ≡ Ok meta → is_stored place ≡ true → meta.scoped ≡ true
+  seen_few : (place : Place) (meta : Meta) → find_data_of place ≡ Ok meta → is_stored place ≡ true → meta.scoped ≡ true
       → nat_le (length (own_values (fabric_of actor meta) (map (seen_by actor.fabric) (in_order actor.fabric (rows_of s place))))) meta.limit ≡ true
   seen_few place meta there stored scoped =
       let whose : fabric_of actor meta ≡ actor.fabric = subst (λ b. (if b then actor.fabric else 0) ≡ actor.fabric) (sym scoped) refl in
@@ -267,7 +277,7 @@ own_of fabrics false fabric own is among = is
 
 step_fits : (fabrics : List Fabric) (actor : Actor) (step : NodeStep) → is_own_step actor step ≡ true → is_sound_step step ≡ true → ((is_unscoped_step step ≡ false) → is_among fabrics actor.fabric ≡ true) → fits fabrics step ≡ true
 step_fits fabrics actor (SetRow place fabric values) own sound among =
-    and_from _ _ sound (own_of fabrics (is_scoped (find_of place)) fabric actor.fabric own (λ scoped. among (ap not scoped)))
+    and_from _ _ sound (own_of fabrics (is_scoped (find_data_of place)) fabric actor.fabric own (λ scoped. among (ap not scoped)))
 step_fits fabrics actor (SetEntries fabric entries) own sound among =
     and_from _ _ sound (subst (λ (f : ℕ). is_among fabrics f ≡ true) (sym (eqb-true fabric actor.fabric own)) (among refl))
 step_fits fabrics actor (PutNetwork id secret) own sound among = impossible own
@@ -388,32 +398,46 @@ fitting_taken asker (step ∷ steps) s fit =
 
 -- What holds of the steps of each request in a valid state: they set values, the asker's own or nobody's, and fit; or they are those of a
 -- command of commissioning.
-module _ (own : TouchesItsOwn) (sound : LeavesSound) (nobody : NobodySetsScoped) (sound_steps : StepsAreSound) (first_steps : StepsStandFirst) (well : StepsAreWellFormed) (fit : StepsFit) (moves : StepsAreMoves)
+module _ (laws : RequestLaws)
     (given : Environment) (keeps : KeepsRules given.judged) where
-  module _ (s : NodeState) (valid : IsValid s) (actor : Actor) (P : List NodeStep → Type 0) (none : P [])
+  module _ (s : NodeState) (valid : IsValid s) (actor : Actor) (now : ℕ) (P : List NodeStep → Type 0) (none : P [])
       (setting : (steps : List NodeStep) → list_all (is_own_step actor) steps ≡ true → list_all (fits s.fabrics) steps ≡ true → P steps)
       (commissioning : (steps : List NodeStep) → list_all (commission_laws.is_sound_step (map bare_network s.networks) (option_map bare_armed s.armed) actor.fabric) steps ≡ true → commission_laws.sets_values_behind steps ≡ true → P steps)
       (credential : (steps : List NodeStep) → list_all is_well_formed steps ≡ true → list_all (credentials_laws.fits (known_to actor.fabric s.fabrics s.networks s.armed)) steps ≡ true
       → IsMove (known_to actor.fabric s.fabrics s.networks s.armed) actor.fabric steps → P steps)
     where
       abbrev o : Observation
-      o = observation actor.fabric s
+      o = observation actor.fabric (at_time now s)
 
-      command_steps : is_asker (Some actor) ≡ true → (is_timed : Bool) (command : Place) (fields : Value) → P (command_effect given o actor is_timed command fields).steps
-      command_steps asks is_timed command fields =
+      -- commands that set rows and tell of events alone
+      other_steps : is_known s.fabrics (Some actor) ≡ true → (command : Place) (fields : Value) (meta : CommandMeta) → find_command_of command ≡ Ok meta → P (of_others o actor command fields).steps
+      other_steps known command fields meta there =
+          cond_both (command.cluster == administrator_commissioning.cluster) (admin.invoked (nobodys_rows o) o.known actor command fields o.clock) _ (λ (effect : Effect). P effect.steps)
+          (λ is.
+          let sound = admin_sound laws.windows s.fabrics s.networks s.armed valid.fabric_forms valid.indexes actor (nobodys_rows o) command fields now known in
+          setting (admin.invoked (nobodys_rows o) o.known actor command fields o.clock).steps (admin_own actor _ sound) (admin_fits s.fabrics _ sound))
+          (λ other.
+          cond_both (command.cluster == group_key_management.cluster) (group_keys.invoked (commands.own_rows o) actor command fields) (invoked (nobodys_rows o) actor command) (λ (effect : Effect). P effect.steps)
+          (λ is.
+          let both = keys_pass laws.keys laws.keyless s.fabrics o actor refl command fields known (λ among. member_sight (at_time now s) actor (timed_valid s now valid) among) in
+          setting (group_keys.invoked (commands.own_rows o) actor command fields).steps both.0 both.1)
+          (λ another. setting (invoked (nobodys_rows o) actor command).steps (own_invoked actor (nobodys_rows o) command meta there) (fitting_invoked s.fabrics actor (nobodys_rows o) command meta there)))
+
+      command_steps : is_known s.fabrics (Some actor) ≡ true → is_asker (Some actor) ≡ true → (is_timed : Bool) (command : Place) (fields : Value) → P (command_effect given o actor is_timed command fields).steps
+      command_steps known asks is_timed command fields =
           command_by given o actor command fields P none
           (λ form. credential (credentials.invoked given.judged o.known actor command fields).steps
-          (all_well given.judged well fit moves s valid actor keeps asks command fields form) (all_fit given.judged well fit moves s valid actor keeps asks command fields form) (moves given.judged o.known actor command fields))
-          (λ form. commissioning (commission.invoked o.known given.reachable actor command fields).steps (sound_steps o.known given.reachable actor command fields form) (first_steps o.known given.reachable actor command fields))
-          (λ meta there. setting (invoked (nobodys_rows o) actor command).steps (own_invoked actor (nobodys_rows o) command meta there) (fitting_invoked s.fabrics actor (nobodys_rows o) command meta there))
+          (all_well given.judged laws.well_formed laws.fit laws.moves s valid actor keeps asks command fields form) (all_fit given.judged laws.well_formed laws.fit laws.moves s valid actor keeps asks command fields form) (laws.moves given.judged o.known actor command fields))
+          (λ form. commissioning (commission.invoked o.known given.reachable actor command fields).steps (laws.commissioning o.known given.reachable actor command fields form) (laws.first o.known given.reachable actor command fields))
+          (other_steps known command fields)
           is_timed
 
-      pub asked_by : is_known s.fabrics (Some actor) ≡ true → is_asker (Some actor) ≡ true → (request : Request) (deadline : Option ℕ) (now : ℕ) → P (asked_steps given s request deadline now (Some actor))
-      asked_by known asks request deadline now =
+      pub asked_by : is_known s.fabrics (Some actor) ≡ true → is_asker (Some actor) ≡ true → (request : Request) (deadline : Option ℕ) → P (asked_steps given s request deadline now (Some actor))
+      asked_by known asks request deadline =
           in_time P (is_late deadline now) (steps_to given o actor (is_some deadline) request) none
           (requested given P o actor (is_some deadline) request none
-          (λ items is_timed. setting (with_events o actor (write_answer o.seen actor items is_timed).rows) (own_written own o actor items is_timed) (written_fits own sound nobody s actor items is_timed valid known))
-          (command_steps asks))
+          (λ items is_timed. setting (with_events o actor (write_answer o.seen actor items is_timed).rows) (own_written laws.own o actor items is_timed) (written_fits laws.own laws.forms laws.nobody (at_time now s) actor items is_timed (timed_valid s now valid) known))
+          (command_steps known asks))
 
   -- A valid state takes the steps of every action.
 
@@ -422,19 +446,19 @@ module _ (own : TouchesItsOwn) (sound : LeavesSound) (nobody : NobodySetsScoped)
   asked_taken s valid request deadline now None known asks = refl
   asked_taken s valid request deadline now (Some actor) known asks =
       let timed = at_time now s in
-      asked_by s valid actor (λ (steps : List NodeStep). may_take_all (Some actor) steps timed ≡ true) refl
+      asked_by s valid actor now (λ (steps : List NodeStep). may_take_all (Some actor) steps timed ≡ true) refl
       (λ steps its fit_all. fitting_taken (Some actor) steps timed fit_all)
       (λ steps sound_all first. sound_taken (map bare_network s.networks) (option_map bare_armed s.armed) actor.fabric (Some actor) steps timed known first sound_all)
       (λ steps good fit_all move. moved_taken timed (timed_valid s now valid) actor.fabric (Some actor) steps good fit_all move)
-      known asks request deadline now
+      known asks request deadline
 
-  due_taken : (s : NodeState) (due : Bool) → may_take_all None (if due then Expire ∷ [] else []) s ≡ true
-  due_taken s true = refl
-  due_taken s false = refl
+  due_taken : (s t : NodeState) (now : ℕ) (due : Bool) → may_take_all None ((if due then Expire ∷ [] else []) ++ window_steps s now) t ≡ true
+  due_taken s t now true = and_from _ _ refl (fitting_taken None (window_steps s now) (rollback t) (windows_fit (rollback t).fabrics s now))
+  due_taken s t now false = fitting_taken None (window_steps s now) t (windows_fit t.fabrics s now)
 
   pub action_taken : (s : NodeState) (action : Action) (now : ℕ) → IsValid s → may_take_all (asker_of s action) (steps_of given s action now) (at_time now s) ≡ true
   action_taken s (Ask actor request deadline) now valid = asked_taken s valid request deadline now (asker s actor) (asker_known s actor valid) (asker_asks s actor valid)
-  action_taken s actions.Expire now valid = due_taken (at_time now s) (is_due s.armed now)
+  action_taken s actions.Expire now valid = due_taken s (at_time now s) now (is_due s.armed now)
   action_taken s Nothing now valid = refl
 
 -- the state before an action is valid at its time, and so is the one behind steps that it takes

@@ -16,11 +16,10 @@ use Rattle.mt_model.specs.declared.node.action.Effect.{Effect}
 use Rattle.mt_model.specs.declared.node.action.NodeStep.{NodeStep}
 use Rattle.mt_model.specs.declared.rows.place.Place.{Place}
 use Rattle.mt_model.specs.declared.tables.access.Actor.{Actor}
-use Rattle.mt_apps.specs.Commands.{invoked}
 use Rattle.mt_commission.specs.Commands as commission
 use Rattle.mt_invoke.specs.Checking.{checked, has_form, if_found, may_invoke}
 use Rattle.mt_opcreds.specs.Commands as credentials
-use Rattle.mt_machine.specs.Commands.{carried_out, command_effect, is_commissioning, nobodys_rows, unless_refused}
+use Rattle.mt_machine.specs.Commands.{carried_out, command_effect, is_commissioning, of_others, unless_refused}
 use Rattle.mt_machine.specs.Environment.{Environment}
 
 -- A command that may be carried out is there.
@@ -42,16 +41,16 @@ form_at fields leaf cluster is form = subst (λ n. has_fields (command_fields n 
 module _ (given : Environment) (o : Observation) (actor : Actor) (command : Place) (fields : Value) (P : List NodeStep → Type 0) (none : P [])
     (of_credentials : has_fields (operational_credentials.command_fields command.leaf) (tree fields) ≡ true → P (credentials.invoked given.judged o.known actor command fields).steps)
     (of_commission : has_fields (command_fields command.cluster command.leaf) (tree fields) ≡ true → P (commission.invoked o.known given.reachable actor command fields).steps)
-    (of_others : (meta : CommandMeta) → find_command_of command ≡ Ok meta → P (invoked (nobodys_rows o) actor command).steps)
+    (by_others : (meta : CommandMeta) → find_command_of command ≡ Ok meta → P (of_others o actor command fields).steps)
   where
     carried : (meta : CommandMeta) → find_command_of command ≡ Ok meta → has_form command fields ≡ true → P (carried_out given o actor command fields).steps
     carried meta there form =
         cond_both (command.cluster == operational_credentials.cluster) (credentials.invoked given.judged o.known actor command fields)
-        (if is_commissioning command.cluster then commission.invoked o.known given.reachable actor command fields else invoked (nobodys_rows o) actor command) (λ (effect : Effect). P effect.steps)
+        (if is_commissioning command.cluster then commission.invoked o.known given.reachable actor command fields else of_others o actor command fields) (λ (effect : Effect). P effect.steps)
         (λ is. of_credentials (form_at fields command.leaf command.cluster (sym (eqb-true command.cluster operational_credentials.cluster is)) form))
         (λ other.
-        cond_both (is_commissioning command.cluster) (commission.invoked o.known given.reachable actor command fields) (invoked (nobodys_rows o) actor command) (λ (effect : Effect). P effect.steps)
-        (λ is. of_commission form) (λ is_not. of_others meta there))
+        cond_both (is_commissioning command.cluster) (commission.invoked o.known given.reachable actor command fields) (of_others o actor command fields) (λ (effect : Effect). P effect.steps)
+        (λ is. of_commission form) (λ is_not. by_others meta there))
 
     by_check : (timed : Bool) (may : Result CommandMeta Status) → checked o.seen actor command timed ≡ may → P (unless_refused given o actor command fields may).steps
     by_check timed (Err status) is = none

@@ -6,7 +6,7 @@ use Rattle.std.proofs.lemmas.Bool.{and_from, cases_Bool, eqb-true}
 use Rattle.std.proofs.lemmas.List.Folds.{list_all-append}
 use Rattle.mt_tlv.specs.declared.value.Value.{Value}
 use Rattle.mt_tlv.specs.declared.value.Value.TheVariants as values
-use Rattle.mt_meta.specs.Finding.{find_command_of, find_of, found, has_cluster, is_endpoint, missing_of}
+use Rattle.mt_meta.specs.Finding.{find_command_of, find_data_of, found, has_cluster, is_endpoint, missing_of}
 use Rattle.mt_meta.specs.Stored.{is_stored}
 use Rattle.mt_meta.specs.Table.{attributes_of, extensions_of, globals}
 use Rattle.mt_meta.specs.clusters.Bench as bench
@@ -46,11 +46,11 @@ missing_at endpoint cluster = if not (is_endpoint endpoint) then Some Unsupporte
 abbrev pub on_off_meta : Meta
 on_off_meta = record { kind = kinds.Bool; read = View; write = None; scoped = false; timed = false; kept = true; least = 0; limit = 0 }
 
-on_off_found : (endpoint : ℕ) → missing_of (on_off_at endpoint) ≡ None → find_of (on_off_at endpoint) ≡ Ok on_off_meta
+on_off_found : (endpoint : ℕ) → missing_of (on_off_at endpoint) ≡ None → find_data_of (on_off_at endpoint) ≡ Ok on_off_meta
 unfolding attributes_of globals extensions_of
 on_off_found endpoint there = rw there refl
 
-on_off_is : (command : Place) (meta : CommandMeta) → (command.cluster == on_off.cluster) ≡ true → find_command_of command ≡ Ok meta → find_of (on_off_at command.endpoint) ≡ Ok on_off_meta
+on_off_is : (command : Place) (meta : CommandMeta) → (command.cluster == on_off.cluster) ≡ true → find_command_of command ≡ Ok meta → find_data_of (on_off_at command.endpoint) ≡ Ok on_off_meta
 unfolding missing_at
 on_off_is command meta is there =
     on_off_found command.endpoint
@@ -96,8 +96,8 @@ module _ (P : NodeStep → Bool) (actor : Actor) (told : (place : Place) (priori
   events_pass entries (Label index label ∷ steps) = events_pass entries steps
   events_pass entries (Emit place priority whose value ∷ steps) = events_pass entries steps
 
-  module _ (set : (endpoint : ℕ) (on : Bool) → find_of (on_off_at endpoint) ≡ Ok on_off_meta → P (SetRow (on_off_at endpoint) 0 (values.Bool on ∷ [])) ≡ true) where
-    set_passes : (command : Place) (on : Option Bool) → find_of (on_off_at command.endpoint) ≡ Ok on_off_meta → list_all P (set_on command on).steps ≡ true
+  module _ (set : (endpoint : ℕ) (on : Bool) → find_data_of (on_off_at endpoint) ≡ Ok on_off_meta → P (SetRow (on_off_at endpoint) 0 (values.Bool on ∷ [])) ≡ true) where
+    set_passes : (command : Place) (on : Option Bool) → find_data_of (on_off_at command.endpoint) ≡ Ok on_off_meta → list_all P (set_on command on).steps ≡ true
     set_passes command None there = refl
     set_passes command (Some on) there = and_from _ _ (set command.endpoint on there) refl
 
@@ -121,10 +121,10 @@ module _ (P : NodeStep → Bool) (actor : Actor) (told : (place : Place) (priori
 same_number : (n : ℕ) → (n == n) ≡ true
 same_number n = grind arith
 
-own_set : (actor : Actor) (endpoint : ℕ) (on : Bool) → find_of (on_off_at endpoint) ≡ Ok on_off_meta → is_own_step actor (SetRow (on_off_at endpoint) 0 (values.Bool on ∷ [])) ≡ true
+own_set : (actor : Actor) (endpoint : ℕ) (on : Bool) → find_data_of (on_off_at endpoint) ≡ Ok on_off_meta → is_own_step actor (SetRow (on_off_at endpoint) 0 (values.Bool on ∷ [])) ≡ true
 own_set actor endpoint on there = rw there refl
 
-fitting_set : (fabrics : List Fabric) (endpoint : ℕ) (on : Bool) → find_of (on_off_at endpoint) ≡ Ok on_off_meta → fits fabrics (SetRow (on_off_at endpoint) 0 (values.Bool on ∷ [])) ≡ true
+fitting_set : (fabrics : List Fabric) (endpoint : ℕ) (on : Bool) → find_data_of (on_off_at endpoint) ≡ Ok on_off_meta → fits fabrics (SetRow (on_off_at endpoint) 0 (values.Bool on ∷ [])) ≡ true
 unfolding is_stored attributes_of globals extensions_of
 fitting_set fabrics endpoint on there = rw there refl
 

@@ -7,7 +7,7 @@ use Rattle.std.proofs.lemmas.List.Folds.{list_all-append}
 use Rattle.std.proofs.lemmas.List.Sums.{length-filter}
 use Rattle.std.specs.List.{count_by, list_all, list_any}
 use Rattle.mt_tlv.specs.declared.value.Value.{Value}
-use Rattle.mt_meta.specs.Finding.{find_of}
+use Rattle.mt_meta.specs.Finding.{find_data_of}
 use Rattle.mt_meta.specs.declared.meta.Meta.{Meta}
 use Rattle.mt_model.specs.rows.Order.{row_at, stands_before}
 use Rattle.mt_model.specs.rows.Setting.{is_above, is_at, is_below, with_rows}
@@ -252,12 +252,12 @@ module _ (place : Place) (fabric : ℕ) where
         let new = count-map (is_at q f) (row_at place fabric) false (λ value. other) values in
         omega (arith, set-count q f, parts, new)
 
-    pub few-set : ItemsAreFew rows → ((meta : Meta) → find_of place ≡ Ok meta → meta.scoped ≡ true → nat_le (length values) meta.limit ≡ true) → ItemsAreFew set
+    pub few-set : ItemsAreFew rows → ((meta : Meta) → find_data_of place ≡ Ok meta → meta.scoped ≡ true → nat_le (length values) meta.limit ≡ true) → ItemsAreFew set
     few-set few room q meta f there scoped = elim (cases_Bool (same_place place q && fabric == f)) [
       | inl here ↦
           let both = and_parts (same_place place q) (fabric == f) here in
           let same = place-same place q both.0 in
-          let most = leb-true (length values) meta.limit (room meta (ap find_of same ∙ there) scoped) in
+          let most = leb-true (length values) meta.limit (room meta (ap find_data_of same ∙ there) scoped) in
           let its : nat_le (count_by (is_at place fabric) set) meta.limit ≡ true = le-leb _ _ (omega (arith, most, counted (is_at place fabric) set, count-here)) in
           subst (λ (p : Place). nat_le (count_by (is_at p f) set) meta.limit ≡ true) same (subst (λ n. nat_le (count_by (is_at place n) set) meta.limit ≡ true) (eqb-true fabric f both.1) its)
       | inr other ↦

@@ -10,6 +10,7 @@ use Rattle.mt_model.specs.declared.limits.TheConstants.{PLAIN_DEADLINES}
 use Rattle.mt_model.specs.declared.messages.message.Request.{Request}
 use Rattle.mt_model.specs.declared.messages.message.Request.TheVariants as requests
 use Rattle.mt_model.specs.declared.node.action.Action.TheVariants as actions
+use Rattle.mt_model.specs.declared.node.action.NodeStep.{NodeStep}
 use Rattle.mt_model.specs.declared.node.action.NodeStep.TheVariants as steps
 use Rattle.mt_model.specs.declared.node.action.PlainDeadline.{PlainDeadline}
 use Rattle.mt_model.specs.declared.node.state.NodeState.{NodeState}
@@ -24,9 +25,12 @@ use Rattle.mt_machine.specs.Environment.{Environment}
 use Rattle.mt_machine.specs.Isolation.{is_deadline_in}
 use Rattle.mt_machine.specs.Leaving.{has_left}
 use Rattle.mt_machine.specs.Lines.{action_of, deadline_at, deadline_for, deadline_of, deadlines_after, deadlines_of_those_left, has_room, is_deadline_of, later_by, line_actor, with_deadline, without}
-use Rattle.mt_machine.specs.Rollback.{deadlines_left, fabrics_behind, is_due, rolled_back}
+use Rattle.mt_machine.proofs.Times.{fabrics-stay}
+use Rattle.mt_machine.proofs.Windows.{windows_set}
+use Rattle.mt_machine.specs.Effects.{is_setting_step}
+use Rattle.mt_machine.specs.Rollback.{rollback, deadlines_left, fabrics_behind, is_due, rolled_back}
 use Rattle.mt_machine.specs.State.{IsValid, State, is_among, is_member}
-use Rattle.mt_machine.specs.Step.{after_action, after_steps, asker, at_time, is_late}
+use Rattle.mt_machine.specs.Step.{after_action, after_steps, asker, at_time, is_late, window_steps}
 use Rattle.mt_machine.proofs.Counting.{impossible}
 use Rattle.mt_machine.proofs.Expired.{among-behind}
 use Rattle.mt_machine.proofs.Rolled.{none-filter}
@@ -183,9 +187,10 @@ rolled_left : (armed : Option Armed) (s : NodeState) (ds : List PlainDeadline) �
 rolled_left None s ds stand = stand
 rolled_left (Some armed) s ds stand = armed_left armed s.fabrics ds stand
 
-ticked_stand : (s : NodeState) (ds : List PlainDeadline) (due : Bool) → Stand s.fabrics ds → Stand (after_steps None (if due then steps.Expire ∷ [] else []) s).fabrics (if due then deadlines_left s.armed ds else ds)
-ticked_stand s ds true stand = rolled_left s.armed s ds stand
-ticked_stand s ds false stand = stand
+ticked_stand : (s : NodeState) (ds : List PlainDeadline) (windows : List NodeStep) → list_all is_setting_step windows ≡ true → (due : Bool) → Stand s.fabrics ds
+    → Stand (after_steps None ((if due then steps.Expire ∷ [] else []) ++ windows) s).fabrics (if due then deadlines_left s.armed ds else ds)
+ticked_stand s ds windows sets true stand = subst (λ (fs : List Fabric). Stand fs (deadlines_left s.armed ds)) (sym (fabrics-stay None windows (rollback s) sets)) (rolled_left s.armed s ds stand)
+ticked_stand s ds windows sets false stand = subst (λ (fs : List Fabric). Stand fs ds) (sym (fabrics-stay None windows s sets)) stand
 
 -- Lines.
 
@@ -206,7 +211,7 @@ lines_keep given s (events.Ask ms fabric node cats opcode payload) valid are =
     are_of _ (left_stand s.node now (deadlines_after (asker s.node actor) s.deadlines ms asked)
     (after_stands s.node.fabrics (asker s.node actor) (λ asking is. askers_known s.node actor asking valid is) s.deadlines ms asked (stand_of s are)))
 lines_keep given s (events.Datagram ms peer bytes) valid are = are
-lines_keep given s (events.Tick ms) valid are = are_of _ (ticked_stand (at_time ms s.node) s.deadlines (is_due s.node.armed ms) (stand_of s are))
+lines_keep given s (events.Tick ms) valid are = are_of _ (ticked_stand (at_time ms s.node) s.deadlines (window_steps s.node ms) (windows_set s.node ms) (is_due s.node.armed ms) (stand_of s are))
 lines_keep given s (events.Report ms fabric subscription) valid are = are
 lines_keep given s (events.Resend ms session) valid are = are
 lines_keep given s (events.Stop calls fate) valid are = are

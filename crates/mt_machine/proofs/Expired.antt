@@ -17,13 +17,18 @@ use Rattle.mt_model.specs.declared.tables.access.AclEntry.{AclEntry}
 use Rattle.mt_model.specs.declared.tables.network.Armed.{Armed}
 use Rattle.mt_machine.specs.Environment.{Environment}
 use Rattle.mt_machine.specs.Changes.{settled}
-use Rattle.mt_machine.specs.Isolation.{is_deadline_in, own_of_whole}
+use Rattle.mt_machine.specs.Effects.{after_all}
+use Rattle.mt_machine.specs.Isolation.{is_deadline_in, own, own_of_whole}
 use Rattle.mt_machine.specs.Lines.{next_tick}
-use Rattle.mt_machine.specs.Rollback.{added_in, deadlines_left, given_back, is_due, rollback, rolled_back}
+use Rattle.mt_machine.specs.Rollback.{added_in, breadcrumb, deadlines_left, given_back, is_due, rollback, rolled_back}
 use Rattle.mt_machine.specs.State.{IsValid, State, is_added, is_among, is_updated, keeps_facts}
-use Rattle.mt_machine.specs.Step.{after_steps, aside_of, at_time, gone_between}
+use Rattle.mt_machine.specs.Step.{after_steps, aside_of, at_time, gone_between, window_steps}
 use Rattle.mt_machine.proofs.Rolled.{given-index}
-use Rattle.mt_machine.proofs.Times.{gone_none}
+use Rattle.mt_machine.proofs.Order.{from_zero}
+use Rattle.mt_machine.proofs.Steps.{own-kept}
+use Rattle.mt_machine.proofs.Times.{fabrics-stay, gone_none}
+use Rattle.mt_machine.proofs.Windows.{nobody_sets, windows_set}
+use Rattle.mt_tlv.specs.declared.value.Value.TheVariants as values
 use Rattle.mt_model.specs.declared.node.action.Action.TheVariants.{Expire}
 use Rattle.mt_model.specs.declared.tables.fabric.Credentials.{Credentials}
 use Rattle.mt_model.specs.declared.tables.fabric.Fabric.{Fabric}
@@ -75,15 +80,15 @@ found_added (Some added) fs there = one_found added fs there
 -- the state behind a time step where it is due or is not
 abbrev ticked : State → ℕ → Bool → State
 ticked s ms due = record {
-  node = after_steps None (if due then steps.Expire ∷ [] else []) (at_time ms s.node);
+  node = after_steps None ((if due then steps.Expire ∷ [] else []) ++ window_steps s.node ms) (at_time ms s.node);
   deadlines = if due then deadlines_left s.node.armed s.deadlines else s.deadlines;
 }
 
-pub rolls : (given : Environment) (s : State) (ms : ℕ) → is_due s.node.armed ms ≡ true → next_tick given s ms ≡ record { node = settled (at_time ms s.node) (rollback (at_time ms s.node)); deadlines = deadlines_left s.node.armed s.deadlines }
+pub rolls : (given : Environment) (s : State) (ms : ℕ) → is_due s.node.armed ms ≡ true → next_tick given s ms ≡ record { node = settled (at_time ms s.node) (after_all None (window_steps s.node ms) (rollback (at_time ms s.node))); deadlines = deadlines_left s.node.armed s.deadlines }
 rolls given s ms due = ap (ticked s ms) due
 
-pub passes : ((t : NodeState) → settled t t ≡ t) → (given : Environment) (s : State) (ms : ℕ) → is_due s.node.armed ms ≡ false → next_tick given s ms ≡ record s { node = at_time ms s.node }
-passes same given s ms due = ap (ticked s ms) due ∙ ap (λ (t : NodeState). record s { node = t }) (same (at_time ms s.node))
+pub passes : (given : Environment) (s : State) (ms : ℕ) → is_due s.node.armed ms ≡ false → next_tick given s ms ≡ record s { node = settled (at_time ms s.node) (after_all None (window_steps s.node ms) (at_time ms s.node)) }
+passes given s ms due = ap (ticked s ms) due
 
 -- What leaves the table is the fabric that was added.
 
@@ -147,9 +152,9 @@ gone_rolled (Some armed) s facts =
     gone_is armed.added armed.updated armed.saved_credentials s.fabrics (added_there s.fabrics armed armed.added (and_parts (is_added s.fabrics armed armed.added) (is_updated s.fabrics armed armed.added armed.updated) facts).0)
 
 gone_where : (s : NodeState) (now : ℕ) (due : Bool) → keeps_facts s.fabrics s.armed ≡ true
-    → gone_between s.fabrics (after_steps None (if due then steps.Expire ∷ [] else []) (at_time now s)).fabrics ≡ (if due then added_in s.armed else None)
-gone_where s now true facts = gone_rolled s.armed (at_time now s) facts
-gone_where s now false facts = gone_none s.fabrics
+    → gone_between s.fabrics (after_steps None ((if due then steps.Expire ∷ [] else []) ++ window_steps s now) (at_time now s)).fabrics ≡ (if due then added_in s.armed else None)
+gone_where s now true facts = ap (gone_between s.fabrics) (fabrics-stay None (window_steps s now) (rollback (at_time now s)) (windows_set s now)) ∙ gone_rolled s.armed (at_time now s) facts
+gone_where s now false facts = ap (gone_between s.fabrics) (fabrics-stay None (window_steps s now) (at_time now s) (windows_set s now)) ∙ gone_none s.fabrics
 
 pub gone_by_expiry : (given : Environment) (s : NodeState) (now : ℕ) → IsValid s → (aside_of given s Expire now).gone ≡ (if is_due s.armed now then added_in s.armed else None)
 gone_by_expiry given s now valid = gone_where s now (is_due s.armed now) valid.failsafe_facts
@@ -162,12 +167,33 @@ module _
     (entries_ascend : (es new : List AclEntry) (whose : ℕ) → ascend_from 0 es ≡ true → list_all (is_entry_of whose) new ≡ true → ascend_from 0 (with_entries whose new es) ≡ true)
     (entries_apart : (es : List AclEntry) (whose : ℕ) → ascend_from 0 es ≡ true → filter (is_entry_below whose) es ++ filter (is_entry_above whose) es ≡ filter (λ (e : AclEntry). not (is_entry_of whose e)) es)
     (fabric : ℕ) where
+  -- a rollback leaves rows and entries in their order
+
+  rolled_rows : (armed : Option Armed) (t : NodeState) → are_ascending t.rows ≡ true → are_ascending (rolled_back armed t).rows ≡ true
+  rolled_rows None t up = up
+  rolled_rows (Some armed) t up =
+      rows_ascend (filter (λ (row : Row). stays armed.added row.fabric) t.rows) breadcrumb 0 (values.Uint 0 ∷ []) (rows_stay (λ (row : Row). stays armed.added row.fabric) t.rows up)
+
+  rolled_entries : (armed : Option Armed) (t : NodeState) → ascend_from 0 t.entries ≡ true → ascend_from 0 (rolled_back armed t).entries ≡ true
+  rolled_entries None t up = up
+  rolled_entries (Some armed) t up = entries_stay (λ (entry : AclEntry). stays armed.added entry.fabric) 0 t.entries up
+
+  -- closing a window leaves the own part as it is
+  windows_spare : (s t : NodeState) (now : ℕ) → fabric ≢ 0 → are_ascending t.rows ≡ true → ascend_from 0 t.entries ≡ true → own fabric (after_all None (window_steps s now) t) ≡ own fabric t
+  windows_spare s t now some up up_entries =
+      let apart : (0 == fabric) ≡ false = grind (arith, some) in
+      own-kept rows_ascend rows_apart entries_ascend entries_apart fabric 0 apart None (window_steps s now) t up up_entries (nobody_sets s now)
+
   ticked_own : (s : State) (ms : ℕ) (due : Bool) → IsValid s.node → fabric ≢ 0 → was_added fabric s.node.armed ≡ false → was_updated fabric s.node.armed ≡ false → own_of_whole fabric (ticked s ms due) ≡ own_of_whole fabric s
   ticked_own s ms true valid some not_added not_updated = λ i. record {
-    node = spared rows_stay entries_stay rows_ascend rows_apart entries_ascend entries_apart fabric some s.node.armed (at_time ms s.node) refl (timed_valid s.node ms valid) not_added not_updated i;
+    node = (windows_spare s.node (rollback (at_time ms s.node)) ms some (rolled_rows s.node.armed (at_time ms s.node) valid.rows_rise) (rolled_entries s.node.armed (at_time ms s.node) (from_zero s.node.entries valid.entries_rise))
+        ∙ spared rows_stay entries_stay rows_ascend rows_apart entries_ascend entries_apart fabric some s.node.armed (at_time ms s.node) refl (timed_valid s.node ms valid) not_added not_updated) i;
     deadlines = left_mine fabric s.node.armed s.deadlines not_added i;
   }
-  ticked_own s ms false valid some not_added not_updated = refl
+  ticked_own s ms false valid some not_added not_updated = λ i. record {
+    node = windows_spare s.node (at_time ms s.node) ms some valid.rows_rise (from_zero s.node.entries valid.entries_rise) i;
+    deadlines = filter (is_deadline_in fabric) s.deadlines;
+  }
 
   pub ticks_spare : (given : Environment) (s : State) (ms : ℕ) → IsValid s.node → fabric ≢ 0 → was_added fabric s.node.armed ≡ false → was_updated fabric s.node.armed ≡ false → own_of_whole fabric (next_tick given s ms) ≡ own_of_whole fabric s
   ticks_spare given s ms = ticked_own s ms (is_due s.node.armed ms)

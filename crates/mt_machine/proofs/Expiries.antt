@@ -35,9 +35,11 @@ use Rattle.mt_machine.specs.Changes.{settled}
 use Rattle.mt_machine.specs.Effects.{after_all}
 use Rattle.mt_machine.specs.Environment.{Environment}
 use Rattle.mt_machine.specs.Expiries.{ComesFirst, IsRolledBack, RollbacksLeave, expires, is_breadcrumb, is_expiry, may_stand_behind, steps_behind}
+use Rattle.mt_admin.specs.Windows.{closed, has_ended, number_at, window_end}
+use Rattle.mt_machine.specs.Requests.{RequestLaws}
 use Rattle.mt_machine.specs.Rollback.{breadcrumb, is_due, rollback, rolled_back, undone}
 use Rattle.mt_machine.specs.State.{IsValid}
-use Rattle.mt_machine.specs.Step.{after_action, after_steps, asked_steps, asker, asker_of, at_time, steps_of}
+use Rattle.mt_machine.specs.Step.{after_action, after_steps, asked_steps, asker, asker_of, at_time, steps_of, rows_of_nobody}
 use Rattle.mt_machine.specs.Taking.{fits}
 use Rattle.mt_machine.proofs.Asked.{asked_by, asker_asks, asker_known, is_asker, is_known}
 use Rattle.mt_machine.proofs.Counting.{all-weaker, impossible, not_above, not_below, place-itself}
@@ -101,24 +103,26 @@ moved_first fabric fabrics networks armed steps (moving.expires index context wa
 moved_first fabric fabrics networks armed steps (expires_and_leaves index context was_not is) =
     subst (CallsFirst armed) (sym is) (λ any. record { first = refl; behind = and_from (is_context index armed) true (sym (context_bare index armed) ∙ context) refl })
 
-module _ (own : TouchesItsOwn) (sound : LeavesSound) (nobody : NobodySetsScoped) (sound_steps : StepsAreSound) (first_steps : StepsStandFirst) (well : StepsAreWellFormed) (fit : StepsFit) (moves : StepsAreMoves)
+module _ (laws : RequestLaws)
     (given : Environment) (s : NodeState) (keeps : KeepsRules given.judged) (valid : IsValid s) where
   asked_first : (request : Request) (deadline : Option ℕ) (now : ℕ) (asking : Option Actor) → is_known s.fabrics asking ≡ true → is_asker asking ≡ true → CallsFirst s.armed (asked_steps given s request deadline now asking)
   asked_first request deadline now None known asks = λ any. impossible any
   asked_first request deadline now (Some actor) known asks =
-      asked_by own sound nobody sound_steps first_steps well fit moves given keeps s valid actor (CallsFirst s.armed) (λ any. impossible any)
+      asked_by laws given keeps s valid actor now (CallsFirst s.armed) (λ any. impossible any)
       (λ steps its fit_all. none_comes s.armed steps (none_among (fits s.fabrics) (fits_not s.fabrics) steps fit_all))
       (λ steps sound_all first. commission_first s.armed steps first)
       (λ steps good fit_all move. moved_first actor.fabric s.fabrics s.networks s.armed steps move)
-      known asks request deadline now
+      known asks request deadline
 
-  due_first : (due : Bool) → CallsFirst s.armed (if due then Expire ∷ [] else [])
-  due_first true any = record { first = refl; behind = refl }
-  due_first false any = impossible any
+  due_first : (due ended : Bool) → CallsFirst s.armed ((if due then Expire ∷ [] else []) ++ (if ended then closed else []))
+  due_first true true any = record { first = refl; behind = refl }
+  due_first true false any = record { first = refl; behind = refl }
+  due_first false true any = impossible any
+  due_first false false any = impossible any
 
   pub comes_first : (action : Action) (now : ℕ) → expires given s action now ≡ true → ComesFirst s.armed (steps_of given s action now)
   comes_first (Ask actor request deadline) now any = asked_first request deadline now (asker s actor) (asker_known s actor valid) (asker_asks s actor valid) any
-  comes_first actions.Expire now any = due_first (is_due s.armed now) any
+  comes_first actions.Expire now any = due_first (is_due s.armed now) (has_ended now (number_at (rows_of_nobody s) window_end)) any
   comes_first Nothing now any = impossible any
 
   pub rolls_back : (action : Action) (now : ℕ) → expires given s action now ≡ true

@@ -18,7 +18,7 @@ use Rattle.mt_model.specs.declared.messages.message.WriteItem.{WriteItem}
 use Rattle.mt_model.specs.declared.node.action.NodeStep.{NodeStep}
 use Rattle.mt_model.specs.declared.node.action.NodeStep.TheVariants.{SetRow, SetEntries, PutNetwork, RemoveNetwork, ConnectNetwork, MoveNetwork, Arm, Renew, Expire, Complete, AddRoot, Csr, AddFabric, UpdateFabric, RemoveFabric, Label, Emit}
 use Rattle.mt_model.specs.declared.tables.fabric.Fabric.{Fabric}
-use Rattle.mt_meta.specs.Finding.{find_of}
+use Rattle.mt_meta.specs.Finding.{find_data_of}
 use Rattle.mt_meta.specs.Stored.{is_stored}
 use Rattle.mt_meta.specs.declared.meta.Meta.{Meta}
 use Rattle.mt_write.specs.Laws.{TouchesItsOwn, is_own_step, is_sound_row}
@@ -74,14 +74,14 @@ entries_of whose es all = all-weaker (writes.is_entry_of whose) (is_entry_of who
 named : (fabrics : List Fabric) (whose : ℕ) (entries : List AclEntry) → fits fabrics (SetEntries whose entries) ≡ true → list_all (is_entry_of whose) entries ≡ true
 named fabrics whose entries fit = entries_of whose entries (and_parts (list_all (writes.is_entry_of whose) entries) _ (and_parts _ (is_among fabrics whose) fit).0).0
 
-module _ (kept : (place : Place) → is_stored_place place ≡ (is_stored place && is_ok (find_of place))) where
+module _ (kept : (place : Place) → is_stored_place place ≡ (is_stored place && is_ok (find_data_of place))) where
   -- what fits is stored and found
   row_fits : (fabrics : List Fabric) (whose : ℕ) (stored : Bool) (values : List Value) (found : Result Meta Status) → fits_row fabrics whose stored values found ≡ true → (stored && is_ok found) ≡ true
   row_fits fabrics whose stored values (Err status) fit = absurd (cc)
   row_fits fabrics whose stored values (Ok meta) fit = and_from stored true (and_parts stored _ (and_parts (is_sound_row stored whose values (Ok meta)) _ fit).0).0 refl
 
   setting_step : (fabrics : List Fabric) (step : NodeStep) → fits fabrics step ≡ true → is_setting_step step ≡ true
-  setting_step fabrics (SetRow place whose values) fit = kept place ∙ row_fits fabrics whose (is_stored place) values (find_of place) fit
+  setting_step fabrics (SetRow place whose values) fit = kept place ∙ row_fits fabrics whose (is_stored place) values (find_data_of place) fit
   setting_step fabrics (SetEntries whose entries) fit = named fabrics whose entries fit
   setting_step fabrics (PutNetwork id secret) fit = absurd (cc)
   setting_step fabrics (RemoveNetwork id) fit = absurd (cc)
@@ -135,7 +135,7 @@ row_of asking whose true is = grind (arith, is)
 row_of asking whose false is = grind (arith, is)
 
 step_of : (asking : Actor) (fabrics : List Fabric) (step : NodeStep) → is_own_step asking step ≡ true → fits fabrics step ≡ true → is_step_of asking.fabric step ≡ true
-step_of asking fabrics (SetRow place whose values) own fit = row_of asking whose (is_scoped (find_of place)) own
+step_of asking fabrics (SetRow place whose values) own fit = row_of asking whose (is_scoped (find_data_of place)) own
 step_of asking fabrics (SetEntries whose entries) own fit = and_from _ _ own (named fabrics whose entries fit)
 step_of asking fabrics (PutNetwork id secret) own fit = absurd (cc)
 step_of asking fabrics (RemoveNetwork id) own fit = absurd (cc)

@@ -6,7 +6,7 @@ use Rattle.std.specs.List.{list_all}
 use Rattle.mt_tlv.specs.declared.value.Value.{Value}
 use Rattle.mt_commission.specs.Laws.{StepsAreSound, StepsStandFirst}
 use Rattle.mt_fabrics.specs.Table.{IsLeastUnused, IsTable, least_unused}
-use Rattle.mt_meta.specs.Finding.{find_of}
+use Rattle.mt_meta.specs.Finding.{find_data_of}
 use Rattle.mt_meta.specs.Stored.{is_stored}
 use Rattle.mt_model.specs.texts.Config.{ascend_from}
 use Rattle.mt_model.specs.rows.Order.{are_ascending}
@@ -33,6 +33,7 @@ use Rattle.mt_machine.specs.Isolation.{own_of_whole}
 use Rattle.mt_machine.specs.Laws.{RemovalsSeeTheVeil, StepsSeeTheVeil}
 use Rattle.mt_im.specs.declared.fault.ImFault.{ImFault}
 use Rattle.mt_machine.specs.Lines.{action_of, behind_action, fabric_of, is_tick, plain_next}
+use Rattle.mt_machine.specs.Requests.{RequestLaws}
 use Rattle.mt_machine.specs.State.{IsValid, State, is_among}
 use Rattle.mt_machine.specs.Step.{after_action, asked_steps, asker, at_time}
 use Rattle.mt_machine.specs.Taking.{may_take}
@@ -57,7 +58,7 @@ new_is_other s fabric is known = ap not (false_from_ne_true (fabric == least_unu
       | inr there ↦ impossible (sym is.unused ∙ subst (λ n. is_among s.fabrics n ≡ true) its there)
     ]))
 
-module _ (touches : TouchesItsOwn) (sound : LeavesSound) (nobody : NobodySetsScoped) (sound_steps : StepsAreSound) (first_steps : StepsStandFirst) (well : StepsAreWellFormed) (fit : StepsFit) (moves : StepsAreMoves) where
+module _ (laws : RequestLaws) where
   -- Another's own part.
   module _
       (rows_stay : (keep : Row → Bool) (rows : List Row) → are_ascending rows ≡ true → are_ascending (filter keep rows) ≡ true)
@@ -76,7 +77,7 @@ module _ (touches : TouchesItsOwn) (sound : LeavesSound) (nobody : NobodySetsSco
       steps_kept given keeps s valid asking fabric apart known asks request deadline ms =
           let t = at_time ms s in
           let its = timed_valid s ms valid in
-          asked_by touches sound nobody sound_steps first_steps well fit moves given keeps s valid asking
+          asked_by laws given keeps s valid asking ms
           (λ (steps : List NodeStep). StaysThere fabric t (after_all (Some asking) steps t) → isolation.own fabric (after_all (Some asking) steps t) ≡ isolation.own fabric t)
           (λ there. refl)
           (λ steps own_all fit_all there.
@@ -85,7 +86,7 @@ module _ (touches : TouchesItsOwn) (sound : LeavesSound) (nobody : NobodySetsSco
           commission_kept fabric asking.fabric apart rows_stay entries_stay rows_ascend rows_apart entries_ascend entries_apart least still (map bare_network s.networks) t its known (Some asking) steps sound_all first)
           (λ steps good fit_all move.
           moved_kept fabric asking.fabric apart rows_stay entries_stay rows_ascend rows_apart entries_ascend entries_apart least still t its (Some asking) steps good fit_all move)
-          known asks request deadline ms
+          known asks request deadline
 
       action_kept : (given : Environment) → KeepsRules given.judged → (s : NodeState) → IsValid s → (fabric : ℕ) (actor asking : Actor) (request : Request) (deadline : Option ℕ) (ms : ℕ) → asker s actor ≡ Some asking → (asking.fabric == fabric) ≡ false
           → StaysThere fabric s (after_action given s (actions.Ask actor request deadline) ms) → isolation.own fabric (after_action given s (actions.Ask actor request deadline) ms) ≡ isolation.own fabric s
@@ -111,14 +112,14 @@ module _ (touches : TouchesItsOwn) (sound : LeavesSound) (nobody : NobodySetsSco
 
   -- The asker's own part, on its veil.
 
-  pub alike_on : ((place : Place) → is_stored_place place ≡ (is_stored place && is_ok (find_of place))) → StepsSeeTheVeil → RemovalsSeeTheVeil → ((fabrics : List Fabric) → IsTable fabrics → IsLeastUnused (least_unused fabrics) fabrics)
+  pub alike_on : ((place : Place) → is_stored_place place ≡ (is_stored place && is_ok (find_data_of place))) → StepsSeeTheVeil → RemovalsSeeTheVeil → ((fabrics : List Fabric) → IsTable fabrics → IsLeastUnused (least_unused fabrics) fabrics)
       → (given : Environment) → KeepsRules given.judged → (s : NodeState) → IsValid s → veiled.AlikeOn given s
   alike_on kept each removal least given keeps s valid actor asking request deadline ms is =
       let t = at_time ms s in
       let its = timed_valid s ms valid in
       let f = asking.fabric in
       let known = subst (λ (o : Option Actor). is_known s.fabrics o ≡ true) is (asker_known s actor valid) in
-      asked_by touches sound nobody sound_steps first_steps well fit moves given keeps s valid asking
+      asked_by laws given keeps s valid asking ms
       (λ (steps : List NodeStep). isolation.own f (after_all (Some asking) steps (isolation.veil f t)) ≡ isolation.own f (after_all (Some asking) steps t))
       (setting_alike kept each removal f (Some asking) t its [] refl)
       (λ steps own_all fit_all. setting_alike kept each removal f (Some asking) t its steps (setting_steps kept s.fabrics steps fit_all))
@@ -126,4 +127,4 @@ module _ (touches : TouchesItsOwn) (sound : LeavesSound) (nobody : NobodySetsSco
       (λ steps good fit_all move.
       moved_alike kept each removal f (Some asking) t its (known_to f s.fabrics s.networks s.armed) steps good
       (λ new. new_is_other t f (least s.fabrics (table_of s.fabrics (its_fabrics s valid))) known) move)
-      known (subst (λ (o : Option Actor). is_asker o ≡ true) is (asker_asks s actor valid)) request deadline ms
+      known (subst (λ (o : Option Actor). is_asker o ≡ true) is (asker_asks s actor valid)) request deadline

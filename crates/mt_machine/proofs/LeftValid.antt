@@ -6,7 +6,7 @@ use Rattle.std.proofs.lemmas.List.Sums.{length-filter}
 use Rattle.std.specs.List.{count_by, list_any}
 use Rattle.mt_failsafe.specs.Calls.{is_context}
 use Rattle.mt_fabrics.specs.Table.{IsTable, has_index, has_other_index, is_used, removed}
-use Rattle.mt_meta.specs.Finding.{find_of}
+use Rattle.mt_meta.specs.Finding.{find_data_of}
 use Rattle.mt_meta.specs.Places.{all_places}
 use Rattle.mt_meta.specs.Stored.{is_stored}
 use Rattle.mt_model.specs.rows.Order.{are_ascending}
@@ -112,16 +112,16 @@ module _
           grind (arith, some)
 
       -- rows of places that are not scoped are nobody's
-      stays_at : (place : Place) → is_unscoped (find_of place) ≡ true → (row : Row) → is_row s.fabrics row ≡ true → stands_at place row ≡ true → keeps row ≡ true
+      stays_at : (place : Place) → is_unscoped (find_data_of place) ≡ true → (row : Row) → is_row s.fabrics row ≡ true → stands_at place row ≡ true → keeps row ≡ true
       stays_at place unscoped row of at =
           let same = place-same row.place place at in
-          let here = (and_parts (is_stored row.place) (is_row_at s.fabrics row (find_of row.place)) of).1 in
-          let nobody : row.fabric ≡ 0 = nobodys s.fabrics row (find_of row.place) here (subst (λ (p : Place). is_unscoped (find_of p) ≡ true) (sym same) unscoped) in
+          let here = (and_parts (is_stored row.place) (is_row_at s.fabrics row (find_data_of row.place)) of).1 in
+          let nobody : row.fabric ≡ 0 = nobodys s.fabrics row (find_data_of row.place) here (subst (λ (p : Place). is_unscoped (find_data_of p) ≡ true) (sym same) unscoped) in
           subst (λ n. stays (Some index) n ≡ true) (sym nobody) stays-nobody
 
       stands_left : (place : Place) → has_one_row place ≡ true → stands_once s.rows place ≡ true → stands_once rows_left place ≡ true
       stands_left place single once =
-          let unscoped = (and_parts (is_stored place) (is_unscoped (find_of place)) single).1 in
+          let unscoped = (and_parts (is_stored place) (is_unscoped (find_data_of place)) single).1 in
           let before : count_by (stands_at place) s.rows ≡ 1 = eqb-true _ _ once in
           let same = pass-stay (stands_at place) (is_row s.fabrics) keeps (stays_at place unscoped) s.rows valid.row_forms in
           eq-eqb _ _ (sym (length-filter (stands_at place) rows_left) ∙ same ∙ length-filter (stands_at place) s.rows ∙ before)

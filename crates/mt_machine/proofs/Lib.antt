@@ -1,4 +1,5 @@
 pub mod Carried
+pub mod Clusters
 pub mod Commands
 pub mod Counting
 pub mod Again
@@ -26,6 +27,7 @@ pub mod Steps
 pub mod Tells
 pub mod Times
 pub mod Veiled
+pub mod Windows
 pub mod Writes
 pub mod Expired
 pub mod Expiries

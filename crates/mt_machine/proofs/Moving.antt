@@ -7,7 +7,7 @@ use Rattle.mt_tlv.specs.View.{tree}
 use Rattle.mt_failsafe.specs.Notes as notes
 use Rattle.mt_fabrics.specs.Table.{add_refusal, credentials_at, is_used, least_unused, with_index}
 use Rattle.mt_meta.specs.Fields.{has_fields}
-use Rattle.mt_meta.specs.Finding.{find_of}
+use Rattle.mt_meta.specs.Finding.{find_data_of}
 use Rattle.mt_meta.specs.Forms.{has_form}
 use Rattle.mt_meta.specs.Stored.{is_stored}
 use Rattle.mt_meta.specs.clusters.OperationalCredentials as table
@@ -47,7 +47,7 @@ same_number n = grind arith
 
 -- General Commissioning and Network Commissioning: each step may be taken however the state stands.
 
-row_taken : (fabrics : List Fabric) (fabric : ℕ) (stored : Bool) (values : List Value) (found : Result Meta Status) → commission.is_sound_row stored fabric values found ≡ true → fits_row fabrics fabric stored values found ≡ true
+pub row_taken : (fabrics : List Fabric) (fabric : ℕ) (stored : Bool) (values : List Value) (found : Result Meta Status) → commission.is_sound_row stored fabric values found ≡ true → fits_row fabrics fabric stored values found ≡ true
 row_taken fabrics fabric stored values (Err status) sound = impossible sound
 row_taken fabrics fabric stored values (Ok meta) sound =
     let one = and_parts stored (not meta.scoped && (fabric == 0 && (length values == 1 && list_all (has_form meta fabric) values))) sound in
@@ -62,7 +62,7 @@ row_taken fabrics fabric stored values (Ok meta) sound =
     row_by false unscoped is nobodys one form = and_from _ _ (and_from _ _ is (and_from _ _ form one)) nobodys
 
 pub step_taken : (networks : List Network) (armed : Option Armed) (fabric : ℕ) (step : NodeStep) (s : NodeState) → names_known s.fabrics step ≡ true → commission.is_sound_step networks armed fabric step ≡ true → may_take s step ≡ true
-step_taken networks armed fabric (SetRow place whose values) s known sound = or_left _ _ (row_taken s.fabrics whose (is_stored place) values (find_of place) sound)
+step_taken networks armed fabric (SetRow place whose values) s known sound = or_left _ _ (row_taken s.fabrics whose (is_stored place) values (find_data_of place) sound)
 step_taken networks armed fabric (SetEntries whose entries) s known sound = impossible sound
 step_taken networks armed fabric (PutNetwork id secret) s known sound =
     let room = commission.is_there networks id || nat_lt (length networks) 4 in

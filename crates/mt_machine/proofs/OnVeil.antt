@@ -4,7 +4,7 @@ use Rattle.std.proofs.lemmas.Bool.{and_from, and_parts}
 use Rattle.std.specs.List.{list_all}
 use Rattle.mt_tlv.specs.declared.value.Value.{Value}
 use Rattle.mt_commission.specs.Laws as commission
-use Rattle.mt_meta.specs.Finding.{find_of}
+use Rattle.mt_meta.specs.Finding.{find_data_of}
 use Rattle.mt_meta.specs.Stored.{is_stored}
 use Rattle.mt_meta.specs.declared.meta.Meta.{Meta}
 use Rattle.mt_model.specs.rows.Stored.{is_stored_place}
@@ -33,7 +33,7 @@ use Rattle.mt_machine.proofs.Counting.{impossible}
 same_number : (n : ℕ) → (n == n) ≡ true
 same_number n = grind arith
 
-module _ (kept : (place : Place) → is_stored_place place ≡ (is_stored place && is_ok (find_of place))) (each : StepsSeeTheVeil) (removal : RemovalsSeeTheVeil) (fabric : ℕ) (asker : Option Actor) (s : NodeState) (valid : IsValid s) where
+module _ (kept : (place : Place) → is_stored_place place ≡ (is_stored place && is_ok (find_data_of place))) (each : StepsSeeTheVeil) (removal : RemovalsSeeTheVeil) (fabric : ℕ) (asker : Option Actor) (s : NodeState) (valid : IsValid s) where
   abbrev Alike : List NodeStep → Type 0
   Alike steps = own fabric (after_all asker steps (veil fabric s)) ≡ own fabric (after_all asker steps s)
 
@@ -55,7 +55,7 @@ module _ (kept : (place : Place) → is_stored_place place ≡ (is_stored place 
     row_sets stored whose values (Ok meta) sound = and_from stored true (and_parts stored _ sound).0 refl
 
     row_setting : (place : Place) (whose : ℕ) (values : List Value) → is_sound (SetRow place whose values) ≡ true → is_setting_step (SetRow place whose values) ≡ true
-    row_setting place whose values sound = kept place ∙ row_sets (is_stored place) whose values (find_of place) sound
+    row_setting place whose values sound = kept place ∙ row_sets (is_stored place) whose values (find_data_of place) sound
 
     rows_set : (steps : List NodeStep) → list_all is_sound steps ≡ true → list_all commission.sets_value steps ≡ true → list_all is_setting_step steps ≡ true
     rows_set [] sound sets = refl

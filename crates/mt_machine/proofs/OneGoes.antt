@@ -1,10 +1,10 @@
 -- By an action at most one fabric leaves the table, which is the one that is told as gone.
-use Rattle.std.proofs.Common.{◌≡◌, ℕ, ◌==◌, ◌&&◌, not, Bool, true, false, List, [], ◌∷◌, Option, Some, None, Result, Ok, Err, option_map, refl, sym, ap, ◌∙◌, subst, is_ok, if◌then◌else◌}
+use Rattle.std.proofs.Common.{◌≡◌, ℕ, ◌==◌, ◌&&◌, not, Bool, true, false, List, [], ◌∷◌, ◌++◌, Option, Some, None, Result, Ok, Err, option_map, refl, sym, ap, ◌∙◌, subst, is_ok, if◌then◌else◌}
 use Rattle.std.proofs.lemmas.Bool.{and_parts, eqb-true}
 use Rattle.mt_commission.specs.Laws as commission
 use Rattle.mt_commission.specs.Laws.{StepsAreSound, StepsStandFirst}
 use Rattle.mt_im.specs.declared.fault.ImFault.{ImFault}
-use Rattle.mt_meta.specs.Finding.{find_of}
+use Rattle.mt_meta.specs.Finding.{find_data_of}
 use Rattle.mt_meta.specs.Stored.{is_stored}
 use Rattle.mt_model.specs.Optional.{is_that}
 use Rattle.mt_model.specs.rows.Stored.{is_stored_place}
@@ -30,9 +30,12 @@ use Rattle.mt_machine.specs.Environment.{Environment}
 use Rattle.mt_machine.specs.Isolation.{saved_for, veil, with_saved}
 use Rattle.mt_machine.specs.Leaving.{has_left}
 use Rattle.mt_machine.specs.Lines.{action_of}
-use Rattle.mt_machine.specs.Rollback.{added_in, is_due}
+use Rattle.mt_machine.specs.Laws.{TicksTakeOne}
+use Rattle.mt_machine.specs.Requests.{RequestLaws}
+use Rattle.mt_machine.proofs.Windows.{windows_set}
+use Rattle.mt_machine.specs.Rollback.{rollback, added_in, is_due}
 use Rattle.mt_machine.specs.State.{IsValid, is_added, is_among, is_updated, keeps_facts}
-use Rattle.mt_machine.specs.Step.{after_action, aside_of, asked_steps, asker, at_time, gone_between, steps_of}
+use Rattle.mt_machine.specs.Step.{after_action, aside_of, asked_steps, asker, at_time, gone_between, steps_of, window_steps}
 use Rattle.mt_machine.proofs.AlikeLeft.{left_behind_expiry, left_is_gone}
 use Rattle.mt_machine.proofs.Asked.{asked_by, asker_asks, asker_known, is_asker, is_known}
 use Rattle.mt_machine.proofs.Good.{setting_steps}
@@ -56,6 +59,19 @@ none_leaves s fabric = left_is_gone fabric None (RemoveNetwork []) s
 by_step : (asker : Option Actor) (step : NodeStep) (s : NodeState) → LeftOne s (after asker step s)
 by_step asker step s fabric = left_is_gone fabric asker step s
 
+-- by a time step, of whatever state
+
+due_one : (s : NodeState) (now : ℕ) (due : Bool) → LeftOne s (after_all None ((if due then Expire ∷ [] else []) ++ window_steps s now) (at_time now s))
+due_one s now true =
+    let timed = at_time now s in
+    same_one timed (rollback timed) (after_all None (window_steps s now) (rollback timed)) (fabrics-stay None (window_steps s now) (rollback timed) (windows_set s now)) (by_step None Expire timed)
+due_one s now false =
+    let timed = at_time now s in
+    same_one timed timed (after_all None (window_steps s now) timed) (fabrics-stay None (window_steps s now) timed (windows_set s now)) (none_leaves timed)
+
+pub ticks_take_one : TicksTakeOne
+ticks_take_one given s now fabric = due_one s now (is_due s.armed now) fabric
+
 -- where commissioning goes on for a fabric that was not added, none was
 none_added : (s : NodeState) → IsValid s → (index : ℕ) (armed : Option Armed) → s.armed ≡ armed → is_context index (option_map bare_armed armed) ≡ true → was_added index (option_map bare_armed armed) ≡ false → added_in armed ≡ None
 none_added s valid index None is context not_added = refl
@@ -70,8 +86,8 @@ none_added s valid index (Some armed) is context not_added = by_added armed.adde
         let same : armed.context ≡ added = eqb-true armed.context added (and_parts (armed.context == added) (is_among s.fabrics added) its).0 in
         impossible (sym not_it ∙ subst (λ n. (n == index) ≡ true) same context)
 
-module _ (touches : TouchesItsOwn) (sound : LeavesSound) (nobody : NobodySetsScoped) (sound_steps : StepsAreSound) (first_steps : StepsStandFirst) (well : StepsAreWellFormed) (fit : StepsFit) (moves : StepsAreMoves)
-    (kept : (place : Place) → is_stored_place place ≡ (is_stored place && is_ok (find_of place))) (given : Environment) (keeps : KeepsRules given.judged) where
+module _ (laws : RequestLaws)
+    (kept : (place : Place) → is_stored_place place ≡ (is_stored place && is_ok (find_data_of place))) (given : Environment) (keeps : KeepsRules given.judged) where
   module _ (t : NodeState) (asking : Actor) where
     abbrev One : List NodeStep → Type 0
     One steps = LeftOne t (after_all (Some asking) steps t)
@@ -98,16 +114,12 @@ module _ (touches : TouchesItsOwn) (sound : LeavesSound) (nobody : NobodySetsSco
       → LeftOne t (after_all asking (asked_steps given s request deadline now asking) t)
   asked_one s t valid same request deadline now None known asks = none_leaves t
   asked_one s t valid same request deadline now (Some actor) known asks =
-      asked_by touches sound nobody sound_steps first_steps well fit moves given keeps s valid actor (λ (steps : List NodeStep). LeftOne t (after_all (Some actor) steps t))
+      asked_by laws given keeps s valid actor now (λ (steps : List NodeStep). LeftOne t (after_all (Some actor) steps t))
       (none_leaves t)
       (λ steps its fit_all. same_one t t (after_all (Some actor) steps t) (fabrics-stay (Some actor) steps t (setting_steps kept s.fabrics steps fit_all)) (none_leaves t))
       (λ steps sound_all first. commission_one t actor steps first)
       (λ steps good fit_all move. moved_one s t valid same actor.fabric (Some actor) steps move)
-      known asks request deadline now
-
-  due_one : (s : NodeState) (now : ℕ) (due : Bool) → LeftOne s (after_all None (if due then Expire ∷ [] else []) (at_time now s))
-  due_one s now true = by_step None Expire (at_time now s)
-  due_one s now false = none_leaves s
+      known asks request deadline
 
   pub action_one : (s : NodeState) (action : Action) (now fabric : ℕ) → IsValid s → has_left s (after_action given s action now) fabric ≡ is_that fabric (aside_of given s action now).gone
   action_one s (actions.Ask actor request deadline) now fabric valid = asked_one s (at_time now s) valid refl request deadline now (asker s actor) (asker_known s actor valid) (asker_asks s actor valid) fabric

@@ -2,7 +2,7 @@
 use Rattle.mt_model.specs.declared.rows.place.Row.{Row}
 use Rattle.mt_model.specs.declared.messages.status.Status.{Status}
 use Rattle.mt_meta.specs.declared.meta.Meta.{Meta}
-use Rattle.mt_meta.specs.Finding.{find_of}
+use Rattle.mt_meta.specs.Finding.{find_data_of}
 use Rattle.mt_model.specs.rows.Sight.{same_place}
 use Rattle.mt_model.specs.rows.Setting.{is_at}
 use Rattle.mt_machine.proofs.Counting.{all-weaker, count-none, counted, impossible, place-itself, place-same}
@@ -81,7 +81,7 @@ rows_stand = refl
 
 -- none of them is an item of a scoped list
 is_plain_row : Row → Bool
-is_plain_row row = is_unscoped (find_of row.place)
+is_plain_row row = is_unscoped (find_data_of row.place)
 
 rows_unscoped : list_all is_plain_row first_rows ≡ true
 unfolding is_plain_row endpoints clusters_of attributes_of globals extensions_of
@@ -99,7 +99,7 @@ row_counts place meta fabric there scoped =
     not_at : (row : Row) → is_plain_row row ≡ true → is_at place fabric row ≡ false
     not_at row plain = false_from_ne_true (is_at place fabric row) (λ at.
         let same = place-same row.place place (and_parts (same_place row.place place) (row.fabric == fabric) at).0 in
-        both_ways (is_unscoped (find_of place)) (its_scoped (find_of place) there) (subst (λ (p : Place). is_unscoped (find_of p) ≡ true) same plain))
+        both_ways (is_unscoped (find_data_of place)) (its_scoped (find_data_of place) there) (subst (λ (p : Place). is_unscoped (find_data_of p) ≡ true) same plain))
 
 -- Roots.
 

@@ -3,7 +3,7 @@ use Rattle.std.proofs.Common.{◌≡◌, ℕ, ◌==◌, ◌&&◌, ◌||◌, inl,
 use Rattle.std.proofs.lemmas.Bool.{and_from, and_parts, cases_Bool, eqb-false, eqb-true, eq-eqb, ne_eqb, not_from_false, not-true, or_cases, or_left, or_right}
 use Rattle.std.specs.List.{list_any}
 use Rattle.mt_failsafe.specs.Calls.{is_context}
-use Rattle.mt_meta.specs.Finding.{find_of}
+use Rattle.mt_meta.specs.Finding.{find_data_of}
 use Rattle.mt_meta.specs.Forms.{has_form}
 use Rattle.mt_meta.specs.Stored.{is_stored}
 use Rattle.mt_meta.specs.declared.meta.Meta.{Meta}
@@ -62,8 +62,8 @@ module _ (fs gs : List Fabric) where
 
   pub row-among : (row : Row) → (is_among fs row.fabric ≡ true → is_among gs row.fabric ≡ true) → is_row fs row ≡ true → is_row gs row ≡ true
   row-among row among is =
-      let both = and_parts (is_stored row.place) (is_row_at fs row (find_of row.place)) is in
-      and_from _ _ both.0 (row_at row (find_of row.place) among both.1)
+      let both = and_parts (is_stored row.place) (is_row_at fs row (find_data_of row.place)) is in
+      and_from _ _ both.0 (row_at row (find_data_of row.place) among both.1)
 
   pub either-among : (fabric : ℕ) → (is_among fs fabric ≡ true → is_among gs fabric ≡ true) → (fabric == 0 || is_among fs fabric) ≡ true → (fabric == 0 || is_among gs fabric) ≡ true
   either-among fabric among stands = elim (or_cases (fabric == 0) (is_among fs fabric) stands) [

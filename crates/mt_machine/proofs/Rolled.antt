@@ -8,7 +8,7 @@ use Rattle.std.specs.List.{count_by, list_all, list_any}
 use Rattle.mt_fabrics.specs.Table.{has_index_up_to}
 use Rattle.mt_tlv.specs.declared.value.Value.{Value}
 use Rattle.mt_tlv.specs.declared.value.Value.TheVariants as values
-use Rattle.mt_meta.specs.Finding.{find_of}
+use Rattle.mt_meta.specs.Finding.{find_data_of}
 use Rattle.mt_meta.specs.Places.{all_places}
 use Rattle.mt_model.specs.rows.Order.{are_ascending, fabrics_ascend, rise_above}
 use Rattle.mt_model.specs.tables.Leaving.{stays}
@@ -375,23 +375,23 @@ module _
 
   row_left : (row : Row) → stays added row.fabric ≡ true → is_row s.fabrics row ≡ true → is_row left row ≡ true
   row_left row stay of =
-      let both = and_parts (is_stored row.place) (is_row_at s.fabrics row (find_of row.place)) of in
-      and_from _ _ both.0 (row_at_left row (find_of row.place) stay both.1)
+      let both = and_parts (is_stored row.place) (is_row_at s.fabrics row (find_data_of row.place)) of in
+      and_from _ _ both.0 (row_at_left row (find_data_of row.place) stay both.1)
 
   abbrev rows_left : List Row
   rows_left = filter (λ (row : Row). stays added row.fabric) s.rows
 
   -- rows of places that are not scoped are nobody's
-  stays_at : (place : Place) → is_unscoped (find_of place) ≡ true → (row : Row) → is_row s.fabrics row ≡ true → stands_at place row ≡ true → stays added row.fabric ≡ true
+  stays_at : (place : Place) → is_unscoped (find_data_of place) ≡ true → (row : Row) → is_row s.fabrics row ≡ true → stands_at place row ≡ true → stays added row.fabric ≡ true
   stays_at place unscoped row of at =
       let same = place-same row.place place at in
-      let here = (and_parts (is_stored row.place) (is_row_at s.fabrics row (find_of row.place)) of).1 in
-      let nobody : row.fabric ≡ 0 = nobodys s.fabrics row (find_of row.place) here (subst (λ (p : Place). is_unscoped (find_of p) ≡ true) (sym same) unscoped) in
+      let here = (and_parts (is_stored row.place) (is_row_at s.fabrics row (find_data_of row.place)) of).1 in
+      let nobody : row.fabric ≡ 0 = nobodys s.fabrics row (find_data_of row.place) here (subst (λ (p : Place). is_unscoped (find_data_of p) ≡ true) (sym same) unscoped) in
       subst (λ n. stays added n ≡ true) (sym nobody) (stays-nobody s.fabrics armed added valid.fabrics_rise is_the_added)
 
   stands_left : (place : Place) → has_one_row place ≡ true → stands_once s.rows place ≡ true → stands_once rows_left place ≡ true
   stands_left place single once =
-      let unscoped = (and_parts (is_stored place) (is_unscoped (find_of place)) single).1 in
+      let unscoped = (and_parts (is_stored place) (is_unscoped (find_data_of place)) single).1 in
       let before : count_by (stands_at place) s.rows ≡ 1 = eqb-true _ _ once in
       let same = pass-stay (stands_at place) (is_row s.fabrics) (λ (row : Row). stays added row.fabric) (stays_at place unscoped) s.rows valid.row_forms in
       eq-eqb _ _ (sym (length-filter (stands_at place) rows_left) ∙ same ∙ length-filter (stands_at place) s.rows ∙ before)

@@ -12,7 +12,7 @@ use Rattle.mt_model.specs.Optional.{is_that}
 use Rattle.mt_model.specs.rows.Order.{are_ascending}
 use Rattle.mt_model.specs.rows.Setting.{is_above, is_at, is_below, is_entry_above, is_entry_below, is_entry_of, with_entries, with_rows}
 use Rattle.mt_model.specs.tables.Known.{Known, bare_armed, known_to}
-use Rattle.mt_meta.specs.Finding.{find_of}
+use Rattle.mt_meta.specs.Finding.{find_data_of}
 use Rattle.mt_meta.specs.Stored.{is_stored}
 use Rattle.mt_meta.specs.declared.meta.Meta.{Meta}
 use Rattle.mt_model.specs.tables.Leaving.{stays}
@@ -266,7 +266,7 @@ module _ (fabric writer : ℕ) (apart : (writer == fabric) ≡ false) where
 
         first_kept : (asker : Option Actor) (step : NodeStep) (t : NodeState) → is_sound step ≡ true → StaysThere fabric s t → t.fabrics ≡ (after asker step s).fabrics → t.armed ≡ (after asker step s).armed → own fabric (after asker step s) ≡ own fabric s
         first_kept asker (SetRow place whose values) t sound there fabrics armed =
-            values_kept writer asker (SetRow place whose values ∷ []) s apart valid (and_from _ _ (ap (λ b. if b then true else whose == writer) (nobodys_row (is_stored place) whose values (find_of place) sound)) refl)
+            values_kept writer asker (SetRow place whose values ∷ []) s apart valid (and_from _ _ (ap (λ b. if b then true else whose == writer) (nobodys_row (is_stored place) whose values (find_data_of place) sound)) refl)
         first_kept asker (SetEntries whose entries) t sound there fabrics armed = impossible sound
         first_kept asker (PutNetwork id secret) t sound there fabrics armed = refl
         first_kept asker (RemoveNetwork id) t sound there fabrics armed = refl
@@ -291,7 +291,7 @@ module _ (fabric writer : ℕ) (apart : (writer == fabric) ≡ false) where
         rows_its [] sound sets = refl
         rows_its (SetRow place whose values ∷ steps) sound sets =
             let both = and_parts (is_sound (SetRow place whose values)) (list_all is_sound steps) sound in
-            and_from _ _ (ap (λ b. if b then true else whose == writer) (nobodys_row (is_stored place) whose values (find_of place) both.0)) (rows_its steps both.1 sets)
+            and_from _ _ (ap (λ b. if b then true else whose == writer) (nobodys_row (is_stored place) whose values (find_data_of place) both.0)) (rows_its steps both.1 sets)
         rows_its (SetEntries whose entries ∷ steps) sound sets = impossible sets
         rows_its (PutNetwork id secret ∷ steps) sound sets = impossible sets
         rows_its (RemoveNetwork id ∷ steps) sound sets = impossible sets

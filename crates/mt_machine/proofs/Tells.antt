@@ -23,9 +23,11 @@ use Rattle.mt_opcreds.specs.Moves.{IsMove, StepsAreMoves, expires, expires_and_l
 use Rattle.mt_write.specs.Laws.{LeavesSound, NobodySetsScoped, TouchesItsOwn, is_own_step}
 use Rattle.mt_machine.specs.Effects.{events_in, is_setting_step}
 use Rattle.mt_machine.specs.Environment.{Environment}
+use Rattle.mt_admin.specs.Windows.{closed, has_ended, number_at, window_end}
+use Rattle.mt_machine.specs.Requests.{RequestLaws}
 use Rattle.mt_machine.specs.Rollback.{is_due}
 use Rattle.mt_machine.specs.State.{IsValid, is_among}
-use Rattle.mt_machine.specs.Step.{after_steps, asked_steps, asker, asker_of, at_time, gone_between, steps_of}
+use Rattle.mt_machine.specs.Step.{after_steps, asked_steps, asker, asker_of, at_time, gone_between, steps_of, rows_of_nobody}
 use Rattle.mt_machine.specs.Telling.{is_told_as, is_told_to, joined_between, joining_events, leaving_events, told_between}
 use Rattle.mt_machine.proofs.Asked.{asked_by, asker_asks, asker_known, is_asker, is_known}
 use Rattle.mt_machine.proofs.Times.{fabrics-stay, gone_none}
@@ -83,26 +85,28 @@ moved_told known fabric actor steps (leaves index free is) = ap (list_all (is_to
 moved_told known fabric actor steps (expires index context was is) = ap (list_all (is_told_to actor)) is
 moved_told known fabric actor steps (expires_and_leaves index context was_not is) = ap (list_all (is_told_to actor)) is
 
-module _ (own : TouchesItsOwn) (sound : LeavesSound) (nobody : NobodySetsScoped) (sound_steps : StepsAreSound) (first_steps : StepsStandFirst) (well : StepsAreWellFormed) (fit : StepsFit) (moves : StepsAreMoves)
+module _ (laws : RequestLaws)
     (given : Environment) (keeps : KeepsRules given.judged) where
   asked_told : (s : NodeState) (valid : IsValid s) (request : Request) (deadline : Option ℕ) (now : ℕ) (asking : Option Actor) → is_known s.fabrics asking ≡ true → is_asker asking ≡ true
       → list_all (is_told_as asking) (asked_steps given s request deadline now asking) ≡ true
   asked_told s valid request deadline now None known asks = refl
   asked_told s valid request deadline now (Some actor) known asks =
-      asked_by own sound nobody sound_steps first_steps well fit moves given keeps s valid actor (λ (steps : List NodeStep). list_all (is_told_to actor) steps ≡ true) refl
+      asked_by laws given keeps s valid actor now (λ (steps : List NodeStep). list_all (is_told_to actor) steps ≡ true) refl
       (λ steps its fit_all. all-weaker (is_own_step actor) (is_told_to actor) (own_told actor) steps its)
       (λ steps sound_all first.
       all-weaker (commission_laws.is_sound_step (map bare_network s.networks) (option_map bare_armed s.armed) actor.fabric) (is_told_to actor) (sound_told (map bare_network s.networks) (option_map bare_armed s.armed) actor.fabric actor) steps sound_all)
       (λ steps good fit_all move. moved_told _ actor.fabric actor steps move)
-      known asks request deadline now
+      known asks request deadline
 
-  due_told : (due : Bool) → list_all (is_told_as None) (if due then Expire ∷ [] else []) ≡ true
-  due_told true = refl
-  due_told false = refl
+  due_told : (due ended : Bool) → list_all (is_told_as None) ((if due then Expire ∷ [] else []) ++ (if ended then closed else [])) ≡ true
+  due_told true true = refl
+  due_told true false = refl
+  due_told false true = refl
+  due_told false false = refl
 
   pub action_told : (s : NodeState) (action : Action) (now : ℕ) → IsValid s → list_all (is_told_as (asker_of s action)) (steps_of given s action now) ≡ true
   action_told s (Ask actor request deadline) now valid = asked_told s valid request deadline now (asker s actor) (asker_known s actor valid) (asker_asks s actor valid)
-  action_told s actions.Expire now valid = due_told (is_due s.armed now)
+  action_told s actions.Expire now valid = due_told (is_due s.armed now) (has_ended now (number_at (rows_of_nobody s) window_end))
   action_told s Nothing now valid = refl
 
 -- Where nobody joins or leaves, the events of the steps alone are told.

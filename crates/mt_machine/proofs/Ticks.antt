@@ -1,5 +1,5 @@
 -- What a time step leaves of a fabric's own part is made of that part and of what is public.
-use Rattle.std.proofs.Common.{◌≡◌, ℕ, ◌==◌, inl, inr, Bool, true, false, List, [], ◌∷◌, Option, Some, None, refl, sym, ap, ◌∙◌, filter, map, subst, arith, if◌then◌else◌}
+use Rattle.std.proofs.Common.{◌≡◌, ℕ, ◌==◌, ◌++◌, inl, inr, Bool, true, false, List, [], ◌∷◌, Option, Some, None, refl, sym, ap, ◌∙◌, filter, map, subst, arith, if◌then◌else◌}
 use Rattle.std.specs.Option.{option_map}
 use Rattle.std.proofs.lemmas.Bool.{cases_Bool, eqb-true}
 use Rattle.mt_fabrics.specs.Table.{has_index}
@@ -23,9 +23,13 @@ use Rattle.mt_machine.specs.Environment.{Environment}
 use Rattle.mt_subs.specs.Leaving.{is_live_as}
 use Rattle.mt_machine.specs.Isolation.{Own, is_deadline_in, own, own_of_whole, owns, saved_for, veil, veil_of_whole, with_saved}
 use Rattle.mt_machine.specs.Lines.{next_tick}
-use Rattle.mt_machine.specs.Rollback.{breadcrumb, deadlines_left, ends, given_back, is_due, rolled_back, session_behind, undone}
+use Rattle.mt_machine.specs.Effects.{is_setting_step}
+use Rattle.mt_machine.specs.Rollback.{breadcrumb, deadlines_left, ends, given_back, is_due, rollback, rolled_back, session_behind, undone}
 use Rattle.mt_machine.specs.State.{IsValid, State}
-use Rattle.mt_machine.specs.Step.{after_action, after_steps, at_time}
+use Rattle.mt_machine.specs.Step.{after_action, after_steps, at_time, window_steps}
+use Rattle.std.specs.List.{list_all}
+use Rattle.mt_model.specs.declared.node.action.NodeStep.{NodeStep}
+use Rattle.mt_machine.proofs.Windows.{windows_set, windows_veiled}
 use Rattle.mt_machine.proofs.Again.{own-again}
 use Rattle.mt_machine.proofs.Rolled.{given-index}
 use Rattle.mt_machine.proofs.Steps.{own-alike}
@@ -147,15 +151,20 @@ module _ (fabric : ℕ) where
   due_alike None saved now = refl
   due_alike (Some armed) saved now = refl
 
-  expired_alike : (s : NodeState) (ms : ℕ) → IsValid s → (due : Bool)
-      → own fabric (after_steps None (if due then steps.Expire ∷ [] else []) (at_time ms (veil fabric s))) ≡ own fabric (after_steps None (if due then steps.Expire ∷ [] else []) (at_time ms s))
-  expired_alike s ms valid true = rolled_alike s.armed (at_time ms s) (at_time ms (veil fabric s)) (own-again fabric s valid.fabrics_rise)
-  expired_alike s ms valid false = own-again fabric s valid.fabrics_rise
+  abbrev expiring : Bool → List NodeStep
+  expiring due = if due then steps.Expire ∷ [] else []
+
+  expired_alike : (s : NodeState) (ms : ℕ) → IsValid s → (windows : List NodeStep) → list_all is_setting_step windows ≡ true → (due : Bool)
+      → own fabric (after_steps None (expiring due ++ windows) (at_time ms (veil fabric s))) ≡ own fabric (after_steps None (expiring due ++ windows) (at_time ms s))
+  expired_alike s ms valid windows sets true =
+      own-alike fabric None None windows (rollback (at_time ms (veil fabric s))) (rollback (at_time ms s)) sets (rolled_alike s.armed (at_time ms s) (at_time ms (veil fabric s)) (own-again fabric s valid.fabrics_rise))
+  expired_alike s ms valid windows sets false = own-alike fabric None None windows (at_time ms (veil fabric s)) (at_time ms s) sets (own-again fabric s valid.fabrics_rise)
 
   node_alike : (given : Environment) (s : NodeState) (ms : ℕ) → IsValid s → own fabric (after_action given (veil fabric s) Expire ms) ≡ own fabric (after_action given s Expire ms)
   node_alike given s ms valid =
-      ap (λ (due : Bool). own fabric (after_steps None (if due then steps.Expire ∷ [] else []) (at_time ms (veil fabric s)))) (due_alike s.armed (saved_for fabric s.armed) ms)
-      ∙ expired_alike s ms valid (is_due s.armed ms)
+      ap (λ (due : Bool). own fabric (after_steps None (expiring due ++ window_steps (veil fabric s) ms) (at_time ms (veil fabric s)))) (due_alike s.armed (saved_for fabric s.armed) ms)
+      ∙ ap (λ (windows : List NodeStep). own fabric (after_steps None (expiring (is_due s.armed ms) ++ windows) (at_time ms (veil fabric s)))) (windows_veiled fabric s ms)
+      ∙ expired_alike s ms valid (window_steps s ms) (windows_set s ms) (is_due s.armed ms)
 
   -- Deadlines.
 

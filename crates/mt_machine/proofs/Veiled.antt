@@ -119,7 +119,7 @@ module _ (given : Environment) where
     asked_same : (request : Request) (deadline : Option ℕ) (ms : ℕ) → asked_reply given veiled.node request deadline ms (asker veiled.node actor) ≡ asked_reply given s.node request deadline ms (asker s.node actor)
     asked_same request deadline ms =
         ap (asked_reply given veiled.node request deadline ms) on_veil
-        ∙ ap (λ (o : Observation). if is_late deadline ms then refusal (code_of Timeout) else reply_to given o asking (is_some deadline) request) (sees-veil asking.fabric s.node valid)
+        ∙ ap (λ (o : Observation). if is_late deadline ms then refusal (code_of Timeout) else reply_to given (record o { clock = ms }) asking (is_some deadline) request) (sees-veil asking.fabric s.node valid)
         ∙ sym (ap (asked_reply given s.node request deadline ms) on_state)
 
     pub reply_same : (ms : ℕ) (asked : Result Request ImFault) → line_reply given veiled actor asking ms asked ≡ line_reply given s actor asking ms asked
@@ -140,7 +140,7 @@ module _ (given : Environment) where
     pub steps_same : (request : Request) (deadline : Option ℕ) (ms : ℕ) → asked_steps given veiled.node request deadline ms (asker veiled.node actor) ≡ asked_steps given s.node request deadline ms (asker s.node actor)
     steps_same request deadline ms =
         ap (asked_steps given veiled.node request deadline ms) on_veil
-        ∙ ap (λ (o : Observation). if is_late deadline ms then [] else steps_to given o asking (is_some deadline) request) (sees-veil asking.fabric s.node valid)
+        ∙ ap (λ (o : Observation). if is_late deadline ms then [] else steps_to given (record o { clock = ms }) asking (is_some deadline) request) (sees-veil asking.fabric s.node valid)
         ∙ sym (ap (asked_steps given s.node request deadline ms) on_state)
 
     node_left : AlikeOn s.node → (asked : Result Request ImFault) (deadline : Option ℕ) (ms : ℕ) → own asking.fabric (after_action given veiled.node (action_of actor deadline asked) ms) ≡ own asking.fabric (after_action given s.node (action_of actor deadline asked) ms)

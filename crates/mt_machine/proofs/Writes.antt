@@ -8,7 +8,7 @@ use Rattle.std.proofs.lemmas.List.Sums.{length-filter, count_by-le-length}
 use Rattle.std.specs.List.{count_by, list_all, list_any}
 use Rattle.mt_fabrics.specs.Table.{has_index}
 use Rattle.mt_tlv.specs.declared.value.Value.{Value}
-use Rattle.mt_meta.specs.Finding.{find_of}
+use Rattle.mt_meta.specs.Finding.{find_data_of, find_of}
 use Rattle.mt_meta.specs.Forms.{has_form}
 use Rattle.mt_meta.specs.Places.{all_places}
 use Rattle.mt_meta.specs.Stored.{is_stored}
@@ -121,7 +121,7 @@ nobodys fabrics row (Ok meta) is unscoped =
     let nobody : is_row_of fabrics false row.fabric ≡ true = subst (λ b. is_row_of fabrics b row.fabric ≡ true) (not-true meta.scoped unscoped) both.1 in
     eqb-true row.fabric 0 nobody
 
-module _ (s : NodeState) (valid : IsValid s) (place : Place) (fabric : ℕ) (values : List Value) (meta : Meta) (there : find_of place ≡ Ok meta)
+module _ (s : NodeState) (valid : IsValid s) (place : Place) (fabric : ℕ) (values : List Value) (meta : Meta) (there : find_data_of place ≡ Ok meta)
     (stored : is_stored place ≡ true) (forms : list_all (has_form meta fabric) values ≡ true) (many : are_as_many meta values ≡ true)
     (whose : is_row_of s.fabrics meta.scoped fabric ≡ true)
     (ascending : are_ascending (with_rows place fabric values s.rows) ≡ true)
@@ -146,17 +146,17 @@ module _ (s : NodeState) (valid : IsValid s) (place : Place) (fabric : ℕ) (val
         let early : stands_before row.place place ≡ false = subst (λ (p : Place). stands_before p place ≡ false) (sym (place-same row.place place at)) (before-itself place) in
         rw (early, at, zero) (le-ltb row.fabric 0 (omega arith))
 
-    none_above : is_unscoped (find_of place) ≡ true → fabric ≡ 0 → (row : Row) → is_row s.fabrics row ≡ true → stands_at place row ≡ true → is_above place fabric row ≡ false
+    none_above : is_unscoped (find_data_of place) ≡ true → fabric ≡ 0 → (row : Row) → is_row s.fabrics row ≡ true → stands_at place row ≡ true → is_above place fabric row ≡ false
     none_above unscoped zero row is at =
         let same = place-same row.place place at in
         let late : stands_before place row.place ≡ false = subst (λ (p : Place). stands_before place p ≡ false) (sym same) (before-itself place) in
-        let here = (and_parts (is_stored row.place) (is_row_at s.fabrics row (find_of row.place)) is).1 in
-        let nobody : row.fabric ≡ 0 = nobodys s.fabrics row (find_of row.place) here (subst (λ (p : Place). is_unscoped (find_of p) ≡ true) (sym same) unscoped) in
+        let here = (and_parts (is_stored row.place) (is_row_at s.fabrics row (find_data_of row.place)) is).1 in
+        let nobody : row.fabric ≡ 0 = nobodys s.fabrics row (find_data_of row.place) here (subst (λ (p : Place). is_unscoped (find_data_of p) ≡ true) (sym same) unscoped) in
         rw (late, zero, nobody) (and_right (same_place place row.place) false refl)
 
     stands_here : has_one_row place ≡ true → count (stands_at place) (with_rows place fabric values s.rows) ≡ 1
     stands_here single =
-        let unscoped = (and_parts (is_stored place) (is_unscoped (find_of place)) single).1 in
+        let unscoped = (and_parts (is_stored place) (is_unscoped (find_data_of place)) single).1 in
         let bare : meta.scoped ≡ false = not-true meta.scoped (subst (λ r. is_unscoped r ≡ true) there unscoped) in
         let zero : fabric ≡ 0 = eqb-true fabric 0 (subst (λ b. is_row_of s.fabrics b fabric ≡ true) bare whose) in
         let alone : length values ≡ 1 = eqb-true (length values) 1 (subst (λ b. (if b then nat_le (length values) meta.limit else length values == 1) ≡ true) bare many) in
@@ -191,10 +191,10 @@ module _ (s : NodeState) (valid : IsValid s) (place : Place) (fabric : ℕ) (val
           eq-eqb _ _ (counted (stands_at q) (with_rows place fabric values s.rows) ∙ stands_elsewhere q other ∙ sym (counted (stands_at q) s.rows) ∙ before)
     ]
 
-    same_meta : (m : Meta) → find_of place ≡ Ok m → meta ≡ m
+    same_meta : (m : Meta) → find_data_of place ≡ Ok m → meta ≡ m
     same_meta m found = let same : Ok meta ≡ Ok m = sym there ∙ found in cc
 
-    room : (m : Meta) → find_of place ≡ Ok m → m.scoped ≡ true → nat_le (length values) m.limit ≡ true
+    room : (m : Meta) → find_data_of place ≡ Ok m → m.scoped ≡ true → nat_le (length values) m.limit ≡ true
     room m found = subst (λ (x : Meta). x.scoped ≡ true → nat_le (length values) x.limit ≡ true) (same_meta m found) (λ scoped.
         subst (λ b. (if b then nat_le (length values) meta.limit else length values == 1) ≡ true) scoped many)
 
@@ -313,7 +313,7 @@ module _
     (rows_rise : (rows : List Row) (place : Place) (fabric : ℕ) (values : List Value) → are_ascending rows ≡ true → are_ascending (with_rows place fabric values rows) ≡ true)
     (entries_rise : (entries new : List AclEntry) (least fabric : ℕ) → least ≤ fabric → ascend_from least entries ≡ true → list_all (setting.is_entry_of fabric) new ≡ true → ascend_from least (with_entries fabric new entries) ≡ true)
   where
-    row_set : (s : NodeState) → IsValid s → (place : Place) (fabric : ℕ) (values : List Value) (found : Result Meta Status) → find_of place ≡ found → fits_row s.fabrics fabric (is_stored place) values found ≡ true
+    row_set : (s : NodeState) → IsValid s → (place : Place) (fabric : ℕ) (values : List Value) (found : Result Meta Status) → find_data_of place ≡ found → fits_row s.fabrics fabric (is_stored place) values found ≡ true
         → AreRows s (with_rows place fabric values s.rows)
     row_set s valid place fabric values (Err status) there fit = impossible fit
     row_set s valid place fabric values (Ok meta) there fit =
@@ -331,7 +331,7 @@ module _
 
     pub after_step : (asker : Option Actor) (step : NodeStep) (s : NodeState) → IsValid s → fits s.fabrics step ≡ true → IsValid (after asker step s)
     after_step asker (SetRow place fabric values) s valid fit =
-        renewed s (with_rows place fabric values s.rows) s.entries s.versions s.changes s.changed s.clock valid (row_set s valid place fabric values (find_of place) refl fit) (same_entries s valid) valid.versions_stand (same_changes s valid) valid.newest_counts
+        renewed s (with_rows place fabric values s.rows) s.entries s.versions s.changes s.changed s.clock valid (row_set s valid place fabric values (find_data_of place) refl fit) (same_entries s valid) valid.versions_stand (same_changes s valid) valid.newest_counts
     after_step asker (SetEntries fabric new) s valid fit =
         renewed s s.rows (with_entries fabric new s.entries) s.versions s.changes s.changed s.clock valid (same_rows s valid) (entries_set s valid fabric new fit) valid.versions_stand (same_changes s valid) valid.newest_counts
     after_step asker (PutNetwork id secret) s valid fit = impossible fit

@@ -38,7 +38,7 @@ use Rattle.mt_model.specs.declared.node.state.NodeSession.{NodeSession}
 use Rattle.mt_machine.specs.State.{IsValid, State, is_member, rows_of}
 use Rattle.mt_machine.specs.Telling.{is_told_as, told_between}
 use Rattle.mt_opcreds.specs.Laws.{KeepsRules}
-use Rattle.mt_machine.specs.Step.{after_action, after_steps, asker, aside_between, aside_of, asker_of, at_time, gone_between, steps_of}
+use Rattle.mt_machine.specs.Step.{after_action, after_steps, asker, aside_between, aside_of, asker_of, at_time, gone_between, steps_of, window_steps}
 
 -- What a fabric observes of a state is what it observes of the veil, which is made of its own part and of what is
 -- public to it.
@@ -113,13 +113,14 @@ KeepsTheOwn = (given : Environment) (fabric : ℕ) (s : State) (e : Event) → K
     → own_of_whole fabric (plain_next given s e) ≡ own_of_whole fabric s
 
 -- A time step lets the fail-safe expire exactly where it is armed and the time of its end has come. Then the state is the rollback of the
--- state before, at that time, with the versions and change numbers that follow; otherwise the time alone is new.
+-- state before, at that time; otherwise the time alone is new. Behind that the commissioning window is closed whose end has come, and
+-- versions and change numbers follow.
 abbrev pub ExpiresWhereDue : Type 0
 ExpiresWhereDue = (given : Environment) (s : State) (ms : ℕ) → is_due s.node.armed ms ≡ true
-    → plain_next given s (Tick ms) ≡ record { node = settled (at_time ms s.node) (rollback (at_time ms s.node)); deadlines = deadlines_left s.node.armed s.deadlines }
+    → plain_next given s (Tick ms) ≡ record { node = settled (at_time ms s.node) (after_all None (window_steps s.node ms) (rollback (at_time ms s.node))); deadlines = deadlines_left s.node.armed s.deadlines }
 
 abbrev pub PassesOtherwise : Type 0
-PassesOtherwise = (given : Environment) (s : State) (ms : ℕ) → is_due s.node.armed ms ≡ false → plain_next given s (Tick ms) ≡ record s { node = at_time ms s.node }
+PassesOtherwise = (given : Environment) (s : State) (ms : ℕ) → is_due s.node.armed ms ≡ false → plain_next given s (Tick ms) ≡ record s { node = settled (at_time ms s.node) (after_all None (window_steps s.node ms) (at_time ms s.node)) }
 
 -- The fabric that it takes out of the table is the one that was added, where one was.
 abbrev pub TakesTheAddedAway : Type 0
@@ -203,6 +204,10 @@ LeftIsGone = (fabric : ℕ) (asker : Option Actor) (step : NodeStep) (s : NodeSt
 abbrev pub LeftIsGoneBehindAnExpiry : Type 0
 LeftIsGoneBehindAnExpiry = (fabric : ℕ) (asker : Option Actor) (index : ℕ) (s : NodeState) → added_in s.armed ≡ None
     → has_left s (after_all asker (steps.Expire ∷ RemoveFabric index ∷ []) s) fabric ≡ is_that fabric (gone_between s.fabrics (after_all asker (steps.Expire ∷ RemoveFabric index ∷ []) s).fabrics)
+
+-- So it is with a time step, of whatever state.
+abbrev pub TicksTakeOne : Type 0
+TicksTakeOne = (given : Environment) (s : NodeState) (now fabric : ℕ) → has_left s (after_action given s Expire now) fabric ≡ is_that fabric (gone_between s.fabrics (after_action given s Expire now).fabrics)
 
 -- An action that makes no step sets the time, and nothing else: no version moves, and no change is counted.
 abbrev pub SetsTheTime : Type 0

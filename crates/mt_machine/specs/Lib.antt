@@ -12,6 +12,7 @@ pub mod Leaving
 pub mod Lines
 pub mod Observation
 pub mod Opened
+pub mod Requests
 pub mod Rollback
 pub mod Samples
 pub mod Settings

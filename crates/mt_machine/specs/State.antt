@@ -5,7 +5,7 @@ use Rattle.mt_fabrics.specs.Table.{has_index_up_to}
 use Rattle.mt_fabrics.specs.Table as table
 use Rattle.mt_failsafe.specs.Facts.{is_added_to, is_updated_in}
 use Rattle.mt_failsafe.specs.Notes.{was_added}
-use Rattle.mt_meta.specs.Finding.{find_of}
+use Rattle.mt_meta.specs.Finding.{find_data_of, find_of}
 use Rattle.mt_meta.specs.Forms.{has_form}
 use Rattle.mt_meta.specs.Places.{all_places}
 use Rattle.mt_meta.specs.Stored.{is_stored}
@@ -75,7 +75,7 @@ is_row_at fabrics row (Err status) = false
 
 -- a row stands at a stored place of the table, with a value of its form within its limits
 abbrev pub is_row : List Fabric → Row → Bool
-is_row fabrics row = is_stored row.place && is_row_at fabrics row (find_of row.place)
+is_row fabrics row = is_stored row.place && is_row_at fabrics row (find_data_of row.place)
 
 abbrev pub is_unscoped : Result Meta Status → Bool
 is_unscoped (Ok meta) = not meta.scoped
@@ -83,14 +83,14 @@ is_unscoped (Err status) = false
 
 -- the stored places that have one row
 abbrev pub has_one_row : Place → Bool
-has_one_row place = is_stored place && is_unscoped (find_of place)
+has_one_row place = is_stored place && is_unscoped (find_data_of place)
 
 abbrev pub stands_once : List Row → Place → Bool
 stands_once rows place = count_by (stands_at place) rows == 1
 
 -- of a scoped list a fabric has no more items than it may
 abbrev pub ItemsAreFew : List Row → Type 0
-ItemsAreFew rows = (place : Place) (meta : Meta) (fabric : ℕ) → find_of place ≡ Ok meta → meta.scoped ≡ true → nat_le (count_by (is_at place fabric) rows) meta.limit ≡ true
+ItemsAreFew rows = (place : Place) (meta : Meta) (fabric : ℕ) → find_data_of place ≡ Ok meta → meta.scoped ≡ true → nat_le (count_by (is_at place fabric) rows) meta.limit ≡ true
 
 -- the root certificate that was given under the fail-safe
 abbrev pub is_given_root : List ℕ → Option (List ℕ) → Bool

@@ -1,10 +1,13 @@
 -- One step of the node: who is taken as asking, what is replied, what the reply makes of the state.
-use Rattle.std.specs.Prelude.{ℕ, ◌==◌, ◌&&◌, ◌++◌, not, nat_lt, Bool, true, false, List, [], ◌∷◌, Option, Some, None, is_some, if◌then◌else◌, replicate}
+use Rattle.std.specs.Prelude.{ℕ, ◌==◌, ◌&&◌, ◌++◌, not, nat_lt, Bool, true, false, List, [], ◌∷◌, Option, Some, None, filter, is_some, if◌then◌else◌, replicate}
 use Rattle.std.specs.List.{find, list_any}
 use Rattle.std.specs.Option.{option_and_then, option_map}
 use Rattle.mt_tlv.specs.declared.value.Value.{Value}
 use Rattle.mt_model.specs.messages.Blocks.{names_item}
 use Rattle.mt_model.specs.rows.Seen.{Observation}
+use Rattle.mt_model.specs.rows.Setting.{is_at}
+use Rattle.mt_model.specs.declared.rows.place.Row.{Row}
+use Rattle.mt_model.specs.declared.tables.network.Armed.{Armed}
 use Rattle.mt_model.specs.messages.Status.{code_of}
 use Rattle.mt_model.specs.declared.tables.access.Actor.{Actor}
 use Rattle.mt_model.specs.declared.tables.access.Auth.{Auth}
@@ -30,6 +33,7 @@ use Rattle.mt_model.specs.declared.node.state.Version.{Version}
 use Rattle.mt_model.specs.declared.messages.status.Status.TheVariants.{InvalidAction, Success, TimedRequestMismatch, Timeout}
 use Rattle.mt_read.specs.Reading.{read_answer}
 use Rattle.mt_write.specs.Writing.{write_answer}
+use Rattle.mt_admin.specs.Windows.{ticked}
 use Rattle.mt_apps.specs.EntryEvents.{entry_events}
 use Rattle.mt_machine.specs.Environment.{Environment}
 use Rattle.mt_machine.specs.Changes.{settled}
@@ -144,13 +148,17 @@ abbrev pub is_late : Option ℕ → ℕ → Bool
 is_late None now = false
 is_late (Some deadline) now = nat_lt deadline now
 
--- A request later than its deadline is refused, whatever it asks, and makes nothing of the state.
+abbrev pub at_time : ℕ → NodeState → NodeState
+at_time now s = record s { clock = now }
+
+-- A request later than its deadline is refused, whatever it asks, and makes nothing of the state. It is answered of what is observed at its
+-- time.
 
 abbrev pub reply_in_time : Environment → NodeState → Actor → Request → Option ℕ → ℕ → Reply
-reply_in_time given s asker request deadline now = if is_late deadline now then refusal (code_of Timeout) else reply_to given (observation asker.fabric s) asker (is_some deadline) request
+reply_in_time given s asker request deadline now = if is_late deadline now then refusal (code_of Timeout) else reply_to given (observation asker.fabric (at_time now s)) asker (is_some deadline) request
 
 abbrev pub steps_in_time : Environment → NodeState → Actor → Request → Option ℕ → ℕ → List NodeStep
-steps_in_time given s asker request deadline now = if is_late deadline now then [] else steps_to given (observation asker.fabric s) asker (is_some deadline) request
+steps_in_time given s asker request deadline now = if is_late deadline now then [] else steps_to given (observation asker.fabric (at_time now s)) asker (is_some deadline) request
 
 -- Nothing is replied where nobody is taken as asking.
 
@@ -181,17 +189,29 @@ reply_of given s (Ask actor request deadline) now = asked_reply given s request 
 reply_of given s Expire now = replies.Nothing
 reply_of given s Nothing now = replies.Nothing
 
+-- A time step lets the fail-safe expire where its end has come, and behind that closes the commissioning window whose end has come.
+
+abbrev pub expiry_steps : Option Armed → ℕ → List NodeStep
+expiry_steps armed now = if is_due armed now then steps.Expire ∷ [] else []
+
+-- the rows of nobody at a place
+abbrev pub rows_of_nobody : NodeState → Place → List Row
+rows_of_nobody s place = filter (is_at place 0) s.rows
+
+abbrev pub window_steps : NodeState → ℕ → List NodeStep
+window_steps s now = ticked (rows_of_nobody s) now
+
+abbrev pub tick_steps : NodeState → ℕ → List NodeStep
+tick_steps s now = expiry_steps s.armed now ++ window_steps s now
+
 abbrev pub steps_of : Environment → NodeState → Action → ℕ → List NodeStep
 steps_of given s (Ask actor request deadline) now = asked_steps given s request deadline now (asker s actor)
-steps_of given s Expire now = if is_due s.armed now then steps.Expire ∷ [] else []
+steps_of given s Expire now = tick_steps s now
 steps_of given s Nothing now = []
 
 -- the state behind its steps, with the versions and change numbers that follow
 abbrev pub after_steps : Option Actor → List NodeStep → NodeState → NodeState
 after_steps asker steps s = settled s (after_all asker steps s)
-
-abbrev pub at_time : ℕ → NodeState → NodeState
-at_time now s = record s { clock = now }
 
 -- the state behind it: it is this time, and its steps are made
 abbrev pub after_action : Environment → NodeState → Action → ℕ → NodeState

@@ -1,7 +1,7 @@
 -- Which steps a state takes, so that it stays valid.
 use Rattle.std.specs.Prelude.{ℕ, ◌==◌, ◌&&◌, ◌||◌, Bool, true, false, List, [], ◌∷◌, Option, Result}
 use Rattle.mt_tlv.specs.declared.value.Value.{Value}
-use Rattle.mt_meta.specs.Finding.{find_of}
+use Rattle.mt_meta.specs.Finding.{find_data_of}
 use Rattle.mt_meta.specs.Stored.{is_stored}
 use Rattle.mt_meta.specs.declared.meta.Meta.{Meta}
 use Rattle.mt_model.specs.declared.messages.status.Status.{Status}
@@ -21,7 +21,7 @@ fits_row fabrics fabric stored values found = is_sound_row stored fabric values 
 
 -- A step that sets values fits where these are the fabrics: what it sets has its form and is nobody's, or that of one of them.
 abbrev pub fits : List Fabric → NodeStep → Bool
-fits fabrics (SetRow place fabric values) = fits_row fabrics fabric (is_stored place) values (find_of place)
+fits fabrics (SetRow place fabric values) = fits_row fabrics fabric (is_stored place) values (find_data_of place)
 fits fabrics (SetEntries fabric entries) = are_entries_of fabric entries && is_among fabrics fabric
 fits fabrics (Emit place priority fabric value) = true
 fits fabrics step = false

@@ -8,6 +8,7 @@
 //! - `Effects`: what each step makes of the state;
 //! - `Changes`: what data versions and change numbers follow from comparing two states;
 //! - `Commands`: what a command comes to;
+//! - `Requests`: what the crates that answer requests say of their steps;
 //! - `Step`: one step of the node: who asks, what is replied, the state behind it;
 //! - `Deadlines`: what holds of the deadlines of plain actors;
 //! - `Lines`: one line of a recording: its action, what is sent, the state behind it;
@@ -31,12 +32,15 @@ ghost use Rattle.mt_machine.specs.Deadlines.{ActionsKeepDeadlines, PlainLinesKee
 ghost use Rattle.mt_machine.specs.Effects.{after_all};
 ghost use Rattle.mt_machine.specs.Expiries.{ExpiriesComeFirst, ExpiriesRollBack, RollbacksLeave};
 ghost use Rattle.mt_machine.specs.Joins.{end_of, first_administrator, indexes, joined_again, joined_by, labels, left_by_owner, nocs, node_label, number_row, owner_and_context, plain_pase, renewed_late, rows_at, session_pase, standings, ticked, updated_node};
-ghost use Rattle.mt_machine.specs.Laws.{ActionsKeepTheOwn, ActionsLeaveTheOwnOnTheVeil, AllStayValid, AskersAreKnown, ChangesNowhere, DeadlinesOnTheVeil, EndsNothing, ExpiresWhereDue, HidesWhatIsSaved, KeepsItsOwnPart, KeepsItsPublicView, KeepsTheOwn, LeavesItsOwnByItsView, LeavesTheOwnOnTheVeil, LeftIsGone, LeftIsGoneBehindAnExpiry, LinesAskOnTheVeil, LinesReplyOnTheVeil, OneLeaves, OneLeavesOnTheVeil, OpensValid, PassesOtherwise, RemovalsSeeTheVeil, RollsBackValid, SavesWhatItHad, SeesItsViewAlone, SeesTheVeil, SendsOnTheVeil, SessionsKeepTheirIds, SetsTheTime, SettingStepsTell, SparesOthers, StandsInOrder, StaysSettled, StaysValid, StepsSeeTheVeil, StepsSpareOthers, StepsOnTheVeil, StepsStayValid, TakenValuesFit, TakesItsSteps, TakesTheAddedAway, TellsItsOwn, TicksOnTheVeil, TicksSeeTheMarkAlone, TicksSpareOthers, TimeKeepsTheOwn, TimesStayValid};
+ghost use Rattle.mt_machine.specs.Laws.{ActionsKeepTheOwn, ActionsLeaveTheOwnOnTheVeil, AllStayValid, AskersAreKnown, ChangesNowhere, DeadlinesOnTheVeil, EndsNothing, ExpiresWhereDue, HidesWhatIsSaved, KeepsItsOwnPart, KeepsItsPublicView, KeepsTheOwn, LeavesItsOwnByItsView, LeavesTheOwnOnTheVeil, LeftIsGone, LeftIsGoneBehindAnExpiry, LinesAskOnTheVeil, LinesReplyOnTheVeil, OneLeaves, OneLeavesOnTheVeil, OpensValid, PassesOtherwise, RemovalsSeeTheVeil, RollsBackValid, SavesWhatItHad, SeesItsViewAlone, SeesTheVeil, SendsOnTheVeil, SessionsKeepTheirIds, SetsTheTime, SettingStepsTell, SparesOthers, StandsInOrder, StaysSettled, StaysValid, StepsSeeTheVeil, StepsSpareOthers, StepsOnTheVeil, StepsStayValid, TakenValuesFit, TakesItsSteps, TakesTheAddedAway, TellsItsOwn, TicksOnTheVeil, TicksSeeTheMarkAlone, TicksSpareOthers, TicksTakeOne, TimeKeepsTheOwn, TimesStayValid};
+ghost use Rattle.mt_machine.specs.Requests.{RequestLaws};
 ghost use Rattle.mt_machine.specs.Rollback.{breadcrumb};
 ghost use Rattle.mt_machine.specs.Samples.{acl_report, data_report, denial_report, empty_report, hidden_report, invalid_action, no_cluster_report, no_endpoint_report, read_acl, read_acl_anywhere, read_cluster_99, read_endpoint_7, read_on_off, sent_to_reader, too_deep};
 
+use mt_admin::commands_are_sound;
 use mt_commission::{steps_are_sound, steps_stand_first};
 use mt_fabrics::{the_index_is_the_least, valid_tables_stay_valid};
+use mt_groupkeys::steps_are_sound as key_steps_are_sound;
 use mt_meta::stored_places_are_those_of_the_model;
 use mt_model::{
     entries_are_in_order, fabrics_are_in_order, numbered_fabrics_ascend,
@@ -76,15 +80,8 @@ pub fn leaves_the_own_on_the_veil()
     ensures event { LeavesTheOwnOnTheVeil }
     ensures action { ActionsLeaveTheOwnOnTheVeil }
 {
-    writes_touch_their_own();
-    writes_keep_forms();
-    nobody_writes_scoped();
+    requests_keep_rules();
     stored_places_are_those_of_the_model();
-    steps_are_sound();
-    steps_stand_first();
-    steps_are_well_formed();
-    steps_fit();
-    steps_are_moves();
     the_index_is_the_least();
     steps_see_the_veil();
 }
@@ -94,15 +91,8 @@ pub fn leaves_the_own_on_the_veil()
 pub fn leaves_its_own_by_its_view()
     ensures { LeavesItsOwnByItsView }
 {
-    writes_touch_their_own();
-    writes_keep_forms();
-    nobody_writes_scoped();
+    requests_keep_rules();
     stored_places_are_those_of_the_model();
-    steps_are_sound();
-    steps_stand_first();
-    steps_are_well_formed();
-    steps_fit();
-    steps_are_moves();
     the_index_is_the_least();
     steps_see_the_veil();
 }
@@ -114,17 +104,10 @@ pub fn keeps_the_own()
     ensures action { ActionsKeepTheOwn }
     ensures time { TimeKeepsTheOwn }
 {
+    requests_keep_rules();
     set_rows_stand_in_order();
     set_entries_stand_in_order();
-    writes_touch_their_own();
-    writes_keep_forms();
-    nobody_writes_scoped();
     what_stays_stands_in_order();
-    steps_are_sound();
-    steps_stand_first();
-    steps_are_well_formed();
-    steps_fit();
-    steps_are_moves();
     the_index_is_the_least();
     steps_leave_states_valid();
 }
@@ -137,20 +120,13 @@ pub fn states_are_valid()
     ensures times { TimesStayValid }
     ensures stays { StaysValid }
 {
+    requests_keep_rules();
     numbered_fabrics_ascend();
     valid_tables_stay_valid();
     the_index_is_the_least();
-    steps_are_sound();
-    steps_are_well_formed();
-    steps_fit();
-    steps_are_moves();
     set_rows_stand_in_order();
     set_entries_stand_in_order();
-    writes_touch_their_own();
-    writes_keep_forms();
-    nobody_writes_scoped();
     what_stays_stands_in_order();
-    steps_stand_first();
     changes_stay_in_order();
 }
 
@@ -197,14 +173,7 @@ pub fn expiries_roll_back()
     ensures back { ExpiriesRollBack }
     ensures leaves { RollbacksLeave }
 {
-    writes_touch_their_own();
-    writes_keep_forms();
-    nobody_writes_scoped();
-    steps_are_sound();
-    steps_stand_first();
-    steps_are_well_formed();
-    steps_fit();
-    steps_are_moves();
+    requests_keep_rules();
     set_rows_stand_in_order();
     what_stays_stands_in_order();
 }
@@ -241,22 +210,17 @@ pub fn steps_see_the_veil()
 {}
 
 /// By a step at most one fabric leaves the table: the first that is not there any more. So it is with a removal
-/// behind an expiry that takes no fabric away, and so with every action, also on the veil of whoever asks.
+/// behind an expiry that takes no fabric away, and so with every action, also on the veil of whoever asks, and with
+/// a time step of whatever state.
 pub fn one_leaves()
     ensures each { LeftIsGone }
     ensures removal { LeftIsGoneBehindAnExpiry }
     ensures action { OneLeaves }
     ensures veil { OneLeavesOnTheVeil }
+    ensures tick { TicksTakeOne }
 {
-    writes_touch_their_own();
-    writes_keep_forms();
-    nobody_writes_scoped();
+    requests_keep_rules();
     stored_places_are_those_of_the_model();
-    steps_are_sound();
-    steps_stand_first();
-    steps_are_well_formed();
-    steps_fit();
-    steps_are_moves();
 }
 
 /// An action that makes no step sets the time, and nothing else of the state: no version moves, since none does
@@ -280,14 +244,7 @@ pub fn actions_tell_their_own()
     ensures own { TellsItsOwn }
     ensures setting { SettingStepsTell }
 {
-    writes_touch_their_own();
-    writes_keep_forms();
-    nobody_writes_scoped();
-    steps_are_sound();
-    steps_stand_first();
-    steps_are_well_formed();
-    steps_fit();
-    steps_are_moves();
+    requests_keep_rules();
 }
 
 /// The actor of a line is taken as the same one on the veil of the fabric for which the line acts, or as nobody on both.
@@ -363,3 +320,19 @@ pub fn samples_are_sent()
     ensures no_cluster { sent_to_reader 2 5 0x10002 read_cluster_99 ≡ no_cluster_report ∷ [] }
     ensures malformed { sent_to_reader 1 1 0 too_deep ≡ invalid_action ∷ [] }
 {}
+
+// What the crates that answer requests say of the steps that requests make.
+fn requests_keep_rules()
+    ensures { RequestLaws }
+{
+    writes_touch_their_own();
+    writes_keep_forms();
+    nobody_writes_scoped();
+    steps_are_sound();
+    steps_stand_first();
+    steps_are_well_formed();
+    steps_fit();
+    steps_are_moves();
+    commands_are_sound();
+    key_steps_are_sound();
+}

@@ -3,7 +3,7 @@ use Rattle.std.proofs.Common.{◌≡◌, inl, inr, Bool, true, false, ◌&&◌, 
 use Rattle.std.specs.List.{list_all, list_any}
 use Rattle.std.proofs.lemmas.Grind.{common_steps}
 use Rattle.std.proofs.lemmas.Bool.{and_from, and_parts, cases_Bool, or_cases}
-use Rattle.mt_meta.specs.Finding.{find_of}
+use Rattle.mt_meta.specs.Finding.{find_data_of}
 use Rattle.mt_meta.specs.Stored.{is_stored}
 use Rattle.mt_meta.specs.declared.meta.Meta.{Meta}
 use Rattle.mt_machine.specs.State.{is_row, is_row_at}
@@ -104,11 +104,11 @@ is_found fabrics row (Ok meta) e = refl
 is_found fabrics row (Err status) e = absurd (cc)
 
 abbrev pub AreOfTheModel : Type 0
-AreOfTheModel = (place : Place) → is_stored_place place ≡ (is_stored place && is_ok (find_of place))
+AreOfTheModel = (place : Place) → is_stored_place place ≡ (is_stored place && is_ok (find_data_of place))
 
 pub stored_rows : AreOfTheModel → (fabrics : List Fabric) (rows : List Row) → list_all (is_row fabrics) rows ≡ true → list_all (λ (row : Row). is_stored_place row.place) rows ≡ true
 stored_rows law fabrics [] all = refl
 stored_rows law fabrics (row ∷ rows) all =
     let both = and_parts (is_row fabrics row) (list_all (is_row fabrics) rows) all in
-    let parts = and_parts (is_stored row.place) (is_row_at fabrics row (find_of row.place)) both.0 in
-    and_from _ _ (law row.place ∙ and_from _ _ parts.0 (is_found fabrics row (find_of row.place) parts.1)) (stored_rows law fabrics rows both.1)
+    let parts = and_parts (is_stored row.place) (is_row_at fabrics row (find_data_of row.place)) both.0 in
+    and_from _ _ (law row.place ∙ and_from _ _ parts.0 (is_found fabrics row (find_data_of row.place) parts.1)) (stored_rows law fabrics rows both.1)

@@ -1,5 +1,5 @@
--- What commands find: the rows of nobody as a fabric observes them are those that are stored.
-use Rattle.std.proofs.Common.{◌≡◌, ℕ, ◌==◌, ◌||◌, inl, inr, Bool, true, false, List, [], ◌∷◌, refl, sym, ap, ◌∙◌, filter, map, if◌then◌else◌}
+-- What commands find: the rows of nobody, and its own, as a fabric observes them, are those that are stored.
+use Rattle.std.proofs.Common.{◌≡◌, ℕ, ◌==◌, ◌||◌, inl, inr, Bool, true, false, List, [], ◌∷◌, refl, sym, ap, ◌∙◌, arith, filter, map, if◌then◌else◌}
 use Rattle.std.proofs.lemmas.Bool.{cases_Bool, or_right}
 use Rattle.mt_meta.specs.Stored.{is_stored}
 use Rattle.mt_meta.specs.Table.{attributes_of, extensions_of, globals}
@@ -16,10 +16,16 @@ use Rattle.mt_model.specs.declared.node.state.NodeState.{NodeState}
 use Rattle.mt_model.specs.declared.rows.place.Place.{Place}
 use Rattle.mt_model.specs.declared.rows.place.Row.{Row}
 use Rattle.mt_model.specs.declared.tables.access.Actor.{Actor}
+use Rattle.mt_admin.specs.Commands as admin
+use Rattle.mt_admin.specs.Windows.{window_at}
 use Rattle.mt_apps.specs.Bench.{number_at, rung}
 use Rattle.mt_apps.specs.Commands.{invoked}
 use Rattle.mt_apps.specs.OnOff.{is_on, on_behind, on_off_at, set_on}
-use Rattle.mt_machine.specs.Commands.{nobodys_rows}
+use Rattle.mt_groupkeys.specs.Commands as group_keys
+use Rattle.mt_model.specs.tables.KeySets.{key_sets}
+use Rattle.mt_model.specs.tables.Known.{Known}
+use Rattle.mt_tlv.specs.declared.value.Value.{Value}
+use Rattle.mt_machine.specs.Commands.{nobodys_rows, own_rows}
 use Rattle.mt_machine.specs.Laws.{StandsInOrder}
 use Rattle.mt_machine.specs.Observation.{observation}
 use Rattle.mt_machine.specs.State.{IsValid, rows_of}
@@ -79,3 +85,42 @@ invoked_observed order s valid actor command =
     invoked_same (λ place. filter (is_at place 0) s.rows) (nobodys_rows (observation actor.fabric s)) actor command
     (sym (observed order actor.fabric s valid (on_off_at command.endpoint) (on_off_stored command.endpoint)))
     (sym (observed order actor.fabric s valid (number_at command.endpoint) (number_stored command.endpoint)))
+
+-- Administrator Commissioning: whether a window is open.
+
+window_stored : is_stored (window_at 0) ≡ true
+unfolding is_stored attributes_of globals extensions_of
+window_stored = refl
+
+pub admin_observed : StandsInOrder → (s : NodeState) → IsValid s → (known : Known) (actor : Actor) (command : Place) (fields : Value) (now : ℕ)
+    → admin.invoked (λ place. filter (is_at place 0) s.rows) known actor command fields now ≡ admin.invoked (nobodys_rows (observation actor.fabric s)) known actor command fields now
+admin_observed order s valid known actor command fields now =
+    ap (λ (rows : List Row). admin.invoked (λ place. rows) known actor command fields now) (sym (observed order actor.fabric s valid (window_at 0) window_stored))
+
+-- Group Key Management: the key sets and the map of the asker's fabric.
+
+own_seen : (fabric : ℕ) (rows : List Row) → filter (is_own fabric) (map (seen_by fabric) rows) ≡ filter (is_own fabric) rows
+own_seen fabric [] = refl
+own_seen fabric (row ∷ rows) = grind (arith, own_seen fabric rows)
+
+own_observed : StandsInOrder → (fabric : ℕ) (s : NodeState) → IsValid s → (place : Place) → is_stored place ≡ true → own_rows (observation fabric s) place ≡ filter (is_at place fabric) s.rows
+own_observed order fabric s valid place stored =
+    ap (λ (seen : Seen). filter (is_own fabric) (seen.rows_at place)) (sym (order fabric s valid))
+    ∙ own_seen fabric (rows_of s place)
+    ∙ ap (filter (is_own fabric)) (stored_rows s place stored)
+    ∙ filter_and (is_own fabric) (stands_at place) s.rows
+
+sets_stored : is_stored key_sets ≡ true
+unfolding is_stored attributes_of globals extensions_of
+sets_stored = refl
+
+map_stored : is_stored group_keys.key_map ≡ true
+unfolding is_stored attributes_of globals extensions_of
+map_stored = refl
+
+pub keys_observed : StandsInOrder → (s : NodeState) → IsValid s → (actor : Actor) (command : Place) (fields : Value)
+    → group_keys.invoked (λ place. filter (is_at place actor.fabric) s.rows) actor command fields ≡ group_keys.invoked (own_rows (observation actor.fabric s)) actor command fields
+keys_observed order s valid actor command fields =
+    let sets = sym (own_observed order actor.fabric s valid key_sets sets_stored) in
+    let items = sym (own_observed order actor.fabric s valid group_keys.key_map map_stored) in
+    λ i. group_keys.invoked (λ (place : Place). if place.leaf == 0 then items i else sets i) actor command fields

@@ -20,8 +20,7 @@ use Rattle.mt_model.specs.declared.rows.place.Place.{Place}
 use Rattle.mt_model.specs.declared.tables.access.Actor.{Actor}
 use Rattle.mt_opcreds.specs.Judged.{judged_by}
 use Rattle.mt_opcreds.specs.Laws.{KeepsRules}
-use Rattle.mt_machine.specs.Commands.{carried_out, is_commissioning, nobodys_rows, unless_refused}
-use Rattle.mt_apps.specs.Commands.{invoked}
+use Rattle.mt_machine.specs.Commands.{carried_out, is_commissioning, of_others, unless_refused}
 use Rattle.mt_commission.specs.Commands as commission
 use Rattle.mt_opcreds.specs.Commands as credentials
 use Rattle.mt_machine.specs.Environment.{Environment}
@@ -49,7 +48,7 @@ nothing_keeps = record { roots = refl; csrs = refl; joins = refl }
 
 -- what the other crates carry out
 abbrev others : Environment → Observation → Actor → Place → Value → Effect
-others given o actor command fields = if is_commissioning command.cluster then commission.invoked o.known given.reachable actor command fields else invoked (nobodys_rows o) actor command
+others given o actor command fields = if is_commissioning command.cluster then commission.invoked o.known given.reachable actor command fields else of_others o actor command fields
 
 same_carried : (given : Environment) (o : Observation) (actor : Actor) (command : Place) (fields : Value) → (command.cluster == operational_credentials.cluster) ≡ false → carried_out given o actor command fields ≡ carried_out (bare given) o actor command fields
 same_carried given o actor command fields other =
@@ -74,7 +73,7 @@ same_asked : (given : Environment) (s : NodeState) (request : Request) (deadline
     → asked_steps given s request deadline now asking ≡ asked_steps (bare given) s request deadline now asking
 same_asked given s request deadline now None other = refl
 same_asked given s request deadline now (Some actor) other =
-    ap (λ (steps : List NodeStep). if is_late deadline now then [] else steps) (same_steps given (observation actor.fabric s) actor (is_some deadline) request other)
+    ap (λ (steps : List NodeStep). if is_late deadline now then [] else steps) (same_steps given (observation actor.fabric (at_time now s)) actor (is_some deadline) request other)
 
 module _ (given : Environment) (s : NodeState) (valid : IsValid s) (actor : Actor) (request : Request) (deadline : Option ℕ) (now : ℕ) (rules : is_of_credentials request ≡ true → KeepsRules given.judged) where
   pub taken : TakesItsSteps → may_take_all (asker s actor) (asked_steps given s request deadline now (asker s actor)) (at_time now s) ≡ true

@@ -5,7 +5,7 @@ ghost use Rattle.mt_model.specs.declared.node.action.NodeStep.TheVariants.{Expir
 ghost use Rattle.mt_machine.specs.Environment.{Environment};
 ghost use Rattle.mt_machine.specs.Rollback.{is_due};
 ghost use Rattle.mt_machine.specs.State.{IsValid};
-ghost use Rattle.mt_machine.specs.Step.{asker, is_late, session_actor};
+ghost use Rattle.mt_machine.specs.Step.{asker, is_late, session_actor, tick_steps};
 ghost use Rattle.mt_node.specs.Answered.{IsAnswerInTime, is_of_credentials};
 ghost use Rattle.mt_node.specs.Configured.{given_to, in_state, started};
 ghost use Rattle.mt_node.specs.Plan.{IsPlan, IsPlanned, applied};
@@ -16,7 +16,9 @@ use crate::effects::{outcome, unchanged};
 use crate::opening::opened;
 use crate::outcome::Outcome;
 use crate::requests::{answered, nothing, refused};
+use crate::sight::view;
 use crate::{actors, effects};
+use mt_admin::tick;
 use mt_machine::{one_leaves, states_are_valid};
 use mt_meta::clusters::OPERATIONAL_CREDENTIALS;
 use mt_model::{
@@ -137,21 +139,32 @@ impl Node {
         if is_late(timed, now) {
             return Ok(refused(self.alloc, Status::Timeout));
         }
-        answered(self, asking, timed.is_some(), request, verdicts)
+        answered(self, asking, timed.is_some(), request, now, verdicts)
     }
 
-    // Plans an expiry, where it is time for one.
+    // Plans what a time step does: an expiry, where it is time for one, and that a commissioning window is closed.
     fn plan_expiry(&self, now: u64) -> Result<Outcome, AllocError>
         ensures { (given : Environment) → IfOk result (IsPlan given self.now.state Action.Expire now) }
     {
         states_are_valid();
         one_leaves();
-        let steps = expiry(self.alloc, is_due(&self.state.armed, now))?;
+        let steps = self.tick_steps(now)?;
         let answered = Effect {
             reply: Reply::Nothing,
             steps,
         };
         outcome(self.alloc, self, None, answered, now)
+    }
+
+    // The steps of a time step: first an expiry, where one is due, and then those that close a window whose end has come.
+    fn tick_steps(&self, now: u64) -> Result<Steps, AllocError>
+        ensures { IfOk result (λ steps. steps ≡ tick_steps self.now.state now) }
+    {
+        let Effect { reply: _, steps } = tick(self.alloc, &view(self), now)?;
+        if is_due(&self.state.armed, now) {
+            return behind_expiry(self.alloc, steps);
+        }
+        Ok(steps)
     }
 
     // The outcome of what nobody asks.
@@ -218,15 +231,14 @@ impl Node {
     }
 }
 
-// The steps of an expiry, where one is due.
-fn expiry(alloc: Global, due: bool) -> Result<Steps, AllocError>
-    ensures { IfOk result (λ steps. steps ≡ (if due then Expire ∷ [] else [])) }
+// An expiry, and behind it these steps.
+fn behind_expiry(alloc: Global, steps: Steps) -> Result<Steps, AllocError>
+    ensures { IfOk result (λ all. all ≡ Expire ∷ steps) }
 {
-    let mut steps = Steps::new(alloc);
-    if due {
-        steps.push(NodeStep::Expire)?;
-    }
-    Ok(steps)
+    let mut all = vec![in alloc; NodeStep::Expire]?;
+    let mut steps = steps.into_vec();
+    all.append(&mut steps)?;
+    Ok(Steps::from_vec(all))
 }
 
 // Whether it is time that the fail-safe expires.

@@ -3,7 +3,7 @@
 ghost use Rattle.std.specs.Prelude.{◌≡◌, [], IfOk};
 ghost use Rattle.mt_model.specs.messages.Status.{code_of};
 ghost use Rattle.mt_model.specs.declared.messages.message.Reply.TheVariants.{Nothing};
-ghost use Rattle.mt_machine.specs.Step.{is_untimely, refusal, unless_suppressed};
+ghost use Rattle.mt_machine.specs.Step.{at_time, is_untimely, refusal, unless_suppressed};
 ghost use Rattle.mt_node.specs.Answered.{IsAnswer};
 ghost use Rattle.mt_node.specs.Configured.{given_to};
 
@@ -12,17 +12,18 @@ use crate::{commands, reads, writes};
 use mt_model::{Actor, Effect, Reply, Request, Status, Steps, Verdicts};
 use std::alloc::{AllocError, Global};
 
-/// What a request of whoever is taken as asking is answered, where a deadline stood for it or none did. What subscribes is
+/// What a request of whoever is taken as asking is answered at this time, in ms, where a deadline stood for it or none did. What subscribes is
 /// answered by whoever keeps the subscriptions.
 pub(crate) fn answered<V: Verdicts>(
     node: &Node,
     asking: &Actor,
     stood: bool,
     request: &Request,
+    now: u64,
     verdicts: &V,
 ) -> Result<Effect, AllocError>
     ensures { let given = given_to node.now (V.roots verdicts.now) (V.csrs verdicts.now) (V.joins verdicts.now) in
-        IfOk result (IsAnswer given node.now.state asking.now stood request.now) }
+        IfOk result (IsAnswer given (at_time now node.now.state) asking.now stood request.now) }
 {
     match request {
         Request::Status { .. } => Ok(refused(node.alloc, Status::InvalidAction)),
@@ -44,7 +45,7 @@ pub(crate) fn answered<V: Verdicts>(
             command,
             fields,
         } => commands::answered(
-            node, asking, stood, *suppress, *timed, command, fields, verdicts,
+            node, asking, stood, *suppress, *timed, command, fields, now, verdicts,
         ),
         Request::Timed { .. } => Ok(refused(node.alloc, Status::Success)),
     }

@@ -33,7 +33,7 @@ use Rattle.mt_machine.specs.Environment.{Environment}
 use Rattle.mt_machine.specs.Expiries as machine
 use Rattle.mt_machine.specs.Lines.{deadline_of, line_actor, sent_as}
 use Rattle.mt_machine.specs.Observation.{observation}
-use Rattle.mt_machine.specs.Step.{asked_reply, asker, is_late, reply_in_time, reply_to}
+use Rattle.mt_machine.specs.Step.{asked_reply, asker, is_late, reply_in_time, reply_to, at_time}
 use Rattle.mt_ledger.specs.Asking.{full_line_reply, with_wish}
 use Rattle.mt_ledger.specs.history.Asking.{events_for, with_events}
 use Rattle.mt_ledger.specs.Ledger.{Ledger}
@@ -95,22 +95,23 @@ no_events (replies.Subscribed id ceiling) = refl
 no_events (replies.Written items) = refl
 no_events (replies.Invoked command fields) = refl
 no_events (replies.InvokeStatus command code) = refl
+no_events (replies.InvokeClusterStatus command code cluster) = refl
 no_events replies.Nothing = refl
 
 -- What is replied to whoever asks in time.
 
 module _ (given : Environment) (s : NodeState) (l : Ledger) (asking : Actor) (deadline : Option ℕ) (ms : ℕ) (late : is_late deadline ms ≡ false) where
-  in_time : (request : Request) → reply_in_time given s asking request deadline ms ≡ reply_to given (observation asking.fabric s) asking (is_some deadline) request
+  in_time : (request : Request) → reply_in_time given s asking request deadline ms ≡ reply_to given (observation asking.fabric (at_time ms s)) asking (is_some deadline) request
   in_time request = rw late refl
 
   -- the reply, with the events among it
   abbrev Reply_to : Request → Reply
   Reply_to request = with_wish s l (wish_in_time asking deadline ms request) (with_events (events_for s l.history (Some asking) request) (reply_in_time given s asking request deadline ms))
 
-  whole_reply : (request : Request) → is_subscribe request ≡ false → Reply_to request ≡ with_events (events_for s l.history (Some asking) request) (reply_to given (observation asking.fabric s) asking (is_some deadline) request)
+  whole_reply : (request : Request) → is_subscribe request ≡ false → Reply_to request ≡ with_events (events_for s l.history (Some asking) request) (reply_to given (observation asking.fabric (at_time ms s)) asking (is_some deadline) request)
   whole_reply request is = λ i. with_wish s l (no_wish asking deadline ms request is i) (with_events (events_for s l.history (Some asking) request) (in_time request i))
 
-  exact_replies : AnswersExactly given s l asking (is_some deadline) Reply_to
+  exact_replies : AnswersExactly given (at_time ms s) l asking (is_some deadline) Reply_to
   exact_replies = record {
     reads = λ paths wanted minimum filtered versions items global.
         whole_reply (requests.Read paths wanted minimum filtered versions) refl ∙ rw (items, global) refl;
@@ -121,9 +122,9 @@ module _ (given : Environment) (s : NodeState) (l : Ledger) (asking : Actor) (de
   }
     where
       command_events : (timed : Bool) (command : Place) (fields : Value)
-          → with_events [] (unless_refused given (observation asking.fabric s) asking command fields (checked (seen_of s asking) asking command timed)).reply
-          ≡ command_reply given s asking command fields (checked (seen_of s asking) asking command timed)
-      command_events timed command fields = no_events _ ∙ command_is given s asking command fields (checked (seen_of s asking) asking command timed)
+          → with_events [] (unless_refused given (observation asking.fabric (at_time ms s)) asking command fields (checked (seen_of s asking) asking command timed)).reply
+          ≡ command_reply given (at_time ms s) asking command fields (checked (seen_of s asking) asking command timed)
+      command_events timed command fields = no_events _ ∙ command_is given (at_time ms s) asking command fields (checked (seen_of s asking) asking command timed)
 
 -- whoever is taken as asking
 abbrev replied_to : Environment → NodeState → Ledger → Option ℕ → ℕ → Option Actor → Request → Reply
@@ -131,7 +132,7 @@ replied_to given s l deadline ms whom request = with_wish s l (wish_asked whom d
 
 over_sessions : SessionRepliesAreExact
 over_sessions given w id asking timed ms is in_time =
-    subst (λ (whom : Option Actor). AnswersExactly given w.state.node w.ledger asking (is_some timed) (replied_to given w.state.node w.ledger timed ms whom)) (sym is)
+    subst (λ (whom : Option Actor). AnswersExactly given (at_time ms w.state.node) w.ledger asking (is_some timed) (replied_to given w.state.node w.ledger timed ms whom)) (sym is)
     (exact_replies given w.state.node w.ledger asking timed ms in_time)
 
 plainly : PlainRepliesAreExact

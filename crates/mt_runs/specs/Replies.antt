@@ -33,7 +33,7 @@ use Rattle.mt_machine.specs.Commands.{carried_out}
 use Rattle.mt_machine.specs.Environment.{Environment}
 use Rattle.mt_machine.specs.Lines.{deadline_of, line_actor, sent_as}
 use Rattle.mt_machine.specs.Observation.{observation}
-use Rattle.mt_machine.specs.Step.{asker, is_late, is_untimely, session_actor}
+use Rattle.mt_machine.specs.Step.{asker, at_time, is_late, is_untimely, session_actor}
 use Rattle.mt_ledger.specs.Asking.{full_line_reply}
 use Rattle.mt_ledger.specs.Ledger.{Ledger}
 use Rattle.mt_runs.specs.Datagrams.{reply_over}
@@ -73,7 +73,7 @@ command_reply given s asker command fields (Err status) = (refused_at command st
 command_reply given s asker command fields (Ok meta) =
     if has_form command fields then (carried_out given (observation asker.fabric s) asker command fields).reply else (refused_at command InvalidCommand).reply
 
--- Whether requests are answered so by an actor's node, where a deadline stood for the request or none did. It is in time.
+-- Whether requests are answered so by an actor's node at its time, where a deadline stood for the request or none did. It is in time.
 pub record AnswersExactly (given : Environment) (s : NodeState) (l : Ledger) (asker : Actor) (stood : Bool) (reply : Request → Reply) : Type 0 where
   -- a read that is not refused as a whole
   pub reads : (paths : List Path) (wanted : List Path) (minimum : ℕ) (filtered : Bool) (versions : List Version) → list_any names_item paths ≡ false → list_any is_not_global paths ≡ false
@@ -89,11 +89,11 @@ pub record AnswersExactly (given : Environment) (s : NodeState) (l : Ledger) (as
 
 abbrev pub PlainRepliesAreExact : Type 0
 PlainRepliesAreExact = (given : Environment) (w : Whole) (actor asking : Actor) (ms : ℕ) → asker w.state.node actor ≡ Some asking → is_late (deadline_of asking w.state.deadlines) ms ≡ false
-    → AnswersExactly given w.state.node w.ledger asking (is_some (deadline_of asking w.state.deadlines)) (λ (request : Request). full_line_reply given w.state w.ledger actor asking ms (Ok request))
+    → AnswersExactly given (at_time ms w.state.node) w.ledger asking (is_some (deadline_of asking w.state.deadlines)) (λ (request : Request). full_line_reply given w.state w.ledger actor asking ms (Ok request))
 
 abbrev pub SessionRepliesAreExact : Type 0
 SessionRepliesAreExact = (given : Environment) (w : Whole) (id : ℕ) (asking : Actor) (timed : Option ℕ) (ms : ℕ) → session_actor w.state.node id ≡ Some asking → is_late timed ms ≡ false
-    → AnswersExactly given w.state.node w.ledger asking (is_some timed) (λ (request : Request). reply_over given w.state.node w.ledger id timed ms (Ok request))
+    → AnswersExactly given (at_time ms w.state.node) w.ledger asking (is_some timed) (λ (request : Request). reply_over given w.state.node w.ledger id timed ms (Ok request))
 
 -- A line of a plain actor sends its reply, and nothing besides unless it subscribes.
 

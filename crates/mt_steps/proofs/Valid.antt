@@ -2,7 +2,7 @@
 use Rattle.std.proofs.Common.{◌≡◌, ℕ, ◌&&◌, Bool, true, false, inl, inr, nat_le, List, [], ◌∷◌, Result, Ok, Err, arith, is_ok, refl, ◌∙◌}
 use Rattle.std.proofs.lemmas.Bool.{and_from, and_parts, le-leb, or_cases}
 use Rattle.mt_tlv.specs.declared.value.Value.{Value}
-use Rattle.mt_meta.specs.Finding.{find_of}
+use Rattle.mt_meta.specs.Finding.{find_data_of}
 use Rattle.mt_meta.specs.Stored.{is_stored}
 use Rattle.mt_meta.specs.declared.meta.Meta.{Meta}
 use Rattle.mt_model.specs.rows.Stored.{is_stored_place}
@@ -30,9 +30,9 @@ row_stored : (fabrics : List Fabric) (fabric : ℕ) (stored : Bool) (values : Li
 row_stored fabrics fabric stored values (Ok meta) is = and_from stored true (and_parts _ _ (and_parts _ _ is).0).0 refl
 row_stored fabrics fabric stored values (Err status) is = absurd (cc is)
 
-pub takes_stored : ((place : Place) → is_stored_place place ≡ (is_stored place && is_ok (find_of place)))
+pub takes_stored : ((place : Place) → is_stored_place place ≡ (is_stored place && is_ok (find_data_of place)))
     → (s : NodeState) (place : Place) (fabric : ℕ) (values : List Value) → may_take s (SetRow place fabric values) ≡ true → is_stored_place place ≡ true
-takes_stored stored s place fabric values may = elim (or_cases (fits_row s.fabrics fabric (is_stored place) values (find_of place)) false may) [
-  | inl fit ↦ stored place ∙ row_stored s.fabrics fabric (is_stored place) values (find_of place) fit
+takes_stored stored s place fabric values may = elim (or_cases (fits_row s.fabrics fabric (is_stored place) values (find_data_of place)) false may) [
+  | inl fit ↦ stored place ∙ row_stored s.fabrics fabric (is_stored place) values (find_data_of place) fit
   | inr sound ↦ absurd (cc sound)
 ]

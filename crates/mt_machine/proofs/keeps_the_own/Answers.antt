@@ -5,8 +5,7 @@ use Rattle.mt_machine.proofs.keeps_the_own.Goals as goal
 
 pub returns-clause-event : goal.returns-clause-event
 returns-clause-event c =
-    keeps_own
-    c.writes_touch_their_own.ensures c.writes_keep_forms.ensures c.nobody_writes_scoped.ensures c.steps_are_sound.ensures c.steps_stand_first.ensures c.steps_are_well_formed.ensures c.steps_fit.ensures c.steps_are_moves.ensures
+    keeps_own c.requests_keep_rules.ensures
     c.what_stays_stands_in_order.ensures.rows c.what_stays_stands_in_order.ensures.entries
     c.set_rows_stand_in_order.ensures.ascending c.set_rows_stand_in_order.ensures.others
     (λ es new whose. c.set_entries_stand_in_order.ensures.ascending es new 0 whose (omega arith)) c.set_entries_stand_in_order.ensures.others
@@ -14,8 +13,7 @@ returns-clause-event c =
 
 pub returns-clause-action : goal.returns-clause-action
 returns-clause-action c =
-    action_keeps_own
-    c.writes_touch_their_own.ensures c.writes_keep_forms.ensures c.nobody_writes_scoped.ensures c.steps_are_sound.ensures c.steps_stand_first.ensures c.steps_are_well_formed.ensures c.steps_fit.ensures c.steps_are_moves.ensures
+    action_keeps_own c.requests_keep_rules.ensures
     c.what_stays_stands_in_order.ensures.rows c.what_stays_stands_in_order.ensures.entries
     c.set_rows_stand_in_order.ensures.ascending c.set_rows_stand_in_order.ensures.others
     (λ es new whose. c.set_entries_stand_in_order.ensures.ascending es new 0 whose (omega arith)) c.set_entries_stand_in_order.ensures.others

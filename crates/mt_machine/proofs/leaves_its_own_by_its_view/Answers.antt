@@ -8,8 +8,7 @@ use Rattle.mt_machine.proofs.leaves_its_own_by_its_view.Goals as goal
 
 pub returns : goal.returns
 returns c = λ given s t e keeps valid_s valid_t fabric own public.
-    let alike : (x : State) → IsValid x.node → AlikeOn given x.node = λ x valid. alike_on
-    c.writes_touch_their_own.ensures c.writes_keep_forms.ensures c.nobody_writes_scoped.ensures c.steps_are_sound.ensures c.steps_stand_first.ensures c.steps_are_well_formed.ensures c.steps_fit.ensures c.steps_are_moves.ensures
+    let alike : (x : State) → IsValid x.node → AlikeOn given x.node = λ x valid. alike_on c.requests_keep_rules.ensures
     c.stored_places_are_those_of_the_model.ensures c.steps_see_the_veil.ensures.each c.steps_see_the_veil.ensures.removal c.the_index_is_the_least.ensures given keeps x.node valid in
     sym (leaves_on_veil given s e valid_s (alike s valid_s))
     ∙ (λ i. own_of_whole (fabric i) (plain_next given (whole_of (fabric i) (own i) (public i)) e))

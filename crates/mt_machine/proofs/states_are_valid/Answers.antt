@@ -10,8 +10,7 @@ returns-clause-opens c = opens_valid c.numbered_fabrics_ascend.ensures c.changes
 
 pub returns-clause-takes : goal.returns-clause-takes
 returns-clause-takes c given s action now keeps valid =
-    action_taken
-    c.writes_touch_their_own.ensures c.writes_keep_forms.ensures c.nobody_writes_scoped.ensures c.steps_are_sound.ensures c.steps_stand_first.ensures c.steps_are_well_formed.ensures c.steps_fit.ensures c.steps_are_moves.ensures
+    action_taken c.requests_keep_rules.ensures
     given keeps s action now valid
 
 pub returns-clause-times : goal.returns-clause-times

@@ -3,7 +3,6 @@ use Rattle.mt_model.specs.declared.texts.recording.Event.TheVariants.{Tick}
 use Rattle.mt_machine.specs.Isolation.{own_of_whole, whole_of}
 use Rattle.mt_machine.specs.Lines.{plain_next}
 use Rattle.mt_machine.proofs.Expired.{gone_by_expiry, passes, rolls, ticks_spare}
-use Rattle.mt_machine.proofs.Settled.{settled-same}
 use Rattle.mt_machine.proofs.Ticks.{ticks_on_veil}
 use Rattle.mt_machine.proofs.ticks_let_the_failsafe_expire.Goals as goal
 
@@ -11,7 +10,7 @@ pub returns-clause-due : goal.returns-clause-due
 returns-clause-due c = rolls
 
 pub returns-clause-otherwise : goal.returns-clause-otherwise
-returns-clause-otherwise c = passes (settled-same c.what_is_told_the_same_is.ensures.rows)
+returns-clause-otherwise c = passes
 
 pub returns-clause-gone : goal.returns-clause-gone
 returns-clause-gone c = gone_by_expiry

@@ -8,4 +8,4 @@ returns-clause-action c = λ given s h actor asking asked deadline now rules val
     given s h actor asking asked deadline now rules valid is on_state on_veil
 
 pub returns-clause-tick : goal.returns-clause-tick
-returns-clause-tick c = λ given fabric s h now rules valid is. ticks_leave c.veil_keeps_both_parts.ensures.own c.ticks_let_the_failsafe_expire.ensures.veil c.one_leaves.ensures.each given fabric s h now valid is
+returns-clause-tick c = λ given fabric s h now rules valid is. ticks_leave c.veil_keeps_both_parts.ensures.own c.ticks_let_the_failsafe_expire.ensures.veil c.one_leaves.ensures.tick given fabric s h now valid is

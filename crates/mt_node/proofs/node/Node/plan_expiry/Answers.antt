@@ -1,8 +1,6 @@
-use Rattle.std.proofs.Common.{◌≡◌, ◌∙◌, Bool, true, List, [], ◌∷◌, None, refl, ap, subst, sym, if◌then◌else◌}
+use Rattle.std.proofs.Common.{◌≡◌, true, List, None, refl, subst, sym}
 use Rattle.mt_model.specs.declared.node.action.Action.TheVariants.{Expire}
 use Rattle.mt_model.specs.declared.node.action.NodeStep.{NodeStep}
-use Rattle.mt_model.specs.declared.node.action.NodeStep.TheVariants as steps
-use Rattle.mt_machine.specs.Rollback.{is_due}
 use Rattle.mt_machine.specs.State.{IsValid}
 use Rattle.mt_machine.specs.Step.{at_time}
 use Rattle.mt_machine.specs.Taking.{may_take_all}
@@ -17,19 +15,15 @@ outcome-requires c =
     let s = c.args.self.now.state in
     let now = c.args.now in
     let valid : IsValid s = subst (λ (kept : ConfiguredNode). IsValid kept.state) c.self.view_is c.self.invariant in
-    let due : c.is_due.result ≡ is_due s.armed now = c.is_due.ensures ∙ ap (λ (kept : ConfiguredNode). is_due kept.state.armed now) c.self.view_is in
-    let are : c.in_ok-steps.steps ≡ (if is_due s.armed now then steps.Expire ∷ [] else []) = c.in_ok-steps.ensures ∙ ap (λ (b : Bool). if b then steps.Expire ∷ [] else []) due in
-    subst (λ (l : List NodeStep). may_take_all None l (at_time now s) ≡ true) (sym are) (c.states_are_valid.ensures.takes nothing_given s Expire now nothing_keeps valid)
+    subst (λ (l : List NodeStep). may_take_all None l (at_time now s) ≡ true) (sym c.in_ok-steps.ensures) (c.states_are_valid.ensures.takes nothing_given s Expire now nothing_keeps valid)
 
 pub returns : goal.returns
 returns c = λ given.
     let s = c.args.self.now.state in
     let now = c.args.now in
     let valid : IsValid s = subst (λ (kept : ConfiguredNode). IsValid kept.state) c.self.view_is c.self.invariant in
-    let due : c.is_due.result ≡ is_due s.armed now = c.is_due.ensures ∙ ap (λ (kept : ConfiguredNode). is_due kept.state.armed now) c.self.view_is in
-    let are : c.in_ok-steps.steps ≡ (if is_due s.armed now then steps.Expire ∷ [] else []) = c.in_ok-steps.ensures ∙ ap (λ (b : Bool). if b then steps.Expire ∷ [] else []) due in
     if_ok (IsMade s None _ now) (IsPlan given s Expire now) c.outcome.result
-    (λ o made. plan_of given s Expire now None _ o refl refl are
+    (λ o made. plan_of given s Expire now None _ o refl refl c.in_ok-steps.ensures
     (c.states_are_valid.ensures.stays nothing_given s Expire now nothing_keeps valid)
     (λ fabric. c.one_leaves.ensures.action nothing_given s Expire now fabric nothing_keeps valid) made)
     c.outcome.ensures
