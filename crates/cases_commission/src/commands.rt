@@ -5,12 +5,16 @@
 //! - COMMAND is CLUSTER/NUMBER in hex digits, of endpoint 0;
 //! - FIELDS are the bytes of an element: pieces of hex with `,` between them, of which one may say with `*` how
 //!   many times it stands there.
+//!
+//! A case `NAME|STATE` is a time step: what it makes of the commissioning window.
 
-use crate::state::node_of;
+use crate::state::{node_of, time_of};
 use crate::telling;
 use crate::words::{Asked, asked_of};
 use cases_page::{Page, no_case};
-use mt_meta::clusters::OPERATIONAL_CREDENTIALS;
+use mt_meta::clusters::{
+    ADMINISTRATOR_COMMISSIONING, GROUP_KEY_MANAGEMENT, OPERATIONAL_CREDENTIALS,
+};
 use mt_model::{Config, Effect, TableVerdicts, View};
 use std::alloc::{AllocError, Global};
 use std::io;
@@ -38,6 +42,10 @@ fn tell_case(
             let asked = asked_of(alloc, who, command, fields)?;
             tell_asked(alloc, page, config, verdicts, state, &asked)
         }
+        [name, state] => {
+            page.line(name);
+            tell_tick(alloc, page, config, state)
+        }
         _ => Err(no_case()),
     }
 }
@@ -51,26 +59,39 @@ fn tell_asked(
     asked: &Asked,
 ) -> io::Result<()> {
     let node = node_of(alloc, config, state)?;
-    let effect = invoke(alloc, config, verdicts, &node.view(), asked)?;
+    let now = time_of(state);
+    let effect = invoke(alloc, config, verdicts, &node.view(), asked, now)?;
     telling::tell(alloc, page, &effect);
     Ok(())
 }
 
-// What the command that is asked for comes to.
+fn tell_tick(alloc: Global, page: &mut Page, config: &Config, state: &str) -> io::Result<()> {
+    let node = node_of(alloc, config, state)?;
+    let effect = mt_admin::tick(alloc, &node.view(), time_of(state))?;
+    telling::tell(alloc, page, &effect);
+    Ok(())
+}
+
+// What the command that is asked for comes to at this time, in ms.
 fn invoke(
     alloc: Global,
     config: &Config,
     verdicts: &TableVerdicts,
     view: &View,
     asked: &Asked,
+    now: u64,
 ) -> Result<Effect, AllocError> {
     let Asked {
         actor,
         command,
         fields,
     } = asked;
-    if command.cluster == OPERATIONAL_CREDENTIALS {
-        return mt_opcreds::invoke(alloc, view, actor, command, fields, verdicts);
+    match command.cluster {
+        ADMINISTRATOR_COMMISSIONING => mt_admin::invoke(alloc, view, actor, command, fields, now),
+        GROUP_KEY_MANAGEMENT => mt_groupkeys::invoke(alloc, view, actor, command, fields),
+        OPERATIONAL_CREDENTIALS => {
+            mt_opcreds::invoke(alloc, view, actor, command, fields, verdicts)
+        },
+        _ => mt_commission::invoke(alloc, view, actor, command, fields, &config.reachable),
     }
-    mt_commission::invoke(alloc, view, actor, command, fields, &config.reachable)
 }

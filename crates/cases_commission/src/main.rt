@@ -2,14 +2,16 @@
 //! commissioned. What must be printed is worked out outside of the program.
 //!
 //! - `calls.txt`: calls of the table and of the fail-safe, a line each (`calls`);
-//! - `cases.txt`: commands of General Commissioning, Network Commissioning and Operational Credentials (`commands`),
-//!   over the configuration in `config.json`, which has the verdicts too.
+//! - `cases.txt`: commands of General Commissioning, Network Commissioning, Operational Credentials, Administrator
+//!   Commissioning and Group Key Management, and what a time step makes of a commissioning window (`commands`), over
+//!   the configuration in `config.json`, which has the verdicts too.
 #![tactic(auto)]
 
 mod calls;
 mod commands;
 mod fabric_calls;
 mod failsafe_calls;
+mod rows;
 mod state;
 mod telling;
 mod words;

@@ -4,12 +4,16 @@
 //! - `added:N`, `updated:N`, `root:CERT`, `csr:new`, `csr:update`: what was done since. The nonce of a signing
 //!   request is 32 bytes 0e;
 //! - `networks:N`: the first N of the networks n1 to n4, of which n1 is connected;
-//! - `fabrics:N`: the first N of the configuration's fabrics, the first two where it is left out; `gone:N`: fabric N left.
+//! - `fabrics:N`: the first N of the configuration's fabrics, the first two where it is left out; `gone:N`: fabric N left;
+//! - `window:N`, `sets:SETS`, `map:ITEMS`, `sets-of-2:SETS`, `map-of-2:ITEMS`: what its rows have (`rows`);
+//! - `now:MS`: what time it is, 10000 ms where it is left out.
 
 ghost use Rattle.std.specs.Prelude.{IsTrue};
 ghost use Rattle.mt_model.specs.rows.Order.{fabrics_ascend};
 ghost use Rattle.mt_model.specs.texts.Config.{ascend_from};
 
+use crate::rows::rows;
+use crate::words::{number, said};
 use cases_page::{no_case, pieces};
 use mt_fabrics::FabricTable;
 use mt_model::{
@@ -67,11 +71,23 @@ fn fabrics_of(table: &FabricTable) -> &Fabrics
 pub(crate) fn node_of(alloc: Global, config: &Config, state: &str) -> io::Result<Node> {
     are_known(state)?;
     let mut node = bare_node(alloc)?;
+    node.rows = rows(alloc, state)?;
     node.table = table(alloc, config, state)?;
     node.networks = networks(alloc, state)?;
     node.armed = armed(alloc, state)?;
     Ok(node)
 }
+
+/// What time it is in these words, in ms.
+pub(crate) fn time_of(state: &str) -> u64 {
+    match said(state, "now") {
+        Some(word) => word.parse::<u64>().unwrap_or(0),
+        None => NOW,
+    }
+}
+
+// What time it is where no word says it, in ms.
+const NOW: u64 = 10_000;
 
 fn bare_node(alloc: Global) -> Result<Node, AllocError> {
     let rows = StoredRows::new(alloc)?;
@@ -98,29 +114,17 @@ fn are_known(state: &str) -> io::Result<()> {
             | "csr"
             | "networks"
             | "fabrics"
-            | "gone" => {}
+            | "gone"
+            | "window"
+            | "sets"
+            | "map"
+            | "sets-of-2"
+            | "map-of-2"
+            | "now" => {}
             _ => return Err(no_case()),
         }
     }
     Ok(())
-}
-
-// What stands behind a word and a colon.
-fn said<'a>(state: &'a str, name: &str) -> Option<&'a str> {
-    for word in state.split(' ') {
-        match word.split_once(':') {
-            Some((key, value)) if key == name => return Some(value),
-            _ => {}
-        }
-    }
-    None
-}
-
-fn number(state: &str, name: &str) -> Option<u8> {
-    match said(state, name) {
-        Some(word) => Some(word.parse::<u8>().unwrap_or(0)),
-        None => None,
-    }
 }
 
 fn table(alloc: Global, config: &Config, state: &str) -> io::Result<FabricTable> {

@@ -7,7 +7,16 @@ use std::alloc::Global;
 
 /// The reply, and each step.
 pub(crate) fn tell(alloc: Global, page: &mut Page, effect: &Effect) {
-    match &effect.reply {
+    tell_reply(alloc, page, &effect.reply);
+    for step in effect.steps.as_slice() {
+        page.add("  ");
+        tell_step(alloc, page, step);
+        page.end_line();
+    }
+}
+
+fn tell_reply(alloc: Global, page: &mut Page, reply: &Reply) {
+    match reply {
         Reply::Invoked { command, fields } => {
             page.add("  response ");
             tell_place(page, command);
@@ -17,17 +26,29 @@ pub(crate) fn tell(alloc: Global, page: &mut Page, effect: &Effect) {
         Reply::InvokeStatus { command, code } => {
             page.add("  status ");
             page.add_hex(&[*code]);
-            page.add(" of ");
-            tell_place(page, command);
-            page.end_line();
+            tell_command(page, command);
         }
+        Reply::InvokeClusterStatus {
+            command,
+            code,
+            cluster,
+        } => {
+            page.add("  status ");
+            page.add_hex(&[*code]);
+            page.add(" cluster ");
+            page.add_hex(&[*cluster]);
+            tell_command(page, command);
+        }
+        Reply::Nothing => page.line("  no reply"),
         _ => page.line("  another reply"),
     }
-    for step in effect.steps.as_slice() {
-        page.add("  ");
-        tell_step(alloc, page, step);
-        page.end_line();
-    }
+}
+
+// The command whose status is told, and the line's end.
+fn tell_command(page: &mut Page, command: &Place) {
+    page.add(" of ");
+    tell_place(page, command);
+    page.end_line();
 }
 
 fn tell_place(page: &mut Page, place: &Place) {

@@ -1,4 +1,4 @@
-//! The words of a case: who asks for what.
+//! The words of a case: who asks for what, and what stands behind a word on the node.
 
 use cases_page::{no_case, pieces};
 use mt_model::{Actor, Auth, Place};
@@ -63,5 +63,24 @@ fn value(alloc: Global, word: &str) -> io::Result<Value> {
     match read(alloc, &bytes) {
         Ok((_, value, _)) => Ok(value),
         Err(_) => Err(no_case()),
+    }
+}
+
+/// What stands behind a word and a colon.
+pub(crate) fn said<'a>(state: &'a str, name: &str) -> Option<&'a str> {
+    for word in state.split(' ') {
+        match word.split_once(':') {
+            Some((key, value)) if key == name => return Some(value),
+            _ => {}
+        }
+    }
+    None
+}
+
+/// The number behind a word and a colon.
+pub(crate) fn number(state: &str, name: &str) -> Option<u8> {
+    match said(state, name) {
+        Some(word) => Some(word.parse::<u8>().unwrap_or(0)),
+        None => None,
     }
 }

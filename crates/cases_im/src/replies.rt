@@ -113,6 +113,11 @@ fn short_reply(words: &[&str]) -> Reply {
             command: place(word(words, 1)),
             code: code(word(words, 2)),
         },
+        "invoke-cluster-status" => Reply::InvokeClusterStatus {
+            command: place(word(words, 1)),
+            code: code(word(words, 2)),
+            cluster: code(word(words, 3)),
+        },
         _ => Reply::Nothing,
     }
 }

@@ -54,6 +54,7 @@ impl Stand {
             | "subscribed"
             | "invoked"
             | "invoke-status"
+            | "invoke-cluster-status"
             | "written"
             | "report"
             | "lengths" => replies::tell(self.alloc, page, &mut self.items, words),
