@@ -1,5 +1,5 @@
--- What holds of the steps of commands.
-use Rattle.std.specs.Prelude.{◌≡◌, ℕ, ◌==◌, ◌&&◌, nat_le, Bool, true, false, IsTrue, List, [], length, Result, Ok, Err}
+-- What holds of the steps of commands, and of what is told of sets.
+use Rattle.std.specs.Prelude.{◌≡◌, ℕ, ◌==◌, ◌&&◌, nat_le, Bool, true, false, IsTrue, List, [], ◌∷◌, filter, length, Result, Ok, Err}
 use Rattle.std.specs.List.{list_all}
 use Rattle.mt_tlv.specs.declared.value.Value.{Value}
 use Rattle.mt_meta.specs.Finding.{find_data_of}
@@ -16,7 +16,7 @@ use Rattle.mt_model.specs.declared.rows.place.Place.{Place}
 use Rattle.mt_model.specs.declared.rows.place.Row.{Row}
 use Rattle.mt_model.specs.declared.tables.access.Actor.{Actor}
 use Rattle.mt_groupkeys.specs.Commands.{invoked, key_map}
-use Rattle.mt_groupkeys.specs.Sets.{values_of}
+use Rattle.mt_groupkeys.specs.Sets.{sorted, values_of}
 
 -- values of the form of a place where each fabric has its own, which are this fabric's, and no more than it may have
 abbrev pub is_sound_row : Bool → ℕ → ℕ → List Value → Result Meta Status → Bool
@@ -42,3 +42,15 @@ StepsAreSound = (rows_at : Place → List Row) (actor : Actor) (command : Place)
 -- Whoever has no fabric makes none.
 abbrev pub NobodyMakesSteps : Type 0
 NobodyMakesSteps = (rows_at : Place → List Row) (actor : Actor) (command : Place) (fields : Value) → (actor.fabric == 0) ≡ true → (invoked rows_at actor command fields).steps ≡ []
+
+-- The ids that are told ascend, and each is told as often as a set has it.
+
+abbrev pub ascend_from : ℕ → List ℕ → Bool
+ascend_from least [] = true
+ascend_from least (id ∷ ids) = nat_le least id && ascend_from id ids
+
+abbrev pub SortedAscend : Type 0
+SortedAscend = (ids : List ℕ) → ascend_from 0 (sorted ids) ≡ true
+
+abbrev pub SortedAreThose : Type 0
+SortedAreThose = (id : ℕ) (ids : List ℕ) → length (filter (λ (other : ℕ). other == id) (sorted ids)) ≡ length (filter (λ (other : ℕ). other == id) ids)

@@ -4,7 +4,7 @@
 //!
 //! - `commands`: what a command comes to;
 //! - `sets`: the key sets of a fabric, as they are kept and as they are told;
-//! - `laws`: what holds of the steps.
+//! - `laws`: what holds of the steps, and of the ids that are told.
 #![tactic(auto)]
 
 mod commands;
@@ -12,4 +12,4 @@ mod laws;
 mod sets;
 
 pub use commands::invoke;
-pub use laws::steps_are_sound;
+pub use laws::{sorted_ids_are_those, steps_are_sound};
