@@ -5,7 +5,7 @@ ghost use Rattle.std.specs.List.{list_all, list_any};
 ghost use Rattle.mt_events.specs.Reading.{asking, is_told};
 ghost use Rattle.mt_events.specs.Rings.{AreRings};
 ghost use Rattle.mt_events.specs.Telling.{answered, events_for, told};
-ghost use Rattle.mt_ledger.specs.history.History.{happened, opened, recorded, recorded_all, start_up, without_left};
+ghost use Rattle.mt_ledger.specs.history.History.{begun_at, happened, recorded, recorded_all, start_up, without_left};
 ghost use Rattle.mt_tlv.specs.declared.value.Tag.TheVariants.{Context};
 ghost use Rattle.mt_tlv.specs.declared.value.Value.TheVariants as kinds;
 ghost use Rattle.mt_tlv.specs.Tree.{uint, none, more};
@@ -66,13 +66,14 @@ impl Model for History {
 }
 
 impl History {
-    /// The history of a node in its first boot, which tells that it has started.
-    pub(crate) fn begun(alloc: Global) -> Result<History, AllocError>
-        ensures { IfOk result (λ history. history ≡ opened) }
+    /// The history of a node in a boot, where this ceiling of event numbers was stored: it tells that it has started.
+    pub(crate) fn begun(alloc: Global, ceiling: u64) -> Result<History, AllocError>
+        requires { ceiling ≤ 2 ^ 61 }
+        ensures { IfOk result (λ history. history ≡ begun_at ceiling) }
     {
         histories_stay_histories();
         let mut rings = Rings::new(alloc)?;
-        let mut numbers = Numbers::begin(0);
+        let mut numbers = Numbers::begin(ceiling);
         let started = started(alloc, numbers.take())?;
         rings.push(started);
         Ok(History { rings, numbers })

@@ -1,6 +1,6 @@
 //! The node with its plain actors.
 
-ghost use Rattle.std.specs.Prelude.{◌≡◌, IfOk, option_copied};
+ghost use Rattle.std.specs.Prelude.{◌≡◌, ◌≤◌, ◌^◌, IfOk, option_copied};
 ghost use Rattle.mt_machine.specs.Lines.{line_actor};
 ghost use Rattle.mt_im.specs.Limits.{IsWithinLimits};
 ghost use Rattle.mt_im.specs.Reading.{request_in};
@@ -56,16 +56,23 @@ impl Model for Interactions {
 }
 
 impl Interactions {
-    /// A new node with this configuration, in its first boot, of which its start is told; nobody has a deadline or has
-    /// subscribed.
-    pub fn start(alloc: Global, config: &Config) -> Result<Interactions, AllocError>
-        ensures { IfOk result (λ interactions. interactions ≡ started config.now) }
+    /// A new node with this configuration, in a boot, where this ceiling of event numbers was stored. Its start is told;
+    /// nobody has a deadline or has subscribed.
+    pub fn start(
+        alloc: Global,
+        boot: u32,
+        ceiling: u64,
+        config: &Config,
+    ) -> Result<Interactions, AllocError>
+        requires boot { boot ≤ 2 ^ 31 }
+        requires ceiling { ceiling ≤ 2 ^ 61 }
+        ensures { IfOk result (λ interactions. interactions ≡ started boot ceiling config.now) }
     {
-        let node = Node::start(alloc, config)?;
+        let node = Node::start(alloc, boot, config)?;
         Ok(Interactions {
             alloc,
             node,
-            history: History::begun(alloc)?,
+            history: History::begun(alloc, ceiling)?,
             subs: Subs::new(alloc),
             deadlines: PlainDeadlines::new(alloc),
         })

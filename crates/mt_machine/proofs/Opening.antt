@@ -26,9 +26,11 @@ use Rattle.mt_model.specs.declared.rows.place.Place.{Place}
 use Rattle.mt_model.specs.declared.texts.config.SessionRow.{SessionRow}
 use Rattle.mt_model.specs.declared.tables.fabric.Fabric.{Fabric}
 use Rattle.mt_subs.specs.Changes.{IsChanges, change_at, unchanged, newest_of}
-use Rattle.mt_machine.specs.Opened.{live_or_waits, opened_with, session_of, sessions_of, standing_of, with_roots_of, first_version, versions_at}
+use Rattle.mt_machine.specs.Opened.{begun_with, live_or_waits, opened_with, session_of, sessions_of, standing_of, with_roots_of, first_version, versions_at}
 use Rattle.mt_machine.specs.Effects.{with_root}
 use Rattle.mt_model.specs.declared.node.state.NodeSession.{NodeSession}
+use Rattle.mt_model.specs.declared.node.state.NodeState.{NodeState}
+use Rattle.mt_model.specs.declared.tables.network.Armed.{Armed}
 use Rattle.mt_machine.specs.State.{IsValid, follows, has_one_row, is_change_up_to, is_row, is_session, is_used, stands_once, stands_rightly, ItemsAreFew, has_change, instance_of, instances, is_of_attribute, is_unscoped}
 use Rattle.mt_model.specs.tables.Holding.{is_owned, is_root_of}
 
@@ -205,11 +207,11 @@ module _ (fabrics : List Fabric) (row : SessionRow) where
   stands Case = case_stands (find is_its fabrics) refl
   stands Group = case_stands (find is_its fabrics) refl
 
-sessions_stand : (fabrics : List Fabric) (rows : List SessionRow) → list_all (is_session fabrics) (sessions_of 1 fabrics rows) ≡ true
-sessions_stand fabrics [] = refl
-sessions_stand fabrics (row ∷ rows) = elim (cases_Bool (row.boot == 1)) [
-  | inl first ↦ rw first (and_from _ _ (stands fabrics row row.auth) (sessions_stand fabrics rows))
-  | inr later ↦ rw later (sessions_stand fabrics rows)
+sessions_stand : (boot : ℕ) (fabrics : List Fabric) (rows : List SessionRow) → list_all (is_session fabrics) (sessions_of boot fabrics rows) ≡ true
+sessions_stand boot fabrics [] = refl
+sessions_stand boot fabrics (row ∷ rows) = elim (cases_Bool (row.boot == boot)) [
+  | inl first ↦ rw first (and_from _ _ (stands fabrics row row.auth) (sessions_stand boot fabrics rows))
+  | inr later ↦ rw later (sessions_stand boot fabrics rows)
 ]
 
 pase_none : (fabrics : List Fabric) (row : SessionRow) (auth : Auth) → follows None auth (standing_of fabrics row auth) ≡ true
@@ -217,11 +219,11 @@ pase_none fabrics row Pase = refl
 pase_none fabrics row Case = refl
 pase_none fabrics row Group = refl
 
-sessions_follow : (fabrics : List Fabric) (rows : List SessionRow) → list_all (λ (session : NodeSession). follows None session.auth session.standing) (sessions_of 1 fabrics rows) ≡ true
-sessions_follow fabrics [] = refl
-sessions_follow fabrics (row ∷ rows) = elim (cases_Bool (row.boot == 1)) [
-  | inl first ↦ rw first (and_from _ _ (pase_none fabrics row row.auth) (sessions_follow fabrics rows))
-  | inr later ↦ rw later (sessions_follow fabrics rows)
+sessions_follow : (boot : ℕ) (fabrics : List Fabric) (rows : List SessionRow) → list_all (λ (session : NodeSession). follows None session.auth session.standing) (sessions_of boot fabrics rows) ≡ true
+sessions_follow boot fabrics [] = refl
+sessions_follow boot fabrics (row ∷ rows) = elim (cases_Bool (row.boot == boot)) [
+  | inl first ↦ rw first (and_from _ _ (pase_none fabrics row row.auth) (sessions_follow boot fabrics rows))
+  | inr later ↦ rw later (sessions_follow boot fabrics rows)
 ]
 
 -- Change numbers.
@@ -255,16 +257,16 @@ changes_of_attributes = refl
 
 -- Versions.
 
-versions_stand : map instance_of (versions_at (first_version 1)) ≡ instances
+versions_stand : (version : ℕ) → map instance_of (versions_at version) ≡ instances
 unfolding endpoints clusters_of
-versions_stand = refl
+versions_stand version = refl
 
 -- The whole.
 
 pub opens_valid : ((fabrics : List Fabric) → are_numbered_from 1 fabrics ≡ true → fabrics_ascend fabrics ≡ true) → IsChanges unchanged
-    → (fabrics : List Fabric) (entries : List AclEntry) (sessions : List SessionRow) → are_fabrics fabrics ≡ true → are_entries fabrics entries ≡ true → IsValid (opened_with fabrics entries sessions)
+    → (boot : ℕ) (fabrics : List Fabric) (entries : List AclEntry) (sessions : List SessionRow) → nat_le boot (2 ^ 31) ≡ true → are_fabrics fabrics ≡ true → are_entries fabrics entries ≡ true → IsValid (opened_with boot fabrics entries sessions)
 unfolding are_fabrics are_entries
-opens_valid numbered_ascend none_changed fabrics entries sessions good_fabrics good_entries =
+opens_valid numbered_ascend none_changed boot fabrics entries sessions boots good_fabrics good_entries =
     let few : nat_le (length fabrics) 16 ≡ true = grind (arith, good_fabrics) in
     let numbered : are_numbered_from 1 fabrics ≡ true = grind (arith, good_fabrics) in
     let rise = numbered_ascend fabrics numbered in
@@ -292,9 +294,9 @@ opens_valid numbered_ascend none_changed fabrics entries sessions good_fabrics g
       network_count = refl;
       network_forms = refl;
       network_ids_differ = refl;
-      sessions_stand = sessions_stand fabrics sessions;
+      sessions_stand = sessions_stand boot fabrics sessions;
       plain_stands = refl;
-      versions_stand = versions_stand;
+      versions_stand = versions_stand (first_version boot);
       count_fits = refl;
       changes_counted = changes_counted all_places;
       newest_counts = newest_counts;
@@ -305,7 +307,54 @@ opens_valid numbered_ascend none_changed fabrics entries sessions good_fabrics g
       failsafe_names = refl;
       saved_stand = refl;
       given_stand = refl;
-      sessions_follow = sessions_follow fabrics sessions;
+      sessions_follow = sessions_follow boot fabrics sessions;
       plain_follow = refl;
-      boot_fits = refl;
+      boot_fits = boots;
     }
+
+-- What was kept of a state in which no fail-safe is armed.
+
+follow_unarmed : (armed : Option Armed) (boot : ℕ) (fabrics : List Fabric) (rows : List SessionRow) → armed ≡ None
+    → list_all (λ (session : NodeSession). follows armed session.auth session.standing) (sessions_of boot fabrics rows) ≡ true
+follow_unarmed armed boot fabrics rows none = rw none (sessions_follow boot fabrics rows)
+
+pub begins_valid : IsChanges unchanged → (boot : ℕ) (sessions : List SessionRow) (kept : NodeState) → nat_le boot (2 ^ 31) ≡ true → IsValid kept → kept.armed ≡ None
+    → IsValid (begun_with boot sessions kept)
+begins_valid none_changed boot sessions kept boots valid unarmed = record {
+  fabric_count = valid.fabric_count;
+  fabrics_rise = valid.fabrics_rise;
+  indexes = valid.indexes;
+  fabric_forms = valid.fabric_forms;
+  identities_differ = valid.identities_differ;
+  labels_differ = valid.labels_differ;
+  entries_rise = valid.entries_rise;
+  entry_forms = valid.entry_forms;
+  entries_owned = valid.entries_owned;
+  entry_counts = valid.entry_counts;
+  rows_rise = valid.rows_rise;
+  row_forms = valid.row_forms;
+  rows_stand = valid.rows_stand;
+  row_counts = valid.row_counts;
+  roots_differ = valid.roots_differ;
+  root_forms = valid.root_forms;
+  roots_used = valid.roots_used;
+  network_count = valid.network_count;
+  network_forms = valid.network_forms;
+  network_ids_differ = valid.network_ids_differ;
+  sessions_stand = sessions_stand boot kept.fabrics sessions;
+  plain_stands = refl;
+  versions_stand = versions_stand (first_version boot);
+  count_fits = refl;
+  changes_counted = changes_counted all_places;
+  newest_counts = newest_counts;
+  changes_stand = none_changed;
+  changes_of_all = changes_of_all;
+  changes_of_attributes = changes_of_attributes;
+  failsafe_facts = valid.failsafe_facts;
+  failsafe_names = valid.failsafe_names;
+  saved_stand = valid.saved_stand;
+  given_stand = valid.given_stand;
+  sessions_follow = follow_unarmed kept.armed boot kept.fabrics sessions unarmed;
+  plain_follow = refl;
+  boot_fits = boots;
+}

@@ -1,5 +1,5 @@
 -- Laws of the written machine.
-use Rattle.std.specs.Prelude.{◌≡◌, ◌≢◌, ℕ, ◌==◌, ◌||◌, List, [], ◌∷◌, None, Option, Result, Some, false, map, true, unwrap_or, if◌then◌else◌}
+use Rattle.std.specs.Prelude.{◌≡◌, ◌≢◌, ℕ, ◌^◌, ◌==◌, ◌||◌, nat_le, List, [], ◌∷◌, None, Option, Result, Some, false, map, true, unwrap_or, if◌then◌else◌}
 use Rattle.std.specs.List.{list_all}
 use Rattle.mt_failsafe.specs.Notes.{was_added, was_updated}
 use Rattle.mt_model.specs.Optional.{is_that}
@@ -29,7 +29,7 @@ use Rattle.mt_machine.specs.Leaving.{has_left}
 use Rattle.mt_model.specs.declared.texts.recording.Event.TheVariants.{Tick}
 use Rattle.mt_machine.specs.Lines.{action_of, behind_action, deadline_of, fabric_of, is_tick, line_actor, line_reply, plain_next, plain_sent}
 use Rattle.mt_machine.specs.Observation.{observation}
-use Rattle.mt_machine.specs.Opened.{opened_with}
+use Rattle.mt_machine.specs.Opened.{begun_with, opened_with}
 use Rattle.mt_machine.specs.Rollback.{added_in, deadlines_left, is_due, rollback}
 use Rattle.mt_model.specs.declared.node.action.Action.TheVariants.{Expire, Nothing}
 use Rattle.mt_im.specs.declared.fault.ImFault.{ImFault}
@@ -141,10 +141,14 @@ TicksSeeTheMarkAlone = (given : Environment) (fabric : ℕ) (s t : State) (ms : 
     → own_of_whole fabric s ≡ own_of_whole fabric t → public_view fabric s.node ≡ public_view fabric t.node
     → own_of_whole fabric (plain_next given s (Tick ms)) ≡ own_of_whole fabric (plain_next given t (Tick ms))
 
--- A new node's state is valid.
+-- A new node's state is valid, in whatever boot there may be.
 abbrev pub OpensValid : Type 0
-OpensValid = (fabrics : List Fabric) (entries : List AclEntry) (sessions : List SessionRow) → are_fabrics fabrics ≡ true → are_entries fabrics entries ≡ true
-    → IsValid (opened_with fabrics entries sessions)
+OpensValid = (boot : ℕ) (fabrics : List Fabric) (entries : List AclEntry) (sessions : List SessionRow) → nat_le boot (2 ^ 31) ≡ true → are_fabrics fabrics ≡ true → are_entries fabrics entries ≡ true
+    → IsValid (opened_with boot fabrics entries sessions)
+
+-- A boot begins in a valid state, where what was kept is that of one in which no fail-safe is armed.
+abbrev pub BeginsValid : Type 0
+BeginsValid = (boot : ℕ) (sessions : List SessionRow) (kept : NodeState) → nat_le boot (2 ^ 31) ≡ true → IsValid kept → kept.armed ≡ None → IsValid (begun_with boot sessions kept)
 
 -- It takes the steps of each action, one after the other, where the verdicts keep the rules of their kinds.
 abbrev pub TakesItsSteps : Type 0

@@ -65,31 +65,43 @@ session_of fabrics row = record {
 abbrev pub sessions_of : ℕ → List Fabric → List SessionRow → List NodeSession
 sessions_of boot fabrics rows = map (session_of fabrics) (filter (λ (row : SessionRow). row.boot == boot) rows)
 
--- The first boot of a node with these fabrics, access control entries and sessions.
-abbrev pub opened_with : List Fabric → List AclEntry → List SessionRow → NodeState
-opened_with fabrics entries sessions = record {
+-- A boot of a node that has these fabrics and access control entries, and all else as it first is.
+abbrev pub opened_with : ℕ → List Fabric → List AclEntry → List SessionRow → NodeState
+opened_with boot fabrics entries sessions = record {
   rows = first_rows;
   entries = entries;
   fabrics = fabrics;
   roots = with_roots_of [] fabrics;
   networks = [];
   armed = None;
-  versions = versions_at (first_version 1);
+  versions = versions_at (first_version boot);
   changes = unchanged;
   changed = 0;
-  sessions = sessions_of 1 fabrics sessions;
+  sessions = sessions_of boot fabrics sessions;
   plain = Some 0;
-  boot = 1;
+  boot = boot;
   clock = 0;
 }
 
 -- the first boot of a node with this configuration
 abbrev pub opened : Config → NodeState
-opened config = opened_with config.fabrics config.entries config.sessions
+opened config = opened_with 1 config.fabrics config.entries config.sessions
 
 -- the whole around it, in which nobody has a deadline
-abbrev pub whole_with : List Fabric → List AclEntry → List SessionRow → State
-whole_with fabrics entries sessions = record { node = opened_with fabrics entries sessions; deadlines = [] }
+abbrev pub whole_with : ℕ → List Fabric → List AclEntry → List SessionRow → State
+whole_with boot fabrics entries sessions = record { node = opened_with boot fabrics entries sessions; deadlines = [] }
 
 abbrev pub opened_whole : Config → State
-opened_whole config = whole_with config.fabrics config.entries config.sessions
+opened_whole config = whole_with 1 config.fabrics config.entries config.sessions
+
+-- A boot of a node of which this was kept: rows, entries, fabrics, roots and networks stay, and all else begins anew.
+abbrev pub begun_with : ℕ → List SessionRow → NodeState → NodeState
+begun_with boot sessions kept = record kept {
+  versions = versions_at (first_version boot);
+  changes = unchanged;
+  changed = 0;
+  sessions = sessions_of boot kept.fabrics sessions;
+  plain = Some 0;
+  boot = boot;
+  clock = 0;
+}

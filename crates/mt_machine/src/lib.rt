@@ -32,7 +32,7 @@ ghost use Rattle.mt_machine.specs.Deadlines.{ActionsKeepDeadlines, PlainLinesKee
 ghost use Rattle.mt_machine.specs.Effects.{after_all};
 ghost use Rattle.mt_machine.specs.Expiries.{ExpiriesComeFirst, ExpiriesRollBack, RollbacksLeave};
 ghost use Rattle.mt_machine.specs.Joins.{end_of, first_administrator, indexes, joined_again, joined_by, labels, left_by_owner, nocs, node_label, number_row, owner_and_context, plain_pase, renewed_late, rows_at, session_pase, standings, ticked, updated_node};
-ghost use Rattle.mt_machine.specs.Laws.{ActionsKeepTheOwn, ActionsLeaveTheOwnOnTheVeil, AllStayValid, AskersAreKnown, ChangesNowhere, DeadlinesOnTheVeil, EndsNothing, ExpiresWhereDue, HidesWhatIsSaved, KeepsItsOwnPart, KeepsItsPublicView, KeepsTheOwn, LeavesItsOwnByItsView, LeavesTheOwnOnTheVeil, LeftIsGone, LeftIsGoneBehindAnExpiry, LinesAskOnTheVeil, LinesReplyOnTheVeil, OneLeaves, OneLeavesOnTheVeil, OpensValid, PassesOtherwise, RemovalsSeeTheVeil, RollsBackValid, SavesWhatItHad, SeesItsViewAlone, SeesTheVeil, SendsOnTheVeil, SessionsKeepTheirIds, SetsTheTime, SettingStepsTell, SparesOthers, StandsInOrder, StaysSettled, StaysValid, StepsSeeTheVeil, StepsSpareOthers, StepsOnTheVeil, StepsStayValid, TakenValuesFit, TakesItsSteps, TakesTheAddedAway, TellsItsOwn, TicksOnTheVeil, TicksSeeTheMarkAlone, TicksSpareOthers, TicksTakeOne, TimeKeepsTheOwn, TimesStayValid};
+ghost use Rattle.mt_machine.specs.Laws.{ActionsKeepTheOwn, ActionsLeaveTheOwnOnTheVeil, AllStayValid, AskersAreKnown, BeginsValid, ChangesNowhere, DeadlinesOnTheVeil, EndsNothing, ExpiresWhereDue, HidesWhatIsSaved, KeepsItsOwnPart, KeepsItsPublicView, KeepsTheOwn, LeavesItsOwnByItsView, LeavesTheOwnOnTheVeil, LeftIsGone, LeftIsGoneBehindAnExpiry, LinesAskOnTheVeil, LinesReplyOnTheVeil, OneLeaves, OneLeavesOnTheVeil, OpensValid, PassesOtherwise, RemovalsSeeTheVeil, RollsBackValid, SavesWhatItHad, SeesItsViewAlone, SeesTheVeil, SendsOnTheVeil, SessionsKeepTheirIds, SetsTheTime, SettingStepsTell, SparesOthers, StandsInOrder, StaysSettled, StaysValid, StepsSeeTheVeil, StepsSpareOthers, StepsOnTheVeil, StepsStayValid, TakenValuesFit, TakesItsSteps, TakesTheAddedAway, TellsItsOwn, TicksOnTheVeil, TicksSeeTheMarkAlone, TicksSpareOthers, TicksTakeOne, TimeKeepsTheOwn, TimesStayValid};
 ghost use Rattle.mt_machine.specs.Requests.{RequestLaws};
 ghost use Rattle.mt_machine.specs.Rollback.{breadcrumb};
 ghost use Rattle.mt_machine.specs.Samples.{acl_report, data_report, denial_report, empty_report, hidden_report, invalid_action, no_cluster_report, no_endpoint_report, read_acl, read_acl_anywhere, read_cluster_99, read_endpoint_7, read_on_off, sent_to_reader, too_deep};
@@ -112,10 +112,11 @@ pub fn keeps_the_own()
     steps_leave_states_valid();
 }
 
-/// The state of a new node is valid. A valid state takes the steps of each action one after the other, and each
+/// The state of a new node is valid, and so is that in which a boot begins with what was kept. A valid state takes the steps of each action one after the other, and each
 /// action leaves it valid.
 pub fn states_are_valid()
     ensures opens { OpensValid }
+    ensures begins { BeginsValid }
     ensures takes { TakesItsSteps }
     ensures times { TimesStayValid }
     ensures stays { StaysValid }

@@ -1,9 +1,8 @@
 //! All that was said, as it begins, grows and is compared.
 
-ghost use Rattle.std.specs.Prelude.{◌≡◌, ◌↔◌, ◌==◌, ◌<◌, ◌∷◌, [], filter, map, length, position, IfOk, OnErr, OnOk, IsTrue, MatchOption};
-ghost use Rattle.mt_model.specs.declared.texts.config.SessionRow.{SessionRow as Row};
+ghost use Rattle.std.specs.Prelude.{◌≡◌, ◌↔◌, ◌<◌, ◌∷◌, [], map, length, position, IfOk, OnErr, OnOk, IsTrue, MatchOption};
 ghost use Rattle.mt_runs.specs.Isolation.{is_talk_among, talks_among};
-ghost use Rattle.mt_runs.specs.Whole.{begun, without_ended};
+ghost use Rattle.mt_runs.specs.Whole.{begun, begun_in, without_ended};
 ghost use Rattle.mt_marks.specs.Noted.{noted, noted_if, noted_talk};
 ghost use Rattle.mt_marks.specs.Told.{is_told_of, talk_in, talks_in};
 
@@ -22,7 +21,7 @@ pub(crate) struct Told {
     pub(crate) latest: Option<Peer>,
 }
 
-/// What was said over the sessions of the first boot, in the order of their rows. Contracts see the talks of the written
+/// What was said over the sessions of a boot, in the order of their rows. Contracts see the talks of the written
 /// whole.
 pub struct ToldTalks {
     talks: Vec<Told>,
@@ -46,11 +45,11 @@ impl Model for ToldTalks {
 }
 
 impl ToldTalks {
-    /// Nothing has been said over the sessions of the first boot. It takes memory, also for copies of the rows.
-    pub fn begun(alloc: Global, rows: &[SessionRow]) -> Result<ToldTalks, AllocError>
-        ensures { IfOk result (λ talks. talks ≡ map begun (filter (λ (row : Row). row.boot == 1) rows.now)) }
+    /// Nothing has been said over the sessions of a boot. It takes memory, also for copies of the rows.
+    pub fn begun(alloc: Global, boot: u32, rows: &[SessionRow]) -> Result<ToldTalks, AllocError>
+        ensures { IfOk result (λ talks. talks ≡ begun_in boot rows.now) }
     {
-        let talks = begun_talks(alloc, rows)?;
+        let talks = begun_talks(alloc, boot, rows)?;
         Ok(ToldTalks { talks })
     }
 
@@ -87,12 +86,12 @@ impl ToldTalks {
     }
 }
 
-fn begun_talks(alloc: Global, rows: &[SessionRow]) -> Result<Vec<Told>, AllocError>
-    ensures { IfOk result (λ talks. talks_in talks.items ≡ map begun (filter (λ (row : Row). row.boot == 1) rows.now)) }
+fn begun_talks(alloc: Global, boot: u32, rows: &[SessionRow]) -> Result<Vec<Told>, AllocError>
+    ensures { IfOk result (λ talks. talks_in talks.items ≡ begun_in boot rows.now) }
 {
     let mut talks = Vec::new(alloc);
     for row in rows {
-        if row.boot == 1 {
+        if row.boot == boot {
             talks.push(begun_with(alloc, row)?)?;
         }
     }

@@ -1,5 +1,5 @@
 -- What contracts see of a node.
-use Rattle.std.specs.Prelude.{List}
+use Rattle.std.specs.Prelude.{ℕ, List}
 use Rattle.mt_model.specs.texts.Contents.{Contents, contents_of}
 use Rattle.mt_model.specs.declared.texts.config.Config.{Config}
 use Rattle.mt_model.specs.declared.node.state.NodeState.{NodeState}
@@ -8,7 +8,7 @@ use Rattle.mt_model.specs.declared.texts.config.JoinRow.{JoinRow}
 use Rattle.mt_model.specs.declared.texts.config.RootRow.{RootRow}
 use Rattle.mt_opcreds.specs.Judged.{judged_by}
 use Rattle.mt_machine.specs.Environment.{Environment}
-use Rattle.mt_machine.specs.Opened.{opened}
+use Rattle.mt_machine.specs.Opened.{opened_with}
 
 -- Its state, and the configuration with which it was started. The configuration has all keys, and so it is no part of
 -- the state, of which others observe what is public.
@@ -16,9 +16,9 @@ pub record ConfiguredNode : Type 0 where
   pub state : NodeState
   pub config : Contents
 
--- a new node
-abbrev pub started : Config → ConfiguredNode
-started config = record { state = opened config; config = contents_of config }
+-- a new node in a boot
+abbrev pub started : ℕ → Config → ConfiguredNode
+started boot config = record { state = opened_with boot config.fabrics config.entries config.sessions; config = contents_of config }
 
 -- what is given to it, where these are the rows of the verdicts
 abbrev pub given_to : ConfiguredNode → List RootRow → List CsrRow → List JoinRow → Environment

@@ -28,8 +28,8 @@ use mt_opcreds::invoke as credentials;
 use mt_tlv::Value;
 use std::alloc::AllocError;
 
-/// What a command is answered at this time, in ms, where a deadline stood for it or none did, and the steps that it makes. One that asks
-/// for no answer is carried out all the same.
+/// What a command is answered at this time, in ms, where a deadline stood for it or none did, and the steps that it
+/// makes. One that asks for no answer is carried out all the same.
 pub(crate) fn answered<V: Verdicts>(
     node: &Node,
     asking: &Actor,

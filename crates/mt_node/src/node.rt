@@ -1,6 +1,6 @@
 //! The node.
 
-ghost use Rattle.std.specs.Prelude.{◌≡◌, ◌↔◌, ◌∷◌, [], None, Some, true, false, IfOk, if◌then◌else◌, option_copied};
+ghost use Rattle.std.specs.Prelude.{◌≡◌, ◌↔◌, ◌≤◌, ◌^◌, ◌∷◌, [], None, Some, true, false, IfOk, if◌then◌else◌, option_copied};
 ghost use Rattle.mt_model.specs.declared.node.action.NodeStep.TheVariants.{Expire};
 ghost use Rattle.mt_machine.specs.Environment.{Environment};
 ghost use Rattle.mt_machine.specs.Rollback.{is_due};
@@ -62,11 +62,12 @@ impl Model for Node {
 }
 
 impl Node {
-    /// A new node with this configuration, in its first boot.
-    pub fn start(alloc: Global, config: &Config) -> Result<Node, AllocError>
-        ensures { IfOk result (λ node. node ≡ started config.now) }
+    /// A new node with this configuration, in a boot.
+    pub fn start(alloc: Global, boot: u32, config: &Config) -> Result<Node, AllocError>
+        requires { boot ≤ 2 ^ 31 }
+        ensures { IfOk result (λ node. node ≡ started boot config.now) }
     {
-        let state = opened(alloc, config)?;
+        let state = opened(alloc, boot, config)?;
         let config = config.copy()?;
         states_are_valid();
         Ok(Node {

@@ -1,12 +1,13 @@
-//! The state in which a new node begins.
+//! The state in which a boot of a new node begins.
 
 ghost use Rattle.std.specs.Prelude.{◌≡◌, ◌==◌, ◌++◌, [], bytes_eq, map, IfOk, OnOk};
 ghost use Rattle.std.specs.List.{find, list_any};
-ghost use Rattle.mt_machine.specs.Opened.{first_version, live_or_waits, opened, session_of, sessions_of, standing_of, versions_at, versions_of_endpoint, with_roots_of};
+ghost use Rattle.mt_machine.specs.Opened.{first_version, live_or_waits, opened_with, session_of, sessions_of, standing_of, versions_at, versions_of_endpoint, with_roots_of};
 ghost use Rattle.mt_machine.specs.Effects.{with_root};
 ghost use Rattle.mt_model.specs.texts.Config.{has_identity};
 
 use mt_meta::{clusters_of, endpoints, first_rows};
+use mt_model::limits::VERSIONS_OF_BOOT;
 use mt_model::{
     Auth, Config, ExactCopy, Fabric, Listed, NodeSession, NodeSessions, NodeState, Roots,
     SessionRow, Standing, Version, Versions,
@@ -15,12 +16,9 @@ use mt_subs::Changes;
 use mt_tlv::Bytes;
 use std::alloc::{AllocError, Global};
 
-// The version of every cluster as the first boot begins.
-const FIRST_VERSION: u32 = 1;
-
-/// The first boot of a node with this configuration.
-pub fn opened(alloc: Global, config: &Config) -> Result<NodeState, AllocError>
-    ensures { IfOk result (λ state. state ≡ opened config.now) }
+/// A boot of a node with this configuration.
+pub fn opened(alloc: Global, boot: u32, config: &Config) -> Result<NodeState, AllocError>
+    ensures { IfOk result (λ state. state ≡ opened_with boot config.now.fabrics config.now.entries config.now.sessions) }
 {
     let fabrics = config.fabrics.as_slice();
     Ok(NodeState {
@@ -30,14 +28,23 @@ pub fn opened(alloc: Global, config: &Config) -> Result<NodeState, AllocError>
         roots: roots(alloc, fabrics)?,
         networks: Listed::new(alloc),
         armed: None,
-        versions: versions(alloc, FIRST_VERSION)?,
+        versions: versions(alloc, first_version(boot))?,
         changes: Changes::new(alloc)?.into_numbers(),
         changed: 0,
-        sessions: sessions(alloc, 1, fabrics, config.sessions.as_slice())?,
+        sessions: sessions(alloc, boot, fabrics, config.sessions.as_slice())?,
         plain: Some(0),
-        boot: 1,
+        boot,
         clock: 0,
     })
+}
+
+// The version of every cluster as a boot begins.
+fn first_version(boot: u32) -> u32
+    ensures { result ≡ first_version boot }
+{
+    let before = boot.saturating_sub(1) as u64;
+    let version = before * VERSIONS_OF_BOOT as u64 + 1;
+    (version % 0x1_0000_0000) as u32
 }
 
 // All clusters of all endpoints, each with this version.

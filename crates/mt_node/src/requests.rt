@@ -12,8 +12,8 @@ use crate::{commands, reads, writes};
 use mt_model::{Actor, Effect, Reply, Request, Status, Steps, Verdicts};
 use std::alloc::{AllocError, Global};
 
-/// What a request of whoever is taken as asking is answered at this time, in ms, where a deadline stood for it or none did. What subscribes is
-/// answered by whoever keeps the subscriptions.
+/// What a request of whoever is taken as asking is answered at this time, in ms, where a deadline stood for it or
+/// none did. What subscribes is answered by whoever keeps the subscriptions.
 pub(crate) fn answered<V: Verdicts>(
     node: &Node,
     asking: &Actor,

@@ -13,6 +13,11 @@ use mt_model::{Config, Event, SentList, TableVerdicts};
 use mt_whole::{Whole, WholeOutcome};
 use std::alloc::{AllocError, Global};
 
+// What is played is the first boot of a node, which has told of nothing before.
+pub(crate) const FIRST_BOOT: u32 = 1;
+
+const FIRST_CEILING: u64 = 0;
+
 /// A node, and the verdicts on certificates by which it plays. Contracts say for which written whole it stands, and what is
 /// given to that.
 pub struct Playing {
@@ -38,7 +43,7 @@ impl Playing {
     {
         Ok(Playing {
             alloc,
-            whole: Whole::start(alloc, config)?,
+            whole: Whole::start(alloc, FIRST_BOOT, FIRST_CEILING, config)?,
             verdicts: TableVerdicts::new(config)?,
         })
     }

@@ -10,7 +10,7 @@ ghost use Rattle.mt_runs.specs.Lines.{is_built};
 ghost use Rattle.mt_runs.specs.Whole.{Whole as Told, opened};
 ghost use Rattle.mt_play.specs.Remembers.{IsRemembering, RemembersTo};
 
-use crate::playing::Playing;
+use crate::playing::{FIRST_BOOT, Playing};
 use mt_marks::ToldTalks;
 use mt_model::{Config, Event, ExactCopy, NodeSession, SentList};
 use mt_subs::is_live_as;
@@ -39,7 +39,7 @@ impl Remembering {
     {
         Ok(Remembering {
             playing: Playing::start(alloc, config)?,
-            told: ToldTalks::begun(alloc, config.sessions.as_slice())?,
+            told: ToldTalks::begun(alloc, FIRST_BOOT, config.sessions.as_slice())?,
         })
     }
 

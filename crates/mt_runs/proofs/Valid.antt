@@ -1,5 +1,5 @@
 -- The whole that a configuration begins is valid, and lines leave it so.
-use Rattle.std.proofs.Common.{◌≡◌, ℕ, ◌==◌, ◌&&◌, ◌-◌, not, inl, inr, Bool, true, false, nat_le, List, [], ◌∷◌, arith, refl, sym, ap, ◌∙◌, subst, filter, length, map, Option, Some, None, if◌then◌else◌}
+use Rattle.std.proofs.Common.{◌≡◌, ℕ, ◌^◌, ◌==◌, ◌&&◌, ◌-◌, not, inl, inr, Bool, true, false, nat_le, List, [], ◌∷◌, arith, refl, sym, ap, ◌∙◌, subst, filter, length, map, Option, Some, None, if◌then◌else◌}
 use Rattle.std.proofs.lemmas.Bool.{and_from, and_parts, cases_Bool, eqb-true}
 use Rattle.std.specs.List.{list_all, list_any}
 use Rattle.mt_model.specs.texts.Config.{are_entries, are_fabrics, are_sessions, have_one_session, is_session, none_alike}
@@ -30,52 +30,49 @@ use Rattle.mt_opcreds.specs.Judged.{judged_by}
 use Rattle.mt_runs.specs.Datagrams.{session_named}
 use Rattle.mt_runs.specs.Isolation.{IsValidWhole, have_one_id}
 use Rattle.mt_runs.specs.Lines.{action_asked, activity_again, activity_named, ledger_after, next, state_behind, talks_behind}
-use Rattle.mt_runs.specs.Whole.{SessionTalk, Whole, fabric_over, is_live, talk_of, whole_with}
+use Rattle.mt_runs.specs.Whole.{SessionTalk, Whole, fabric_over, is_live, is_of_boot, talk_of, whole_with}
 use Rattle.mt_runs.proofs.Ids.{differ_still, ids_of, not_false, or_parts}
 use Rattle.mt_runs.proofs.Standing.{begun_names, begun_quiet, behind_quiet, let_go_quiet, next_names}
 
 -- Rows of one boot with different ids give sessions with different ids.
 
-abbrev is_first : SessionRow → Bool
-is_first row = row.boot == 1
-
 turned : (a b : ℕ) → (a == b) ≡ true → (b == a) ≡ true
 turned a b same = grind (arith, same)
 
-none_alike_row : (fabrics : List Fabric) (row : SessionRow) (rows : List SessionRow) → is_first row ≡ true → list_any (have_one_session row) rows ≡ false
-    → list_any (have_one_id (session_of fabrics row)) (map (session_of fabrics) (filter is_first rows)) ≡ false
-none_alike_row fabrics row [] first none = refl
-none_alike_row fabrics row (other ∷ others) first none =
+none_alike_row : (boot : ℕ) (fabrics : List Fabric) (row : SessionRow) (rows : List SessionRow) → is_of_boot boot row ≡ true → list_any (have_one_session row) rows ≡ false
+    → list_any (have_one_id (session_of fabrics row)) (map (session_of fabrics) (filter (is_of_boot boot) rows)) ≡ false
+none_alike_row boot fabrics row [] first none = refl
+none_alike_row boot fabrics row (other ∷ others) first none =
     let both = or_parts (have_one_session row other) (list_any (have_one_session row) others) none in
-    let rest = none_alike_row fabrics row others first both.1 in
-    elim (cases_Bool (is_first other)) [
+    let rest = none_alike_row boot fabrics row others first both.1 in
+    elim (cases_Bool (is_of_boot boot other)) [
       | inl here ↦
-          let boots : (row.boot == other.boot) ≡ true = ap (λ n. row.boot == n) (eqb-true other.boot 1 here) ∙ first in
+          let boots : (row.boot == other.boot) ≡ true = ap (λ n. row.boot == n) (eqb-true other.boot boot here) ∙ first in
           let apart : (row.session == other.session) ≡ false = sym (ap (λ (b : Bool). b && (row.session == other.session)) boots) ∙ both.0 in
           rw (here, apart) rest
       | inr later ↦ rw later rest
     ]
 
-rows_differ : (fabrics : List Fabric) (rows : List SessionRow) → none_alike have_one_session rows ≡ true → none_alike have_one_id (map (session_of fabrics) (filter is_first rows)) ≡ true
-rows_differ fabrics [] apart = refl
-rows_differ fabrics (row ∷ rows) apart =
+rows_differ : (boot : ℕ) (fabrics : List Fabric) (rows : List SessionRow) → none_alike have_one_session rows ≡ true → none_alike have_one_id (map (session_of fabrics) (filter (is_of_boot boot) rows)) ≡ true
+rows_differ boot fabrics [] apart = refl
+rows_differ boot fabrics (row ∷ rows) apart =
     let both = and_parts (not (list_any (have_one_session row) rows)) (none_alike have_one_session rows) apart in
-    elim (cases_Bool (is_first row)) [
+    elim (cases_Bool (is_of_boot boot row)) [
       | inl here ↦
-          rw here (and_from _ _ (ap not (none_alike_row fabrics row rows here (not_false (list_any (have_one_session row) rows) both.0))) (rows_differ fabrics rows both.1))
-      | inr later ↦ rw later (rows_differ fabrics rows both.1)
+          rw here (and_from _ _ (ap not (none_alike_row boot fabrics row rows here (not_false (list_any (have_one_session row) rows) both.0))) (rows_differ boot fabrics rows both.1))
+      | inr later ↦ rw later (rows_differ boot fabrics rows both.1)
     ]
 
-pub opens : machine.OpensValid → ledger_laws.OpensLedger → (fabrics : List Fabric) (entries : List AclEntry) (sessions : List SessionRow) → are_fabrics fabrics ≡ true → are_entries fabrics entries ≡ true → are_sessions sessions ≡ true
-    → IsValidWhole (whole_with fabrics entries sessions)
+pub opens : machine.OpensValid → ledger_laws.OpensLedger → (boot ceiling : ℕ) (fabrics : List Fabric) (entries : List AclEntry) (sessions : List SessionRow) → nat_le boot (2 ^ 31) ≡ true → are_fabrics fabrics ≡ true → are_entries fabrics entries ≡ true → are_sessions sessions ≡ true
+    → IsValidWhole (whole_with boot ceiling fabrics entries sessions)
 unfolding are_sessions
-opens opens_valid opens_ledger fabrics entries sessions fabrics_fit entries_fit sessions_fit = record {
-  node = opens_valid fabrics entries sessions fabrics_fit entries_fit;
+opens opens_valid opens_ledger boot ceiling fabrics entries sessions boots fabrics_fit entries_fit sessions_fit = record {
+  node = opens_valid boot fabrics entries sessions boots fabrics_fit entries_fit;
   deadlines = record { few = λ fabric. refl; differ = refl; known = refl };
-  ledger = opens_ledger (whole_with fabrics entries sessions).state.node 0;
-  sessions_differ = rows_differ fabrics sessions (third sessions_fit);
-  talks_stand = begun_names fabrics (filter is_first sessions);
-  quiet = begun_quiet (whole_with fabrics entries sessions).state.node (filter is_first sessions);
+  ledger = opens_ledger (whole_with boot ceiling fabrics entries sessions).state.node ceiling;
+  sessions_differ = rows_differ boot fabrics sessions (third sessions_fit);
+  talks_stand = begun_names fabrics (filter (is_of_boot boot) sessions);
+  quiet = begun_quiet (whole_with boot ceiling fabrics entries sessions).state.node (filter (is_of_boot boot) sessions);
 }
   where
     third : are_sessions sessions ≡ true → none_alike have_one_session sessions ≡ true

@@ -1,5 +1,5 @@
 -- Laws of every line.
-use Rattle.std.specs.Prelude.{◌≡◌, ◌≢◌, ℕ, List, false, true}
+use Rattle.std.specs.Prelude.{◌≡◌, ◌≢◌, ℕ, ◌^◌, nat_le, List, false, true}
 use Rattle.mt_fabrics.specs.Table as table
 use Rattle.mt_failsafe.specs.Notes.{was_added, was_updated}
 use Rattle.mt_model.specs.texts.Config.{are_entries, are_fabrics, are_sessions}
@@ -16,10 +16,10 @@ use Rattle.mt_runs.specs.Isolation.{IsValidWhole, own_part, public_part, veil}
 use Rattle.mt_runs.specs.Lines.{fabric_of, next, sent}
 use Rattle.mt_runs.specs.Whole.{Whole, whole_with}
 
--- What a configuration begins is valid.
+-- What a configuration begins is valid, in whatever boot there may be, and at whatever ceiling.
 abbrev pub WholeOpensValid : Type 0
-WholeOpensValid = (fabrics : List Fabric) (entries : List AclEntry) (sessions : List SessionRow) → are_fabrics fabrics ≡ true → are_entries fabrics entries ≡ true → are_sessions sessions ≡ true
-    → IsValidWhole (whole_with fabrics entries sessions)
+WholeOpensValid = (boot ceiling : ℕ) (fabrics : List Fabric) (entries : List AclEntry) (sessions : List SessionRow) → nat_le boot (2 ^ 31) ≡ true → are_fabrics fabrics ≡ true → are_entries fabrics entries ≡ true → are_sessions sessions ≡ true
+    → IsValidWhole (whole_with boot ceiling fabrics entries sessions)
 
 -- A line leaves it so.
 abbrev pub WholeStaysValid : Type 0

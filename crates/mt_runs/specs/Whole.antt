@@ -30,17 +30,24 @@ pub record Whole : Type 0 where
 abbrev pub begun : SessionRow → SessionTalk
 begun row = record { row = row; talk = begun_talk }
 
--- The first boot, with these fabrics, access control entries and sessions.
-abbrev pub whole_with : List Fabric → List AclEntry → List SessionRow → Whole
-whole_with fabrics entries sessions = record {
-  state = machine.whole_with fabrics entries sessions;
-  ledger = ledgers.opened;
-  talks = map begun (filter (λ (row : SessionRow). row.boot == 1) sessions);
+abbrev pub is_of_boot : ℕ → SessionRow → Bool
+is_of_boot boot row = row.boot == boot
+
+-- nor over any session of a boot
+abbrev pub begun_in : ℕ → List SessionRow → List SessionTalk
+begun_in boot rows = map begun (filter (is_of_boot boot) rows)
+
+-- A boot, where this ceiling of event numbers was stored, with these fabrics, access control entries and sessions.
+abbrev pub whole_with : ℕ → ℕ → List Fabric → List AclEntry → List SessionRow → Whole
+whole_with boot ceiling fabrics entries sessions = record {
+  state = machine.whole_with boot fabrics entries sessions;
+  ledger = ledgers.opened_at ceiling;
+  talks = begun_in boot sessions;
 }
 
 -- the first boot of a node with this configuration
 abbrev pub opened : Config → Whole
-opened config = whole_with config.fabrics config.entries config.sessions
+opened config = whole_with 1 0 config.fabrics config.entries config.sessions
 
 -- Sessions that are live.
 

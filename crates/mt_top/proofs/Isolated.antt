@@ -52,7 +52,7 @@ lines_of_messages (message ∷ all) = ap (λ (lines : List (List ℕ)). line_to 
 
 module _ (opens : WholeOpensValid) (theirs : RunsAreTheirMessages) (equal : EqualMarksEqualMessages) (left : EqualMarksEqualParts) where
   valid : (config : Config) → IsValidWhole (begun_with (contents_of config)).whole
-  valid config = opens config.fabrics config.entries config.sessions config.fabrics_are_valid config.entries_are_valid config.sessions_are_valid
+  valid config = opens 1 0 config.fabrics config.entries config.sessions refl config.fabrics_are_valid config.entries_are_valid config.sessions_are_valid
 
   pub isolated : (config : Config) (bytes : List ℕ) (recordings : Recordings) (events : List Event) → IsConfiguration bytes config → recording_of recordings.first ≡ Ok events
       → IsIsolated (begun_with (contents_of config)) events (of_files replayed bytes recordings).lines

@@ -18,9 +18,9 @@ pub record Begun : Type 0 where
   pub given : Environment
   pub whole : Whole
 
--- as a configuration begins it
+-- as a configuration begins it, in the first boot of its node
 abbrev pub begun_with : Contents → Begun
-begun_with contents = record { given = given_by contents; whole = whole_with contents.fabrics contents.entries contents.sessions }
+begun_with contents = record { given = given_by contents; whole = whole_with 1 0 contents.fabrics contents.entries contents.sessions }
 
 -- what it sends for an event, itself behind it, and whether that is built
 abbrev pub sent_by : Begun → Event → List Sent

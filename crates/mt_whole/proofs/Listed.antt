@@ -7,7 +7,7 @@ use Rattle.mt_model.specs.declared.limits.TheConstants.{SESSIONS}
 use Rattle.mt_model.specs.texts.Config.{are_sessions, have_one_session, is_session, none_alike}
 use Rattle.mt_model.specs.declared.texts.config.SessionRow.{SessionRow}
 use Rattle.mt_talk.specs.Talks.{IsTalkOf, Talk}
-use Rattle.mt_runs.specs.Whole.{SessionTalk, begun, is_talk_of, with_talk, without_ended}
+use Rattle.mt_runs.specs.Whole.{SessionTalk, begun, begun_in, is_of_boot, is_talk_of, with_talk, without_ended}
 use Rattle.mt_whole.specs.declared.talks.SessionTalk as code
 use Rattle.mt_whole.specs.Talks.{AreTalks, IsFoundAs, IsTalkAt, is_code_of, put}
 
@@ -116,40 +116,34 @@ put_nowhere new (suc n) (talk ∷ talks) le = ap (λ (rest : List code.SessionTa
 
 -- Talks that are begun, row by row.
 
-abbrev pub is_first_boot : SessionRow → Bool
-is_first_boot row = row.boot == 1
-
-abbrev pub begun_of : List SessionRow → List SessionTalk
-begun_of rows = map begun (filter is_first_boot rows)
-
 dropped : (rows : List SessionRow) (i : ℕ) (row : SessionRow) → i < length rows → row ≡ get_or rows i row → drop i rows ≡ row ∷ drop (i + 1) rows
 dropped rows i row lt is = drop_more rows i row lt ∙ ap (λ r. r ∷ drop (i + 1) rows) (sym is)
 
-begun_first : (row : SessionRow) (rows : List SessionRow) → is_first_boot row ≡ true → begun_of (row ∷ rows) ≡ begun row ∷ begun_of rows
-begun_first row rows first = rw first refl
+begun_first : (boot : ℕ) (row : SessionRow) (rows : List SessionRow) → is_of_boot boot row ≡ true → begun_in boot (row ∷ rows) ≡ begun row ∷ begun_in boot rows
+begun_first boot row rows first = rw first refl
 
-begun_other : (row : SessionRow) (rows : List SessionRow) → is_first_boot row ≡ false → begun_of (row ∷ rows) ≡ begun_of rows
-begun_other row rows other = rw other refl
+begun_other : (boot : ℕ) (row : SessionRow) (rows : List SessionRow) → is_of_boot boot row ≡ false → begun_in boot (row ∷ rows) ≡ begun_in boot rows
+begun_other boot row rows other = rw other refl
 
 -- one more row is of this boot, and its talk is begun; or it is of another
-pub one_more_begun : (rows : List SessionRow) (i : ℕ) (row : SessionRow) (talks more : List code.SessionTalk) (new : code.SessionTalk) → i < length rows → row ≡ get_or rows i row → is_first_boot row ≡ true → IsTalkAt new (begun row)
-    → ((rest : List code.SessionTalk) → AreTalks rest (begun_of (drop i rows)) → AreTalks (talks ++ rest) (begun_of rows))
-    → AreTalks more (begun_of (drop (i + 1) rows)) → AreTalks ((talks ++ new ∷ []) ++ more) (begun_of rows)
-one_more_begun rows i row talks more new lt is first at so_far are =
-    subst (λ (all : List code.SessionTalk). AreTalks all (begun_of rows)) (sym (append_assoc talks (new ∷ []) more))
-    (so_far (new ∷ more) (subst (λ (all : List SessionTalk). AreTalks (new ∷ more) all) (sym (ap begun_of (dropped rows i row lt is) ∙ begun_first row (drop (i + 1) rows) first)) (at, are)))
+pub one_more_begun : (boot : ℕ) (rows : List SessionRow) (i : ℕ) (row : SessionRow) (talks more : List code.SessionTalk) (new : code.SessionTalk) → i < length rows → row ≡ get_or rows i row → is_of_boot boot row ≡ true → IsTalkAt new (begun row)
+    → ((rest : List code.SessionTalk) → AreTalks rest (begun_in boot (drop i rows)) → AreTalks (talks ++ rest) (begun_in boot rows))
+    → AreTalks more (begun_in boot (drop (i + 1) rows)) → AreTalks ((talks ++ new ∷ []) ++ more) (begun_in boot rows)
+one_more_begun boot rows i row talks more new lt is first at so_far are =
+    subst (λ (all : List code.SessionTalk). AreTalks all (begun_in boot rows)) (sym (append_assoc talks (new ∷ []) more))
+    (so_far (new ∷ more) (subst (λ (all : List SessionTalk). AreTalks (new ∷ more) all) (sym (ap (begun_in boot) (dropped rows i row lt is) ∙ begun_first boot row (drop (i + 1) rows) first)) (at, are)))
 
-pub none_begun : (rows : List SessionRow) (i : ℕ) (row : SessionRow) (talks more : List code.SessionTalk) → i < length rows → row ≡ get_or rows i row → is_first_boot row ≡ false
-    → ((rest : List code.SessionTalk) → AreTalks rest (begun_of (drop i rows)) → AreTalks (talks ++ rest) (begun_of rows))
-    → AreTalks more (begun_of (drop (i + 1) rows)) → AreTalks (talks ++ more) (begun_of rows)
-none_begun rows i row talks more lt is other so_far are =
-    so_far more (subst (λ (all : List SessionTalk). AreTalks more all) (sym (ap begun_of (dropped rows i row lt is) ∙ begun_other row (drop (i + 1) rows) other)) are)
+pub none_begun : (boot : ℕ) (rows : List SessionRow) (i : ℕ) (row : SessionRow) (talks more : List code.SessionTalk) → i < length rows → row ≡ get_or rows i row → is_of_boot boot row ≡ false
+    → ((rest : List code.SessionTalk) → AreTalks rest (begun_in boot (drop i rows)) → AreTalks (talks ++ rest) (begun_in boot rows))
+    → AreTalks more (begun_in boot (drop (i + 1) rows)) → AreTalks (talks ++ more) (begun_in boot rows)
+none_begun boot rows i row talks more lt is other so_far are =
+    so_far more (subst (λ (all : List SessionTalk). AreTalks more all) (sym (ap (begun_in boot) (dropped rows i row lt is) ∙ begun_other boot row (drop (i + 1) rows) other)) are)
 
-pub no_more_begun : (rows : List SessionRow) (i : ℕ) (talks : List code.SessionTalk) → length rows ≤ i
-    → ((rest : List code.SessionTalk) → AreTalks rest (begun_of (drop i rows)) → AreTalks (talks ++ rest) (begun_of rows)) → AreTalks talks (begun_of rows)
-no_more_begun rows i talks le so_far =
-    subst (λ (all : List code.SessionTalk). AreTalks all (begun_of rows)) (append-nil talks)
-    (so_far [] (subst (λ (rest : List SessionRow). AreTalks [] (begun_of rest)) (sym (drop_all i rows le)) tt))
+pub no_more_begun : (boot : ℕ) (rows : List SessionRow) (i : ℕ) (talks : List code.SessionTalk) → length rows ≤ i
+    → ((rest : List code.SessionTalk) → AreTalks rest (begun_in boot (drop i rows)) → AreTalks (talks ++ rest) (begun_in boot rows)) → AreTalks talks (begun_in boot rows)
+no_more_begun boot rows i talks le so_far =
+    subst (λ (all : List code.SessionTalk). AreTalks all (begun_in boot rows)) (append-nil talks)
+    (so_far [] (subst (λ (rest : List SessionRow). AreTalks [] (begun_in boot rest)) (sym (drop_all i rows le)) tt))
 
 -- the rows of a configuration have what a session wants
 pub rows_stand : (sessions : List SessionRow) → are_sessions sessions ≡ true → list_all is_session sessions ≡ true

@@ -21,7 +21,7 @@ use Rattle.mt_runs.specs.Datagrams.{Answer, all_sent, answer_to, activity_resent
 use Rattle.mt_ledger.specs.Behind.{acts, action_in, ledger_behind}
 use Rattle.mt_ledger.specs.Ledger.{Ledger}
 use Rattle.mt_runs.specs.Lines.{ledger_after, sent, state_behind, talks_behind}
-use Rattle.mt_runs.specs.Whole.{SessionTalk, Whole, opened, talk_of}
+use Rattle.mt_runs.specs.Whole.{SessionTalk, Whole, talk_of, whole_with}
 use Rattle.mt_interactions.specs.Configured as configured
 use Rattle.mt_interactions.specs.Plan as interactions
 use Rattle.mt_interactions.specs.Plan.{applied_ledger, applied_state}
@@ -36,10 +36,10 @@ use Rattle.mt_whole.specs.Talks.{AreTalks, IsWholeOf, put}
 abbrev pub given_to : whole.Whole → List RootRow → List CsrRow → List JoinRow → Environment
 given_to one roots csrs joins = configured.given_to one.interactions roots csrs joins
 
--- a whole that was started with this configuration
-pub record IsStarted (config : Config) (one : whole.Whole) : Type 0 where
-  pub begun : one.interactions ≡ configured.started config
-  pub stands : IsWholeOf one (opened config)
+-- a whole that was started in a boot, at a stored ceiling, with this configuration
+pub record IsStarted (boot ceiling : ℕ) (config : Config) (one : whole.Whole) : Type 0 where
+  pub begun : one.interactions ≡ configured.started boot ceiling config
+  pub stands : IsWholeOf one (whole_with boot ceiling config.fabrics config.entries config.sessions)
 
 -- a message that was let in, as the code tells it
 abbrev pub told_fresh : Option (ℕ × ProtocolHeader × List ℕ) → Option Arrival

@@ -1,10 +1,9 @@
 //! What is said over the sessions of a node.
 
-ghost use Rattle.std.specs.Prelude.{◌≡◌, ◌==◌, List, Some, true, IfOk, filter, map, option_copied};
+ghost use Rattle.std.specs.Prelude.{◌≡◌, List, Some, true, IfOk, map, option_copied};
 ghost use Rattle.std.specs.List.{find, list_all};
-ghost use Rattle.mt_model.specs.declared.texts.config.SessionRow.{SessionRow as Row};
 ghost use Rattle.mt_model.specs.texts.Config.{is_session};
-ghost use Rattle.mt_runs.specs.Whole.{SessionTalk as Told, begun, without_ended};
+ghost use Rattle.mt_runs.specs.Whole.{SessionTalk as Told, begun, begun_in, without_ended};
 ghost use Rattle.mt_whole.specs.Talks.{AreTalks, IsTalkAt, is_code_of, put};
 
 use mt_model::{ExactCopy, SessionRow};
@@ -23,14 +22,18 @@ impl Drop for SessionTalk {
     }
 }
 
-/// The talks of the sessions of the first boot, in which nothing has been said.
-pub(crate) fn begun(alloc: Global, rows: &[SessionRow]) -> Result<Vec<SessionTalk>, AllocError>
+/// The talks of the sessions of a boot, in which nothing has been said.
+pub(crate) fn begun(
+    alloc: Global,
+    boot: u32,
+    rows: &[SessionRow],
+) -> Result<Vec<SessionTalk>, AllocError>
     requires { list_all is_session rows.now ≡ true }
-    ensures { IfOk result (λ talks. AreTalks talks.items (map begun (filter (λ (row : Row). row.boot == 1) rows.now))) }
+    ensures { IfOk result (λ talks. AreTalks talks.items (begun_in boot rows.now)) }
 {
     let mut talks = Vec::new(alloc);
     for row in rows {
-        if row.boot == 1 {
+        if row.boot == boot {
             talks.push(begun_with(alloc, row)?)?;
         }
     }

@@ -1,6 +1,6 @@
 //! The whole.
 
-ghost use Rattle.std.specs.Prelude.{◌≡◌, IfOk, IfSome, is_some, option_copied};
+ghost use Rattle.std.specs.Prelude.{◌≡◌, ◌≤◌, ◌^◌, IfOk, IfSome, is_some, option_copied};
 ghost use Rattle.mt_machine.specs.Environment.{Environment};
 ghost use Rattle.mt_model.specs.declared.texts.recording.Event.{Event as Line};
 ghost use Rattle.mt_runs.specs.Lines.{is_built, next};
@@ -36,15 +36,22 @@ impl Drop for Whole {
 }
 
 impl Whole {
-    /// A new node with this configuration, in its first boot; nobody has a deadline or has subscribed, and
-    /// nothing has been said.
-    pub fn start(alloc: Global, config: &Config) -> Result<Whole, AllocError>
-        ensures { IfOk result (IsStarted config.now) }
+    /// A new node with this configuration, in a boot, where this ceiling of event numbers was stored; nobody has a
+    /// deadline or has subscribed, and nothing has been said.
+    pub fn start(
+        alloc: Global,
+        boot: u32,
+        ceiling: u64,
+        config: &Config,
+    ) -> Result<Whole, AllocError>
+        requires boot { boot ≤ 2 ^ 31 }
+        requires ceiling { ceiling ≤ 2 ^ 61 }
+        ensures { IfOk result (IsStarted boot ceiling config.now) }
     {
         Ok(Whole {
             alloc,
-            interactions: Interactions::start(alloc, config)?,
-            talks: begun(alloc, config.sessions.as_slice())?,
+            interactions: Interactions::start(alloc, boot, ceiling, config)?,
+            talks: begun(alloc, boot, config.sessions.as_slice())?,
         })
     }
 

@@ -1,4 +1,4 @@
-use Rattle.mt_machine.proofs.Opening.{opens_valid}
+use Rattle.mt_machine.proofs.Opening.{begins_valid, opens_valid}
 use Rattle.mt_machine.proofs.Asked.{action_taken, stays_valid}
 use Rattle.mt_machine.proofs.StepsValid.{all-taken-valid}
 use Rattle.mt_machine.proofs.Writes.{timed_valid}
@@ -7,6 +7,9 @@ use Rattle.mt_machine.proofs.states_are_valid.Goals as goal
 
 pub returns-clause-opens : goal.returns-clause-opens
 returns-clause-opens c = opens_valid c.numbered_fabrics_ascend.ensures c.changes_stay_in_order.ensures.unchanged
+
+pub returns-clause-begins : goal.returns-clause-begins
+returns-clause-begins c = begins_valid c.changes_stay_in_order.ensures.unchanged
 
 pub returns-clause-takes : goal.returns-clause-takes
 returns-clause-takes c given s action now keeps valid =
