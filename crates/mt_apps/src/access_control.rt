@@ -68,7 +68,8 @@ impl FabricList for Acl {
     }
 }
 
-pub(crate) fn entry_value(alloc: Global, entry: &AclEntry) -> Result<Value, AllocError>
+/// An entry as a value, with its fabric (Matter Core Specification, section 9.10, AccessControlEntryStruct).
+pub fn entry_value(alloc: Global, entry: &AclEntry) -> Result<Value, AllocError>
     ensures { IfOk result (λ value. value ≡ entry_value entry.now) }
 {
     let subjects = subjects(alloc, entry.subjects.as_slice())?;

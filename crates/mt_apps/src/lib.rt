@@ -32,6 +32,7 @@ mod operational_credentials;
 mod rows;
 mod shown;
 
+pub use access_control::entry_value;
 pub use commands::invoke;
 pub use events::{entry_events, push_events_between};
 pub use laws::places_have_their_rows;

@@ -75,6 +75,14 @@ is_first Computed tree = false
 is_first (Stored value) tree = is_value value tree
 is_first StoredItems tree = false
 
+-- whether the attribute of a place begins with this value
+abbrev pub is_first_in : Option AttributeRow → Value → Bool
+is_first_in None value = false
+is_first_in (Some row) value = is_first row.origin (tree value)
+
+abbrev pub is_first_at : Place → Value → Bool
+is_first_at place value = is_first_in (table_row place) value
+
 -- 03: a value of the attribute's form, and not the first, which has no key
 abbrev pub may_stand_in : Option AttributeRow → Value → Bool
 may_stand_in None value = false

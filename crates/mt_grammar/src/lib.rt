@@ -26,3 +26,4 @@ pub use facts::facts_hold;
 pub use grammar::{States, is_in_grammar};
 pub use kept::{KeptRows, MapContents, kept_in};
 pub use keys::{Key, key_in};
+pub use rows::is_first_at;

@@ -8,7 +8,7 @@ ghost use Rattle.mt_meta.specs.Finding.{find_of};
 ghost use Rattle.mt_meta.specs.Stored.{row_in};
 ghost use Rattle.mt_meta.specs.declared.rows.FirstValue.TheVariants as first;
 ghost use Rattle.mt_grammar.specs.Fields.{if_some};
-ghost use Rattle.mt_grammar.specs.Values.{has_items, if_few, is_acl, is_first, is_single, is_value, item_in, items_in, may_stand, may_stand_in, table_row};
+ghost use Rattle.mt_grammar.specs.Values.{has_items, if_few, is_acl, is_first, is_first_at, is_single, is_value, item_in, items_in, may_stand, may_stand_in, table_row};
 
 use crate::fields::{array_in, is_null};
 use crate::forms::has_form;
@@ -78,6 +78,16 @@ fn may_stand_in(row: &AttributeRow, value: &Value) -> bool
     ensures { result ≡ may_stand_in (Some row.now) value.now }
 {
     is_single(&row.meta) && has_form(&row.meta, 0, value) && !is_first(row.origin, value)
+}
+
+/// Whether the attribute of a place begins on a new node with this value, which then has no key.
+pub fn is_first_at(place: &Place, value: &Value) -> bool
+    ensures { result ≡ is_first_at place.now value.now }
+{
+    match table_row(place) {
+        Some(row) => is_first(row.origin, value),
+        None => false,
+    }
 }
 
 // Whether a value is the one with which an attribute begins.
