@@ -1,0 +1,11 @@
+use Rattle.std.proofs.Common.{◌≡◌, ◌++◌, ℕ, None, drop}
+use Rattle.std.specs.List.{flat_map}
+use Rattle.mt_machine.specs.Effects.{after_all}
+use Rattle.mt_lasting.specs.Changes.{differing_at}
+use Rattle.mt_lasting.specs.Keys.{keys_of}
+use Rattle.mt_lasting.proofs.steps.push_items.Given as goal
+
+-- what is said so far, and what is to be said of the fabrics to come
+abbrev pub invariant-loop-fabric : goal.invariant-loop-fabric
+invariant-loop-fabric l = (ceiling : ℕ) → l.entries.items ++ flat_map (λ fabric. flat_map (differing_at l.state ceiling (after_all None l.steps l.state) ceiling) (keys_of fabric)) (drop l.fabric-index l.fabrics)
+    ≡ l.fn.entries.items ++ flat_map (λ fabric. flat_map (differing_at l.state ceiling (after_all None l.steps l.state) ceiling) (keys_of fabric)) l.fabrics

@@ -1,0 +1,11 @@
+use Rattle.std.proofs.Common.{◌≡◌, ◌++◌, ℕ, None, drop}
+use Rattle.std.specs.List.{flat_map}
+use Rattle.mt_grammar.specs.declared.keys.Key.TheVariants.{Single}
+use Rattle.mt_machine.specs.Effects.{after_all}
+use Rattle.mt_lasting.specs.Changes.{differing_at}
+use Rattle.mt_lasting.proofs.steps.push_singles.Given as goal
+
+-- what is said so far, and what is to be said of the places to come
+abbrev pub invariant-loop-place : goal.invariant-loop-place
+invariant-loop-place l = (ceiling : ℕ) → l.entries.items ++ flat_map (λ place. differing_at l.state ceiling (after_all None l.steps l.state) ceiling (Single place)) (drop l.place-index l.places)
+    ≡ l.fn.entries.items ++ flat_map (λ place. differing_at l.state ceiling (after_all None l.steps l.state) ceiling (Single place)) l.places
