@@ -1,0 +1,46 @@
+//! Laws of states that are regained from a map. Each is the contract of a function that does nothing.
+
+ghost use Rattle.mt_regained.specs.Laws.{BeginsValid, DurableIsKept, FirstBoots, KeepsOtherKeys, KeptAgain, RolledTwice, StatesAreRegained, StatesAreValid};
+
+use mt_lasting::{maps_are_maps, maps_are_read_back};
+use mt_machine::{expiries_roll_back, expiries_spare_others, states_are_valid};
+
+/// A map of the grammar stands for a valid state, of which the same is kept.
+pub fn states_are_regained()
+    ensures valid { StatesAreValid }
+    ensures again { KeptAgain }
+{
+    states_are_valid();
+}
+
+/// What is durable of a valid state is a map of the grammar, and what is kept of the state is kept in it.
+pub fn durable_maps_are_kept()
+    ensures { DurableIsKept }
+{
+    maps_are_maps();
+    maps_are_read_back();
+}
+
+/// What is kept of a valid state stands for a state of which the same is kept. Rolled back twice is rolled back once, and
+/// under each key that a rollback does not name it leaves what was there.
+pub fn rollbacks_are_the_last_word()
+    ensures again { StatesAreRegained }
+    ensures twice { RolledTwice }
+    ensures keys { KeepsOtherKeys }
+{
+    states_are_regained();
+    durable_maps_are_kept();
+    expiries_spare_others();
+    expiries_roll_back();
+}
+
+/// The next boot begins in a valid state, and the first one in that of a new node.
+pub fn boots_begin_valid()
+    ensures valid { BeginsValid }
+    ensures first { FirstBoots }
+{
+    states_are_valid();
+    states_are_regained();
+    durable_maps_are_kept();
+    expiries_spare_others();
+}

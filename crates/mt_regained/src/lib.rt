@@ -1,0 +1,21 @@
+//! The state that a node regains from its durable map after a loss of power, and the rollback of that map.
+//!
+//! - `regained`: the state of a map, `kept_rows`: its rows, `bytes`: of what its keys are;
+//! - `opening`: the state in which a boot begins;
+//! - `rolled`: the map without what was done under a fail-safe that was armed;
+//! - `laws`: what holds of them.
+#![tactic(auto)]
+
+mod bytes;
+mod kept_rows;
+mod laws;
+mod opening;
+mod regained;
+mod rolled;
+
+pub use laws::{
+    boots_begin_valid, durable_maps_are_kept, rollbacks_are_the_last_word, states_are_regained,
+};
+pub use opening::next_boot;
+pub use regained::state_from;
+pub use rolled::rolled_map;

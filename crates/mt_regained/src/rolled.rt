@@ -1,0 +1,34 @@
+//! The rollback of a durable map.
+
+ghost use Rattle.std.specs.Prelude.{◌≡◌, IfOk};
+ghost use Rattle.mt_regained.specs.Rolled.{rolled_map};
+
+use crate::bytes::keys_are_of_bytes;
+use crate::laws::states_are_regained;
+use crate::regained::state_of;
+use mt_durable::Durable;
+use mt_grammar::{facts_hold, kept_in};
+use mt_lasting::durable_of;
+use mt_machine::expiries_spare_others;
+use mt_steps::rolled_back;
+use std::alloc::{AllocError, Global};
+
+/// The map without what was done under a fail-safe that was armed, and as it is where none was; None exactly where it is not
+/// in the grammar of states.
+pub fn rolled_map(alloc: Global, map: &Durable) -> Result<Option<Durable>, AllocError>
+    ensures { IfOk result (λ rolled. rolled ≡ rolled_map map.now) }
+{
+    states_are_regained();
+    expiries_spare_others();
+    keys_are_of_bytes(map.as_slice());
+    let Some(kept) = kept_in(alloc, map)? else {
+        return Ok(None);
+    };
+    if !facts_hold(&kept) {
+        return Ok(None);
+    }
+    let ceiling = kept.ceiling.unwrap_or(0);
+    let state = state_of(alloc, kept)?;
+    let behind = rolled_back(alloc, &state)?;
+    Ok(Some(durable_of(alloc, &behind, ceiling)?))
+}
