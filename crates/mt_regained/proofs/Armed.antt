@@ -17,7 +17,8 @@ use Rattle.mt_grammar.specs.Facts as facts
 use Rattle.mt_grammar.specs.declared.kept.MapContents.{MapContents}
 use Rattle.mt_machine.specs.State.{is_awaited_root, is_certificate_if, is_given_root, is_nonce_if, is_used, keeps_facts, names_rightly, saves_rightly, was_given_rightly}
 use Rattle.mt_machine.specs.State as state
-use Rattle.mt_regained.specs.Regained.{is_idle, with_given_root}
+use Rattle.mt_grammar.specs.Facts.{is_idle}
+use Rattle.mt_regained.specs.Regained.{with_given_root}
 use Rattle.mt_regained.proofs.Lists.{all-weaker}
 use Rattle.mt_regained.proofs.Read.{IsPlain}
 

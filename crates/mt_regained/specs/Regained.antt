@@ -1,20 +1,19 @@
 -- The state that what is kept stands for.
-use Rattle.std.specs.Prelude.{ℕ, not, Bool, List, [], ◌∷◌, Option, Some, None, filter, unwrap_or, if◌then◌else◌}
-use Rattle.std.specs.List.{find, flat_map, list_any}
+use Rattle.std.specs.Prelude.{ℕ, not, List, [], ◌∷◌, Option, Some, None, filter, unwrap_or, if◌then◌else◌}
+use Rattle.std.specs.List.{find, flat_map}
 use Rattle.std.specs.Option.{option_map}
 use Rattle.mt_durable.specs.declared.durable.Entry.{Entry}
 use Rattle.mt_meta.specs.Stored.{first_rows}
 use Rattle.mt_subs.specs.Changes.{unchanged}
 use Rattle.mt_model.specs.rows.Sight.{stands_at}
 use Rattle.mt_model.specs.rows.Stored.{stored_places}
-use Rattle.mt_model.specs.tables.Holding.{is_root_of}
 use Rattle.mt_model.specs.declared.node.state.NodeState.{NodeState}
 use Rattle.mt_model.specs.declared.rows.place.Place.{Place}
 use Rattle.mt_model.specs.declared.rows.place.Row.{Row}
 use Rattle.mt_model.specs.declared.tables.fabric.Fabric.{Fabric}
 use Rattle.mt_model.specs.declared.tables.network.Armed.{Armed}
 use Rattle.mt_grammar.specs.Decoding.{kept_in}
-use Rattle.mt_grammar.specs.Facts.{facts_hold}
+use Rattle.mt_grammar.specs.Facts.{facts_hold, is_idle}
 use Rattle.mt_grammar.specs.declared.kept.MapContents.{MapContents}
 use Rattle.mt_machine.specs.Opened.{first_version, versions_at}
 
@@ -31,9 +30,6 @@ abbrev pub rows_with : List Row → List Row
 rows_with kept = flat_map (rows_at kept) stored_places
 
 -- The fail-safe was given the one root that no fabric uses, if there is one. Its times and its signing request were not kept, and an expiry needs none.
-
-abbrev pub is_idle : List Fabric → List ℕ → Bool
-is_idle fabrics root = not (list_any (is_root_of root) fabrics)
 
 abbrev pub given_root : List Fabric → List (List ℕ) → Armed → Armed
 given_root fabrics roots armed = record armed { root = find (is_idle fabrics) roots }

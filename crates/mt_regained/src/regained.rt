@@ -4,7 +4,8 @@ ghost use Rattle.std.specs.Prelude.{◌≡◌, IfOk, IfSome, option_copied, opti
 ghost use Rattle.std.specs.List.{find};
 ghost use Rattle.mt_model.specs.tables.Holding.{is_root_of};
 ghost use Rattle.mt_machine.specs.State.{IsValid};
-ghost use Rattle.mt_regained.specs.Regained.{given_root, is_idle, state_in, state_of};
+ghost use Rattle.mt_grammar.specs.Facts.{is_idle};
+ghost use Rattle.mt_regained.specs.Regained.{given_root, state_in, state_of};
 
 use crate::bytes::keys_are_of_bytes;
 use crate::kept_rows::rows_with;

@@ -13,8 +13,8 @@ use mt_machine::expiries_spare_others;
 use mt_steps::rolled_back;
 use std::alloc::{AllocError, Global};
 
-/// The map without what was done under a fail-safe that was armed, and as it is where none was; None exactly where it is not
-/// in the grammar of states.
+/// The map of the state that a map stands for, without what was done under a fail-safe that was armed; None exactly where the
+/// map is not in the grammar of states.
 pub fn rolled_map(alloc: Global, map: &Durable) -> Result<Option<Durable>, AllocError>
     ensures { IfOk result (λ rolled. rolled ≡ rolled_map map.now) }
 {

@@ -1,6 +1,6 @@
 use Rattle.std.proofs.Common.{◌≡◌, drop}
 use Rattle.std.specs.List.{find}
-use Rattle.mt_regained.specs.Regained.{is_idle}
+use Rattle.mt_grammar.specs.Facts.{is_idle}
 use Rattle.mt_regained.proofs.regained.idle_root.Given as goal
 
 -- the roots that were looked at are used
