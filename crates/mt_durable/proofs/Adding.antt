@@ -10,10 +10,10 @@ use Rattle.mt_durable.specs.Maps.{has_value}
 use Rattle.mt_durable.specs.Setting.{in_front, placed, with_all, with_entry, without}
 use Rattle.mt_durable.specs.declared.durable.Entry.{Entry}
 
-abbrev size : List Entry → ℕ
+abbrev pub size : List Entry → ℕ
 size entries = length (entries_bytes entries)
 
-size_more : (entry : Entry) (entries : List Entry) → size (entry ∷ entries) ≡ length (entry_bytes entry) + size entries
+pub size_more : (entry : Entry) (entries : List Entry) → size (entry ∷ entries) ≡ length (entry_bytes entry) + size entries
 size_more entry entries = length-append (entry_bytes entry) (entries_bytes entries)
 
 fits_without : (key : List ℕ) (entries : List Entry) → size (without key entries) ≤ size entries
@@ -43,7 +43,7 @@ fits_with_all : (change map : List Entry) → size (with_all change map) ≤ siz
 fits_with_all [] map = omega arith
 fits_with_all (entry ∷ change) map = omega (arith, fits_with_all change (with_entry entry map), fits_with entry map, size_more entry change)
 
-length-change : (entries : List Entry) → length (change_bytes entries) ≡ size entries + 2
+pub length-change : (entries : List Entry) → length (change_bytes entries) ≡ size entries + 2
 length-change entries = omega (arith, length-append (entries_bytes entries) (end_of_container ∷ []))
 
 pub adds_no_more : (change map : List Entry) → length (change_bytes (with_all change map)) ≤ length (change_bytes change) + length (change_bytes map)

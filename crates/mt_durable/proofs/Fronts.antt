@@ -24,7 +24,7 @@ use Rattle.mt_durable.proofs.Allowed.{all_allowed, each_allowed}
 use Rattle.mt_durable.proofs.Merging.{above_lower, ascend_rest}
 
 -- An entry before all keys of a change stays in front.
-stays_in_front : (one : Entry) (change rest : List Entry) → ascend_above one.key change ≡ true → with_all change (one ∷ rest) ≡ one ∷ with_all change rest
+pub stays_in_front : (one : Entry) (change rest : List Entry) → ascend_above one.key change ≡ true → with_all change (one ∷ rest) ≡ one ∷ with_all change rest
 stays_in_front one [] rest up = refl
 stays_in_front one (entry ∷ change) rest up =
     let both = and_parts (is_before one.key entry.key) (ascend_above entry.key change) up in
@@ -46,7 +46,7 @@ with_change entry change (one ∷ rest) up = ⊎_elim
     (λ (is : is_before one.key entry.key ≡ false). rw is (front_out entry change (without entry.key (one ∷ rest)) up))
     (cases_Bool (is_before one.key entry.key))
 
-bytes_append : (some others : List Entry) → entries_bytes (some ++ others) ≡ entries_bytes some ++ entries_bytes others
+pub bytes_append : (some others : List Entry) → entries_bytes (some ++ others) ≡ entries_bytes some ++ entries_bytes others
 bytes_append [] others = refl
 bytes_append (entry ∷ some) others = ap (λ (l : List ℕ). entry_bytes entry ++ l) (bytes_append some others) ∙ sym (append_assoc (entry_bytes entry) (entries_bytes some) (entries_bytes others))
 

@@ -21,7 +21,7 @@ pieces_append : (xs ys : List Piece) → pieces_length (xs ++ ys) ≡ pieces_len
 pieces_append [] ys = omega arith
 pieces_append (x ∷ xs) ys = omega (arith, pieces_append xs ys)
 
-string_bytes : (s : List ℕ) → length (narrow_string s) ≡ 2 ^ width_of (length s) + length s
+pub string_bytes : (s : List ℕ) → length (narrow_string s) ≡ 2 ^ width_of (length s) + length s
 string_bytes s = omega (arith, length-append (narrow_unsigned (length s)) s, length_little (2 ^ width_of (length s)) (length s))
 
 container_bytes : (tag : Tag) (es : Elements) → pieces_length (parts_inside es) ≡ length (narrow_elements es)

@@ -1,8 +1,12 @@
 pub mod Adding
 pub mod Allowed
 pub mod Counting
-pub mod Fronts
+pub mod DifferenceSays
+pub mod DifferenceSteps
+pub mod Differing
 pub mod FromEmpty
+pub mod Fronts
+pub mod GoneBytes
 pub mod KeyParts
 pub mod Keys
 pub mod Lengths

@@ -54,6 +54,12 @@ IsFront (entry ∷ entries) None = ⊥
 IsFront (entry ∷ entries) (Some front) = (front.key.now ≡ entry.key) × (front.has_value ≡ has_value entry.value) × (front.bytes.now ≡ entry_bytes entry)
     × AreEntries front.rest.now × (entries_said front.rest.now ≡ entries)
 
+-- The entry that stands in front, as its key and its bytes say.
+pub record Stands (front : Front) : Type 0 where
+  pub entry : Entry
+  pub key : front.key.now ≡ entry.key
+  pub bytes : front.bytes.now ≡ entry_bytes entry
+
 -- the bytes of the entries before a key
 abbrev pub lower_bytes : List ℕ → List Entry → List ℕ
 lower_bytes key entries = entries_bytes (take (count_before key entries) entries)

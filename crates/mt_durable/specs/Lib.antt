@@ -1,4 +1,5 @@
 pub mod Changes
+pub mod Differences
 pub mod Fronts
 pub mod Images
 pub mod Keepers

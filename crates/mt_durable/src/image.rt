@@ -17,18 +17,18 @@ use crate::length::element_length;
 use crate::reading::bytes_of_a_change_are_read;
 use mt_tlv::{Cursor, Part, cursor_comes_over_the_element, narrow_is_element};
 
-// The control octet of an anonymous array, and the end of a container.
-const ARRAY: u8 = 0x16;
+/// The control octet of an anonymous array, and the end of a container.
+pub(crate) const ARRAY: u8 = 0x16;
 
-const END: u8 = 0x18;
+pub(crate) const END: u8 = 0x18;
 
 /// The entry in front of some bytes, and those behind it.
 #[derive(Clone, Copy)]
 pub(crate) struct Front<'a> {
-    key: &'a [u8],
-    has_value: bool,
-    bytes: &'a [u8],
-    rest: &'a [u8],
+    pub(crate) key: &'a [u8],
+    pub(crate) has_value: bool,
+    pub(crate) bytes: &'a [u8],
+    pub(crate) rest: &'a [u8],
 }
 
 /// Leaves in the front of `into` the image after a change: of the map to which the change leads from that of the
@@ -113,8 +113,8 @@ fn own_bytes<'a>(entry: &Front<'a>) -> &'a [u8]
     if entry.has_value { entry.bytes } else { &[] }
 }
 
-// What stands in an image behind the entries before a key.
-fn behind_lower<'a>(key: &[u8], image: &'a [u8]) -> &'a [u8]
+/// What stands in an image behind the entries before a key.
+pub(crate) fn behind_lower<'a>(key: &[u8], image: &'a [u8]) -> &'a [u8]
     requires { AreEntries image.now }
     ensures parts { image.now ≡ lower_bytes key.now (entries_said image.now) ++ result.now }
     ensures entries { AreEntries result.now }
@@ -142,8 +142,8 @@ fn pass_same<'a>(key: &[u8], entries: &'a [u8]) -> &'a [u8]
     }
 }
 
-// What stands in front of entries: none at the end.
-fn entry_in_front<'a>(entries: &'a [u8]) -> Option<Front<'a>>
+/// What stands in front of entries: none at the end.
+pub(crate) fn entry_in_front<'a>(entries: &'a [u8]) -> Option<Front<'a>>
     requires { AreEntries entries.now }
     ensures front { IsFront (entries_said entries.now) result }
     ensures parts { IfSome result (λ front. entries.now ≡ front.bytes.now ++ front.rest.now) }
@@ -205,8 +205,8 @@ fn is_next_leave(cursor: &mut Cursor<'_>) -> bool
     }
 }
 
-// The bytes behind the first of a change.
-fn behind_first(bytes: &[u8]) -> &[u8]
+/// The bytes behind the first of a change.
+pub(crate) fn behind_first(bytes: &[u8]) -> &[u8]
     requires { IsChange bytes.now }
     ensures { bytes.now ≡ array_octet ∷ result.now }
 {

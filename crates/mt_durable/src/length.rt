@@ -56,8 +56,8 @@ fn number_length(number: u32) -> usize
     if number < 0x1_0000 { 2 } else { 4 }
 }
 
-// A string of so many bytes, behind its length.
-fn string_length(count: usize) -> usize
+/// A string of so many bytes, behind its length.
+pub(crate) fn string_length(count: usize) -> usize
     requires { count < 2 ^ 63 }
     ensures exact { result ≡ string_length count }
     ensures small { result ≤ count + 8 }

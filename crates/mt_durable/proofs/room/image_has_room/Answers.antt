@@ -1,7 +1,6 @@
-use Rattle.std.proofs.Common.{◌≡◌, ◌≤◌, List, length, ap, sym, ◌∙◌, subst, refl, arith}
+use Rattle.std.proofs.Common.{◌≡◌, List, length, ap, sym, ◌∙◌, subst, refl, arith}
 use Rattle.std.proofs.lemmas.Bool.{le-leb, leb-true}
 use Rattle.mt_durable.specs.Changes.{change_bytes}
-use Rattle.mt_durable.specs.Images.{image_after}
 use Rattle.mt_durable.specs.Keeping.{LeadsTo}
 use Rattle.mt_durable.specs.Maps.{Merged}
 use Rattle.mt_durable.specs.Reading.{entries_or_none, said}
