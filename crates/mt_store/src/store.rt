@@ -1,6 +1,6 @@
 //! Recovering a map, and committing a change of it.
 
-ghost use Rattle.std.specs.Prelude.{◌≡◌, ◌<◌, ℕ, List, Some, Err, false, is_err, length, IfErr, IfOk, OnErr, OnOk, IsErr, IsTrue};
+ghost use Rattle.std.specs.Prelude.{◌≡◌, ◌<◌, ◌≤◌, ℕ, List, Some, Err, false, is_err, length, IfErr, IfOk, OnErr, OnOk, IsErr, IsTrue};
 ghost use Rattle.std.specs.Borrow.{Lends, sem};
 ghost use Rattle.mt_durable.specs.Changes.{change_bytes, entry_trees};
 ghost use Rattle.mt_durable.specs.Images.{IsImage};
@@ -24,8 +24,8 @@ ghost use Rattle.mt_tlv.specs.Tree.{array};
 use crate::image::Image;
 use crate::map_form::MapForm;
 use mt_durable::{
-    ChangeFault, Durable, Keeper, bytes_of_a_change_are_read, changes_lead_on, maps_have_images,
-    read_change,
+    ChangeFault, Durable, Keeper, bytes_of_a_change_are_read, changes_lead_on,
+    differences_lead_there, maps_have_images, read_change, write_difference,
 };
 use mt_journal::{Journal, JournalFault};
 use mt_outside::{Disk, Failed};
@@ -127,6 +127,42 @@ impl<D: Disk, F: MapForm> Store<D, F> {
                 Err(JournalFault::Memory)
             }
         }
+    }
+
+    /// Commits the map of another image in the place of this one: the change that leads there goes behind the others, or where
+    /// that does not fit, the image goes into the other slot of the journal. `to` becomes the image of before. `room` is memory in
+    /// which the change is put together; it takes no other.
+    pub fn lead_to(&mut self, to: &mut Image, room: &mut [u8]) -> Result<(), Failed>
+        requires admitted { IsTrue (F.admits to.old) }
+        requires room { length room.old ≤ 65535 }
+        ensures image { OnOk result (self.new.image ≡ to.old) }
+        ensures back { OnOk result (to.new ≡ self.old.image) }
+        ensures part { OnErr result ((self.new.image ≡ self.old.image) × (to.new ≡ to.old)) }
+        ensures failed { self.new.journal.failed ≡ is_err result }
+        ensures cause { self.old.journal.failed ≡ false → HasCause (D.faults self.old.journal.disk) (D.faults self.new.journal.disk) result }
+
+        // Where a call has failed, none is made.
+        ensures still { IsTrue self.old.journal.failed → IsErr result × (self.new ≡ self.old) }
+        // After Ok a crash leaves a file that leads to the new map, and nothing else.
+        ensures kept { Keeps D.contents D.images F.image F.change self.old.journal.disk self.old.journal.place self.old.image
+            → OnOk result (Keeps D.contents D.images F.image F.change self.new.journal.disk self.new.journal.place self.new.image) }
+        // A crash at any moment leaves one that leads to the new map or to the one from before.
+        ensures moments { Keeps D.contents D.images F.image F.change self.old.journal.disk self.old.journal.place self.old.image
+            → LeavesOnly D.moment D.images_since self.old.journal.disk self.new.journal.disk (HoldsEither F.image F.change self.old.image to.old) }
+        // What a disk leaves that stops in it leads to the new map exactly where it stops at one of the last two calls and all is
+        // kept, and otherwise to the one from before.
+        ensures left { Keeps D.contents D.images F.image F.change self.old.journal.disk self.old.journal.place self.old.image → self.old.journal.failed ≡ false
+            → OnErr result (StopHolds F.image F.change (switch_calls self.old.journal.place) self.old.image to.old (D.allowed self.old.journal.disk) (D.allowed self.new.journal.disk) (D.log self.new.journal.disk)) }
+        // Ok leaves so many calls fewer until the disk is to stop.
+        ensures lasts { OnOk result ((D.allowed self.new.journal.disk ≡ fewer (switch_calls self.old.journal.place) (D.allowed self.old.journal.disk))
+            × Outlasts (switch_calls self.old.journal.place) (D.allowed self.old.journal.disk)) }
+    {
+        if self.journal.has_failed() {
+            return Err(Failed);
+        }
+        put_map(&mut self.journal, &self.image, to, room)?;
+        mem::swap(&mut self.image, to);
+        Ok(())
     }
 
     /// The image of the map.
@@ -247,7 +283,54 @@ fn put<D: Disk, F: MapForm>(
     if journal.fits(change.len()) {
         journal.append(change)
     } else {
-        journal.switch(image)
+        switch_to(journal, image)
+    }
+}
+
+// Puts an image in the place of all.
+fn switch_to<D: Disk, F: MapForm>(journal: &mut Journal<D, F>, image: &[u8]) -> Result<(), Failed>
+    requires image_form { IsImage image.now }
+    requires admitted { IsTrue (F.admits (said image.now)) }
+    ensures kept { (map : List Entry) → Keeps D.contents D.images F.image F.change journal.old.disk journal.old.place map
+        → OnOk result (Keeps D.contents D.images F.image F.change journal.new.disk journal.new.place (said image.now)) }
+    ensures moments { (map : List Entry) → Keeps D.contents D.images F.image F.change journal.old.disk journal.old.place map
+        → LeavesOnly D.moment D.images_since journal.old.disk journal.new.disk (HoldsEither F.image F.change map (said image.now)) }
+    ensures left { (map : List Entry) → Keeps D.contents D.images F.image F.change journal.old.disk journal.old.place map → journal.old.failed ≡ false
+        → OnErr result (StopHolds F.image F.change (switch_calls journal.old.place) map (said image.now) (D.allowed journal.old.disk) (D.allowed journal.new.disk) (D.log journal.new.disk)) }
+    ensures lasts { OnOk result ((D.allowed journal.new.disk ≡ fewer (switch_calls journal.old.place) (D.allowed journal.old.disk)) × Outlasts (switch_calls journal.old.place) (D.allowed journal.old.disk)) }
+    ensures failed { journal.new.failed ≡ is_err result }
+    ensures cause { journal.old.failed ≡ false → HasCause (D.faults journal.old.disk) (D.faults journal.new.disk) result }
+{
+    bytes_of_a_change_are_read();
+    changes_lead_on();
+    journal.switch(image)
+}
+
+// Leads on to the map of another image: by the change that leads there, or by the image where that is too long.
+fn put_map<D: Disk, F: MapForm>(
+    journal: &mut Journal<D, F>,
+    from: &Image,
+    to: &Image,
+    room: &mut [u8],
+) -> Result<(), Failed>
+    requires admitted { IsTrue (F.admits to.now) }
+    requires room { length room.old ≤ 65535 }
+    ensures kept { Keeps D.contents D.images F.image F.change journal.old.disk journal.old.place from.now
+        → OnOk result (Keeps D.contents D.images F.image F.change journal.new.disk journal.new.place to.now) }
+    ensures moments { Keeps D.contents D.images F.image F.change journal.old.disk journal.old.place from.now
+        → LeavesOnly D.moment D.images_since journal.old.disk journal.new.disk (HoldsEither F.image F.change from.now to.now) }
+    ensures left { Keeps D.contents D.images F.image F.change journal.old.disk journal.old.place from.now → journal.old.failed ≡ false
+        → OnErr result (StopHolds F.image F.change (switch_calls journal.old.place) from.now to.now (D.allowed journal.old.disk) (D.allowed journal.new.disk) (D.log journal.new.disk)) }
+    ensures lasts { OnOk result ((D.allowed journal.new.disk ≡ fewer (switch_calls journal.old.place) (D.allowed journal.old.disk)) × Outlasts (switch_calls journal.old.place) (D.allowed journal.old.disk)) }
+    ensures failed { journal.new.failed ≡ is_err result }
+    ensures cause { journal.old.failed ≡ false → HasCause (D.faults journal.old.disk) (D.faults journal.new.disk) result }
+{
+    bytes_of_a_change_are_read();
+    differences_lead_there();
+    let image = to.as_slice();
+    match write_difference(from.as_slice(), image, room) {
+        Some(count) => put(journal, &room[..count], image),
+        None => switch_to(journal, image),
     }
 }
 

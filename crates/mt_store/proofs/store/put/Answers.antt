@@ -1,13 +1,14 @@
-use Rattle.std.proofs.Common.{◌≡◌, ℕ, true, List, [], ◌∷◌, ◌++◌, length, ap, sym, subst, ◌∙◌}
+use Rattle.std.proofs.Common.{◌≡◌, ℕ, true, List, [], ◌∷◌, ◌++◌, length, sym, subst, ◌∙◌}
 use Rattle.std.specs.Prelude.{OnErr, OnOk, Some}
 use Rattle.mt_durable.specs.Reading.{is_change, said}
 use Rattle.mt_durable.specs.Setting.{with_all}
 use Rattle.mt_durable.specs.declared.durable.Entry.{Entry}
 use Rattle.mt_journal.specs.Standing.{HasEither, StandsFor, switch_calls}
 use Rattle.mt_journal.specs.Stopping.{Outlasts, StopLeaves}
+use Rattle.mt_outside.specs.Disk.{LeavesOnly}
 use Rattle.mt_outside.specs.Logs.{fewer}
 use Rattle.mt_store.specs.Leading.{HoldsEither, Keeps, StopHolds, map_of}
-use Rattle.mt_store.proofs.Leads.{change_is, may_follow, either_holds, leaves_then, map_more, map_of_image, on_ok}
+use Rattle.mt_store.proofs.Leads.{change_is, may_follow, either_holds, leaves_then, map_more, on_ok}
 use Rattle.mt_store.proofs.Stops.{four_calls, on_err, stop_holds}
 use Rattle.mt_store.proofs.store.put.Goals as goal
 
@@ -34,24 +35,13 @@ returns-then-fits-clause-moments g c = λ map next keeps.
 
 pub returns-else-fits-clause-kept : goal.returns-else-fits-clause-kept
 returns-else-fits-clause-kept g c = λ map next keeps.
-    (let image = c.args.image.now in
-    let leads : map_of (image ∷ []) ≡ Some (with_all (said c.args.change.now) map) =
-    map_of_image c.bytes_of_a_change_are_read.ensures.read c.changes_lead_on.ensures.from_empty image c.requires.image_form ∙ ap (λ (m : List Entry). Some m) next in
-    on_ok c.switch.result
-    (StandsFor {D = g.row.D.Denot} g.D.Disk.contents g.D.Disk.images g.F.Form.image g.F.Form.change c.switch.new.self.disk c.switch.new.self.place (image ∷ []))
-    (Keeps {D = g.row.D.Denot} g.D.Disk.contents g.D.Disk.images g.F.Form.image g.F.Form.change c.switch.new.self.disk c.switch.new.self.place (with_all (said c.args.change.now) map))
-    (λ stands. record { list = image ∷ []; stands = stands; leads = leads })
-    (c.switch.ensures.replaced keeps.list keeps.stands))
+    subst (λ (m : List Entry). OnOk c.switch_to.result (Keeps {D = g.row.D.Denot} g.D.Disk.contents g.D.Disk.images g.F.Form.image g.F.Form.change c.switch_to.new.journal.disk c.switch_to.new.journal.place m))
+    next (c.switch_to.ensures.kept map keeps)
 
 pub returns-else-fits-clause-moments : goal.returns-else-fits-clause-moments
 returns-else-fits-clause-moments g c = λ map next keeps.
-    (let image = c.args.image.now in
-    let leads : map_of (image ∷ []) ≡ Some (with_all (said c.args.change.now) map) =
-    map_of_image c.bytes_of_a_change_are_read.ensures.read c.changes_lead_on.ensures.from_empty image c.requires.image_form ∙ ap (λ (m : List Entry). Some m) next in
-    leaves_then {D = g.row.D.Denot} g.D.Disk.moment g.D.Disk.images_since c.args.journal.now.disk c.switch.new.self.disk
-    (HasEither g.F.Form.image g.F.Form.change keeps.list (image ∷ [])) (HoldsEither g.F.Form.image g.F.Form.change map (with_all (said c.args.change.now) map))
-    (either_holds g.F.Form.image g.F.Form.change keeps.list (image ∷ []) map (with_all (said c.args.change.now) map) keeps.leads leads)
-    (c.switch.ensures.moments keeps.list keeps.stands))
+    subst (λ (m : List Entry). LeavesOnly {D = g.row.D.Denot} g.D.Disk.moment g.D.Disk.images_since c.args.journal.now.disk c.switch_to.new.journal.disk (HoldsEither g.F.Form.image g.F.Form.change map m))
+    next (c.switch_to.ensures.moments map keeps)
 
 pub returns-then-fits-clause-left : goal.returns-then-fits-clause-left
 returns-then-fits-clause-left g c = λ map next keeps ready.
@@ -76,13 +66,5 @@ returns-then-fits-clause-lasts g c =
 
 pub returns-else-fits-clause-left : goal.returns-else-fits-clause-left
 returns-else-fits-clause-left g c = λ map next keeps ready.
-    (let image = c.args.image.now in
-    let calls = switch_calls c.args.journal.now.place in
-    let after = with_all (said c.args.change.now) map in
-    let leads : map_of (image ∷ []) ≡ Some after =
-    map_of_image c.bytes_of_a_change_are_read.ensures.read c.changes_lead_on.ensures.from_empty image c.requires.image_form ∙ ap (λ (m : List Entry). Some m) next in
-    on_err c.switch.result
-    (StopLeaves g.F.Form.image g.F.Form.change calls keeps.list (image ∷ []) (g.D.Disk.allowed c.args.journal.now.disk) (g.D.Disk.allowed c.switch.new.self.disk) (g.D.Disk.log c.switch.new.self.disk))
-    (StopHolds g.F.Form.image g.F.Form.change calls map after (g.D.Disk.allowed c.args.journal.now.disk) (g.D.Disk.allowed c.switch.new.self.disk) (g.D.Disk.log c.switch.new.self.disk))
-    (stop_holds g.F.Form.image g.F.Form.change calls keeps.list (image ∷ []) map after keeps.leads leads (g.D.Disk.allowed c.args.journal.now.disk) (g.D.Disk.allowed c.switch.new.self.disk) (g.D.Disk.log c.switch.new.self.disk))
-    (c.switch.ensures.left keeps.list keeps.stands ready))
+    subst (λ (m : List Entry). OnErr c.switch_to.result (StopHolds g.F.Form.image g.F.Form.change (switch_calls c.args.journal.now.place) map m (g.D.Disk.allowed c.args.journal.now.disk) (g.D.Disk.allowed c.switch_to.new.journal.disk) (g.D.Disk.log c.switch_to.new.journal.disk)))
+    next (c.switch_to.ensures.left map keeps ready)

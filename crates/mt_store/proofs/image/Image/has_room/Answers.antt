@@ -1,4 +1,4 @@
-use Rattle.std.proofs.Common.{◌≡◌, List, subst}
+use Rattle.std.proofs.Common.{List, subst}
 use Rattle.std.specs.Prelude.{IsTrue, ◌↔◌, Some}
 use Rattle.mt_durable.specs.Keeping.{HasRoom}
 use Rattle.mt_durable.specs.declared.durable.Entry.{Entry}

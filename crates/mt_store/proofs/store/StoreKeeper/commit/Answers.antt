@@ -1,4 +1,4 @@
-use Rattle.std.proofs.Common.{◌≡◌, true, List, ap, sym, subst, ◌∙◌}
+use Rattle.std.proofs.Common.{◌≡◌, List, ap, ◌∙◌}
 use Rattle.std.specs.Prelude.{Some}
 use Rattle.mt_durable.specs.Reading.{said}
 use Rattle.mt_durable.specs.Setting.{with_all}
