@@ -31,14 +31,14 @@ use Rattle.mt_lasting.proofs.TreeSizes.{number_size, size, value_size}
 use Rattle.mt_lasting.proofs.Valid.{items_few, items_formed}
 
 -- the kinds of rows that are items
-abbrev is_row_kind : Kind → Bool
+abbrev pub is_row_kind : Kind → Bool
 is_row_kind kinds.Binding = true
 is_row_kind kinds.Bench = true
 is_row_kind kinds.GroupKeyMap = true
 is_row_kind kinds.KeySets = true
 is_row_kind kind = false
 
-fields_kept : (kind : Kind) (least limit fabric : ℕ) (es : Elements) → is_row_kind kind ≡ true → is_of_kind kind least limit fabric (values.Struct es) ≡ true
+pub fields_kept : (kind : Kind) (least limit fabric : ℕ) (es : Elements) → is_row_kind kind ≡ true → is_of_kind kind least limit fabric (values.Struct es) ≡ true
     → is_kept_item (fields_of kind) fabric (structure es) ≡ true
 fields_kept kinds.Bool least limit fabric es row form = absurd cc
 fields_kept kinds.Uint least limit fabric es row form = absurd cc

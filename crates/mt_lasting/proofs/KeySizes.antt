@@ -32,7 +32,7 @@ bound keys.Roots = 6854
 bound keys.Networks = 427
 bound keys.Failsafe = 1776
 
-each-both : {X : Type 0} (P Q R : X → Type 0) → ((x : X) → P x → Q x → R x) → (xs : List X) → Each P xs → Each Q xs → Each R xs
+pub each-both : {X : Type 0} (P Q R : X → Type 0) → ((x : X) → P x → Q x → R x) → (xs : List X) → Each P xs → Each Q xs → Each R xs
 each-both P Q R on [] each other = each
 each-both P Q R on (x ∷ xs) each other = (on x each.0 other.0, each-both P Q R on xs each.1 other.1)
 
@@ -40,7 +40,7 @@ each-both P Q R on (x ∷ xs) each other = (on x each.0 other.0, each-both P Q R
 small_index : (fabric : ℕ) → is_index fabric ≡ true → number_size fabric ≤ 1
 small_index fabric is = in_one fabric (omega (arith, leb-true _ _ (and_parts (nat_le 1 fabric) (nat_le fabric 16) is).1))
 
-indexes_are : list_all is_index indexes ≡ true
+pub indexes_are : list_all is_index indexes ≡ true
 indexes_are = refl
 
 module _ (s : NodeState) (ceiling : ℕ) (valid : IsValid s) where

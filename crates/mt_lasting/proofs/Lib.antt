@@ -1,6 +1,16 @@
 pub mod AddItems
 pub mod AddLast
 pub mod AddSingles
+pub mod AllowedEntries
+pub mod AllowedFields
+pub mod AllowedForms
+pub mod AllowedItems
+pub mod AllowedKeys
+pub mod AllowedKinds
+pub mod AllowedMaps
+pub mod AllowedSingles
+pub mod AllowedTables
+pub mod AllowedTrees
 pub mod Buckets
 pub mod Changing
 pub mod Differing

@@ -28,7 +28,7 @@ among_up_to most index (fabric ∷ fabrics) all among =
       | inr later ↦ among_up_to most index fabrics both.1 later
     ]
 
-none_or_among : (most index : ℕ) (fabrics : List Fabric) → list_all (has_index_up_to most) fabrics ≡ true → (index == 0 || is_among fabrics index) ≡ true → nat_le index most ≡ true
+pub none_or_among : (most index : ℕ) (fabrics : List Fabric) → list_all (has_index_up_to most) fabrics ≡ true → (index == 0 || is_among fabrics index) ≡ true → nat_le index most ≡ true
 none_or_among most index fabrics all known = elim (or_cases (index == 0) (is_among fabrics index) known) [
   | inl none ↦ let zero : index ≡ 0 = eqb-true index 0 none in le-leb index most (omega arith)
   | inr among ↦ among_up_to most index fabrics all among

@@ -4,6 +4,7 @@ use Rattle.std.specs.List.{list_all}
 use Rattle.mt_tlv.specs.declared.value.Value.{Value}
 use Rattle.mt_durable.specs.Changes.{change_bytes}
 use Rattle.mt_durable.specs.Maps.{have_values, keys_ascend}
+use Rattle.mt_durable.specs.Reading.{Says}
 use Rattle.mt_durable.specs.Setting.{with_all}
 use Rattle.mt_meta.specs.Finding.{find_data_of}
 use Rattle.mt_meta.specs.Places.{all_places}
@@ -82,3 +83,11 @@ MapsAreShort = (s : NodeState) (ceiling : ℕ) → IsValid s → length (change_
 
 abbrev pub ChangesAreShort : Type 0
 ChangesAreShort = (s t : NodeState) (ceiling next : ℕ) → IsValid t → length (change_bytes (change_between s ceiling t next)) ≤ 65535
+
+-- What is to be kept fits into elements: the map of a valid state has an image, and a change to a valid state is one as bytes.
+
+abbrev pub MapsHaveImages : Type 0
+MapsHaveImages = (s : NodeState) (ceiling : ℕ) → IsValid s → ceiling ≤ 2 ^ 62 → Says (durable s ceiling) (change_bytes (durable s ceiling))
+
+abbrev pub ChangesAreSaid : Type 0
+ChangesAreSaid = (s t : NodeState) (ceiling next : ℕ) → IsValid t → next ≤ 2 ^ 62 → Says (change_between s ceiling t next) (change_bytes (change_between s ceiling t next))

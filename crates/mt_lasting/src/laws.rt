@@ -1,6 +1,8 @@
 //! Laws of maps and changes. Each is the contract of a function that does nothing.
 
-ghost use Rattle.mt_lasting.specs.Laws.{ArePlacesKept, ChangesAreChanges, ChangesAreShort, ChangesLeadOn, EmptyWhereEqual, KeptFactsHold, KeysAreRead, MapsAreMaps, MapsAreReadBack, MapsAreShort, SameValuesAreEqual};
+ghost use Rattle.mt_lasting.specs.Laws.{ArePlacesKept, ChangesAreChanges, ChangesAreSaid, ChangesAreShort, ChangesLeadOn, EmptyWhereEqual, KeptFactsHold, KeysAreRead, MapsAreMaps, MapsAreReadBack, MapsAreShort, MapsHaveImages, SameValuesAreEqual};
+
+use mt_tlv::narrow_is_element;
 
 /// Each key is read as itself.
 pub fn keys_are_read()
@@ -41,3 +43,15 @@ pub fn maps_and_changes_are_short()
     ensures maps { MapsAreShort }
     ensures changes { ChangesAreShort }
 {}
+
+/// The map of a valid state has an image, and a change to a valid state is one as bytes: what stands in them may stand in an
+/// element.
+pub fn maps_and_changes_are_elements()
+    ensures maps { MapsHaveImages }
+    ensures changes { ChangesAreSaid }
+{
+    narrow_is_element();
+    maps_are_maps();
+    changes_lead_on();
+    maps_and_changes_are_short();
+}

@@ -19,7 +19,7 @@ mod values;
 pub use changes::change_between;
 pub use contents::durable_of;
 pub use laws::{
-    changes_lead_on, keys_are_read, maps_and_changes_are_short, maps_are_maps, maps_are_read_back,
-    places_are_those_kept, same_values_are_equal,
+    changes_lead_on, keys_are_read, maps_and_changes_are_elements, maps_and_changes_are_short,
+    maps_are_maps, maps_are_read_back, places_are_those_kept, same_values_are_equal,
 };
 pub use steps::change_by_steps;
