@@ -37,7 +37,7 @@ use Rattle.mt_regained.proofs.RowsWith.{absent, kept_there}
 use Rattle.mt_regained.proofs.Standing.{all_differ, exact_at, key_at}
 use Rattle.mt_regained.proofs.Steps.{Numbers, is_sound, row_stands, rows_found, rows_of}
 
-flat-same : {X Y : Type 0} (f g : X → List Y) (xs : List X) → Each (λ x. f x ≡ g x) xs → flat_map f xs ≡ flat_map g xs
+pub flat-same : {X Y : Type 0} (f g : X → List Y) (xs : List X) → Each (λ x. f x ≡ g x) xs → flat_map f xs ≡ flat_map g xs
 flat-same f g [] each = refl
 flat-same f g (x ∷ xs) each = λ i. each.0 i ++ flat-same f g xs each.1 i
 
@@ -111,7 +111,7 @@ module _ (map : List Entry) (kept : MapContents) (is : IsKeptIn map kept) where
       ∙ sym (rows_are map kept is)
 
   pub numbers : Numbers kept
-  numbers = (lists map kept is).numbers (record { boot = refl; failsafe = refl })
+  numbers = (lists map kept is).numbers (record { boot = refl; ceiling = refl; failsafe = refl })
 
   pub kept_again : kept_of (state_of kept) (ceiling_of kept) ≡ kept
   kept_again =

@@ -36,7 +36,7 @@ stays_other added fabric one other its = ap (stays added) (eqb-true one fabric i
 
 -- Nobody's rows stay: no fabric has the index 0.
 
-none_below : (index least : ℕ) (fabrics : List Fabric) → index ≤ least → rise_above least fabrics ≡ true → table.is_used index fabrics ≡ true → ⊥
+pub none_below : (index least : ℕ) (fabrics : List Fabric) → index ≤ least → rise_above least fabrics ≡ true → table.is_used index fabrics ≡ true → ⊥
 none_below index least [] lower up used = absurd cc
 none_below index least (fabric ∷ fabrics) lower up used =
     let both = and_parts (nat_lt least fabric.index) (rise_above fabric.index fabrics) up in

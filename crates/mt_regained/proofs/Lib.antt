@@ -2,8 +2,10 @@ pub mod Again
 pub mod Armed
 pub mod BehindRollbacks
 pub mod Durable
+pub mod DurableAgain
 pub mod FirstBoot
 pub mod Fold
+pub mod GoesOn
 pub mod KeyBytes
 pub mod KeyFacts
 pub mod Lists
@@ -15,6 +17,7 @@ pub mod Read
 pub mod Regaining
 pub mod Rises
 pub mod Rows
+pub mod RowsUnder
 pub mod RowsWith
 pub mod Standing
 pub mod Steps

@@ -27,10 +27,10 @@ behind : (armed : Option Armed) (s : NodeState) → s.armed ≡ armed → (rolle
 behind None s is = is
 behind (Some armed) s is = refl
 
-none_armed : (s : NodeState) → (rollback s).armed ≡ None
+pub none_armed : (s : NodeState) → (rollback s).armed ≡ None
 none_armed s = behind s.armed s refl
 
-none_regained : (s : NodeState) (ceiling : ℕ) → s.armed ≡ None → (state_of (kept_of s ceiling)).armed ≡ None
+pub none_regained : (s : NodeState) (ceiling : ℕ) → s.armed ≡ None → (state_of (kept_of s ceiling)).armed ≡ None
 none_regained s ceiling none = ap (λ (armed : Option Armed). option_map (with_given_root (kept_of s ceiling)) (option_map kept_failsafe armed)) none
 
 pub unarmed_stays : (s : NodeState) → s.armed ≡ None → rollback s ≡ s

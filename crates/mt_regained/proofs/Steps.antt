@@ -111,6 +111,7 @@ pub record Stand (value : Option Value) (key : Key) : Type 0 where
 -- numbers that are kept have room
 pub record Numbers (kept : MapContents) : Type 0 where
   pub boot : nat_le (unwrap_or kept.boot 0) (2 ^ 31) ≡ true
+  pub ceiling : nat_le (unwrap_or kept.ceiling 0) (2 ^ 62) ≡ true
   pub failsafe : IsPlain kept.failsafe
 
 pub record Added (kept next : MapContents) (value : Option Value) (key : Key) : Type 0 where
@@ -144,27 +145,27 @@ same_lists kept key next value rows entries fabrics numbers no_rows no_entries n
 boot_step : (kept next : MapContents) (value : Value) (read : Option ℕ) → ((n : ℕ) → read ≡ Some n → nat_le n greatest_boot ≡ true) → with_boot kept read ≡ Some next → Outcome kept next (Some value) keys.Boot
 boot_step kept next value None fits is = no_value next is
 boot_step kept next value (Some boot) fits is = subst (λ (k : MapContents). Outcome kept k (Some value) keys.Boot) (some_same (record kept { boot = Some boot }) next is)
-    (same_lists kept keys.Boot (record kept { boot = Some boot }) value refl refl refl (λ numbers. record { boot = fits boot refl; failsafe = numbers.failsafe }) refl refl refl)
+    (same_lists kept keys.Boot (record kept { boot = Some boot }) value refl refl refl (λ numbers. record { boot = fits boot refl; ceiling = numbers.ceiling; failsafe = numbers.failsafe }) refl refl refl)
 
-ceiling_step : (kept next : MapContents) (value : Value) (read : Option ℕ) → with_ceiling kept read ≡ Some next → Outcome kept next (Some value) keys.Ceiling
-ceiling_step kept next value None is = no_value next is
-ceiling_step kept next value (Some ceiling) is = subst (λ (k : MapContents). Outcome kept k (Some value) keys.Ceiling) (some_same (record kept { ceiling = Some ceiling }) next is)
-    (same_lists kept keys.Ceiling (record kept { ceiling = Some ceiling }) value refl refl refl (λ numbers. record { boot = numbers.boot; failsafe = numbers.failsafe }) refl refl refl)
+ceiling_step : (kept next : MapContents) (value : Value) (read : Option ℕ) → ((n : ℕ) → read ≡ Some n → nat_le n greatest_ceiling ≡ true) → with_ceiling kept read ≡ Some next → Outcome kept next (Some value) keys.Ceiling
+ceiling_step kept next value None fits is = no_value next is
+ceiling_step kept next value (Some ceiling) fits is = subst (λ (k : MapContents). Outcome kept k (Some value) keys.Ceiling) (some_same (record kept { ceiling = Some ceiling }) next is)
+    (same_lists kept keys.Ceiling (record kept { ceiling = Some ceiling }) value refl refl refl (λ numbers. record { boot = numbers.boot; ceiling = fits ceiling refl; failsafe = numbers.failsafe }) refl refl refl)
 
 roots_step : (kept next : MapContents) (value : Value) (read : Option (List (List ℕ))) → with_roots kept read ≡ Some next → Outcome kept next (Some value) keys.Roots
 roots_step kept next value None is = no_value next is
 roots_step kept next value (Some roots) is = subst (λ (k : MapContents). Outcome kept k (Some value) keys.Roots) (some_same (record kept { roots = roots }) next is)
-    (same_lists kept keys.Roots (record kept { roots = roots }) value refl refl refl (λ numbers. record { boot = numbers.boot; failsafe = numbers.failsafe }) refl refl refl)
+    (same_lists kept keys.Roots (record kept { roots = roots }) value refl refl refl (λ numbers. record { boot = numbers.boot; ceiling = numbers.ceiling; failsafe = numbers.failsafe }) refl refl refl)
 
 networks_step : (kept next : MapContents) (value : Value) (read : Option (List Network)) → with_networks kept read ≡ Some next → Outcome kept next (Some value) keys.Networks
 networks_step kept next value None is = no_value next is
 networks_step kept next value (Some networks) is = subst (λ (k : MapContents). Outcome kept k (Some value) keys.Networks) (some_same (record kept { networks = networks }) next is)
-    (same_lists kept keys.Networks (record kept { networks = networks }) value refl refl refl (λ numbers. record { boot = numbers.boot; failsafe = numbers.failsafe }) refl refl refl)
+    (same_lists kept keys.Networks (record kept { networks = networks }) value refl refl refl (λ numbers. record { boot = numbers.boot; ceiling = numbers.ceiling; failsafe = numbers.failsafe }) refl refl refl)
 
 failsafe_step : (kept next : MapContents) (value : Value) (read : Option Armed) → ((armed : Armed) → read ≡ Some armed → IsPlain (Some armed)) → with_failsafe kept read ≡ Some next → Outcome kept next (Some value) keys.Failsafe
 failsafe_step kept next value None plain is = no_value next is
 failsafe_step kept next value (Some armed) plain is = subst (λ (k : MapContents). Outcome kept k (Some value) keys.Failsafe) (some_same (record kept { failsafe = Some armed }) next is)
-    (same_lists kept keys.Failsafe (record kept { failsafe = Some armed }) value refl refl refl (λ numbers. record { boot = numbers.boot; failsafe = plain armed refl }) refl refl refl)
+    (same_lists kept keys.Failsafe (record kept { failsafe = Some armed }) value refl refl refl (λ numbers. record { boot = numbers.boot; ceiling = numbers.ceiling; failsafe = plain armed refl }) refl refl refl)
 
 fabric_step : (index : ℕ) (kept next : MapContents) (value : Value) (read : Option Fabric) → fabric_in index (tree value) ≡ read → with_fabric kept read ≡ Some next → Outcome kept next (Some value) (keys.Fabric index)
 fabric_step index kept next value None its is = no_value next is
@@ -173,7 +174,7 @@ fabric_step index kept next value (Some fabric) its is = subst (λ (k : MapConte
     rows = sym (append-nil kept.rows);
     entries = sym (append-nil kept.entries);
     fabrics = ap (λ (o : Option Fabric). kept.fabrics ++ one_or_none o) (sym its);
-    numbers = λ numbers. record { boot = numbers.boot; failsafe = numbers.failsafe };
+    numbers = λ numbers. record { boot = numbers.boot; ceiling = numbers.ceiling; failsafe = numbers.failsafe };
   },
   record {
     rows = refl;
@@ -205,7 +206,7 @@ single_step place facts kept next value is = elim (cases_Bool (may_stand place v
           rows = refl;
           entries = sym (append-nil kept.entries);
           fabrics = sym (append-nil kept.fabrics);
-          numbers = λ numbers. record { boot = numbers.boot; failsafe = numbers.failsafe };
+          numbers = λ numbers. record { boot = numbers.boot; ceiling = numbers.ceiling; failsafe = numbers.failsafe };
         },
         record {
           rows = and_from _ _ (and_from _ _ here (and_from _ _ sound not_first)) refl;
@@ -250,7 +251,7 @@ module _ (fabric : ℕ) (index : is_index fabric ≡ true) (place : Place) (fact
             rows = ap (λ (l : List Row). kept.rows ++ l) (sym all);
             entries = sym (append-nil kept.entries) ∙ ap (λ (l : List AclEntry). kept.entries ++ l) (sym none);
             fabrics = sym (append-nil kept.fabrics);
-            numbers = λ numbers. record { boot = numbers.boot; failsafe = numbers.failsafe };
+            numbers = λ numbers. record { boot = numbers.boot; ceiling = numbers.ceiling; failsafe = numbers.failsafe };
           },
           record {
             rows = ap (list_all (row_stands here)) all ∙ stand;
@@ -270,7 +271,7 @@ module _ (fabric : ℕ) (index : is_index fabric ≡ true) (place : Place) (fact
             rows = sym (append-nil kept.rows) ∙ ap (λ (l : List Row). kept.rows ++ l) (sym none);
             entries = ap (λ (l : List AclEntry). kept.entries ++ l) (sym all);
             fabrics = sym (append-nil kept.fabrics);
-            numbers = λ numbers. record { boot = numbers.boot; failsafe = numbers.failsafe };
+            numbers = λ numbers. record { boot = numbers.boot; ceiling = numbers.ceiling; failsafe = numbers.failsafe };
           },
           record {
             rows = ap (list_all (row_stands here)) none;
@@ -290,7 +291,7 @@ module _ (fabric : ℕ) (index : is_index fabric ≡ true) (place : Place) (fact
 
 pub value_step : (kept next : MapContents) (value : Value) (key : Key) → KeyFacts key → with_value kept value key ≡ Some next → Added kept next (Some value) key × Stand (Some value) key
 value_step kept next value keys.Boot facts is = boot_step kept next value (number_in greatest_boot (tree value)) (λ n its. number_fits greatest_boot (tree value) n its) is
-value_step kept next value keys.Ceiling facts is = ceiling_step kept next value (number_in greatest_ceiling (tree value)) is
+value_step kept next value keys.Ceiling facts is = ceiling_step kept next value (number_in greatest_ceiling (tree value)) (λ n its. number_fits greatest_ceiling (tree value) n its) is
 value_step kept next value (keys.Single place) facts is = single_step place facts kept next value is
 value_step kept next value (keys.Items fabric place) facts is = items_step fabric facts.0 place facts.1 kept next value is
 value_step kept next value (keys.Fabric index) facts is = fabric_step index kept next value (fabric_in index (tree value)) refl is

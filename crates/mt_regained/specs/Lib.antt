@@ -1,4 +1,5 @@
 pub mod Begun
 pub mod Laws
 pub mod Regained
+pub mod Reopened
 pub mod Rolled

@@ -1,5 +1,6 @@
 //! Laws of states that are regained from a map. Each is the contract of a function that does nothing.
 
+ghost use Rattle.mt_regained.specs.Reopened.{GoesOnAgain};
 ghost use Rattle.mt_regained.specs.Laws.{BeginsValid, DurableIsKept, FirstBoots, KeepsOtherKeys, KeptAgain, RolledTwice, StatesAreRegained, StatesAreValid};
 
 use mt_lasting::{maps_are_maps, maps_are_read_back};
@@ -42,5 +43,17 @@ pub fn boots_begin_valid()
     states_are_valid();
     states_are_regained();
     durable_maps_are_kept();
+    expiries_spare_others();
+}
+
+/// A node that is reopened with the map with which it goes on goes on with the same: what is rolled back stays so, and a loss of
+/// power before the first commit changes nothing.
+pub fn maps_go_on_again()
+    ensures { GoesOnAgain }
+{
+    states_are_valid();
+    states_are_regained();
+    durable_maps_are_kept();
+    expiries_roll_back();
     expiries_spare_others();
 }

@@ -2,7 +2,7 @@
 //!
 //! - `regained`: the state of a map, `kept_rows`: its rows, `bytes`: of what its keys are;
 //! - `opening`: the state in which a boot begins;
-//! - `rolled`: the map without what was done under a fail-safe that was armed;
+//! - `rolled`: the map without what was done under a fail-safe that was armed, `reopened`: that with which a node goes on;
 //! - `laws`: what holds of them.
 #![tactic(auto)]
 
@@ -11,11 +11,14 @@ mod kept_rows;
 mod laws;
 mod opening;
 mod regained;
+mod reopened;
 mod rolled;
 
 pub use laws::{
-    boots_begin_valid, durable_maps_are_kept, rollbacks_are_the_last_word, states_are_regained,
+    boots_begin_valid, durable_maps_are_kept, maps_go_on_again, rollbacks_are_the_last_word,
+    states_are_regained,
 };
 pub use opening::next_boot;
 pub use regained::state_from;
+pub use reopened::reopened_map;
 pub use rolled::rolled_map;

@@ -20,8 +20,8 @@ use mt_subs::Changes;
 use mt_tlv::Bytes;
 use std::alloc::{AllocError, Global};
 
-// A boot of a new node with this configuration.
-fn opened(alloc: Global, boot: u32, config: &Config) -> Result<NodeState, AllocError>
+/// A boot of a new node with this configuration.
+pub(crate) fn opened(alloc: Global, boot: u32, config: &Config) -> Result<NodeState, AllocError>
     ensures { IfOk result (λ state. state ≡ opened_with boot config.now.fabrics config.now.entries config.now.sessions) }
 {
     let fabrics = config.fabrics.as_slice();
