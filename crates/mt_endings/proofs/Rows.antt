@@ -16,7 +16,7 @@ use Rattle.mt_config.specs.declared.configuration.ConfigField.TheVariants.{Size}
 use Rattle.mt_files.specs.declared.line_fault.LineFault.{LineFault}
 use Rattle.mt_files.specs.declared.line_fault.LineFault.TheVariants as lines
 use Rattle.mt_endings.specs.declared.fault.Fault.{Fault}
-use Rattle.mt_endings.specs.declared.fault.Fault.TheVariants.{BadWords, BadConfig, BadRecord, ReadFault, WriteFault, Memory, TooLong, Differ, Unbuilt}
+use Rattle.mt_endings.specs.declared.fault.Fault.TheVariants.{BadWords, BadConfig, BadRecord, ReadFault, WriteFault, Memory, DiskFault, NotAJournal, TooLong, Differ, Unbuilt}
 use Rattle.mt_endings.specs.Faults.{fault_line, fault_of, status_of}
 use Rattle.mt_endings.specs.Endings.{Ending, Played, Recordings, all_text, configured, exit_status, in_hand_of, last_line, nothing_but, of_files, of_none, of_recording, of_recordings, recorded, recorded_both, recorded_second, without_recording}
 use Rattle.mt_endings.specs.Moments.{Input, in_hand, Moment, moment, AreCalm, AreSourcesCalm, HasSinkFailed, IsLeft, IsSinkCalm, HasRead, to_end, too_many, HasReadIf, Reads}
@@ -171,6 +171,24 @@ is_no_write_fault fault quiet is = let h : is_write_fault WriteFault ≡ false =
 wants_memory : (fault : Fault) → wants_no_memory fault ≡ false → fault ≢ WriteFault
 wants_memory fault wants is = let h : wants_no_memory WriteFault ≡ false = subst (λ f. wants_no_memory f ≡ false) is wants in absurd (cc)
 
+-- What stops configuring, recording and playing is no disk that failed.
+
+no_disk_in_configuring : (fault : Fault) (old now : Input) → StopsConfiguring fault old now → fault ≢ DiskFault
+no_disk_in_configuring fault old now h is = subst (λ (f : Fault). StopsConfiguring f old now) is h
+
+no_refusal : (refused : LineFault) → fault_of refused ≢ DiskFault
+no_refusal (lines.Line line kind) is = cc
+no_refusal lines.TooLong is = cc
+no_refusal lines.Memory is = cc
+
+no_disk_in_recording : (fault : Fault) (old now : Input) → StopsRecording fault old now → fault ≢ DiskFault
+no_disk_in_recording fault old now h is =
+    let refused = subst (λ (f : Fault). StopsRecording f old now) is h in
+    no_refusal refused.0 (sym refused.1)
+
+no_disk_in_playing : (fault : Fault) (all : Played) (before after : Option (List ℕ)) (old now : ℕ) → StopsPlaying fault all before after old now → fault ≢ DiskFault
+no_disk_in_playing fault all before after old now h is = subst (λ (f : Fault). StopsPlaying f all before after old now) is h
+
 -- By the laws on what is written.
 module _ (laws : StreamLaws) where
   -- nothing was written before the line
@@ -225,6 +243,8 @@ module _ (laws : StreamLaws) where
   calm_of ReadFault old mid wants h = absurd (cc)
   calm_of WriteFault old mid wants h = absurd (cc)
   calm_of Memory old mid wants h = h
+  calm_of DiskFault old mid wants h = absurd (cc)
+  calm_of (NotAJournal place) old mid wants h = h
   calm_of TooLong old mid wants h = h
   calm_of Differ old mid wants h = h
   calm_of (Unbuilt line) old mid wants h = h
@@ -236,6 +256,8 @@ module _ (laws : StreamLaws) where
   sink_of ReadFault old mid not h = h
   sink_of WriteFault old mid not h = absurd (not refl)
   sink_of Memory old mid not h = h.sink
+  sink_of DiskFault old mid not h = h.sink
+  sink_of (NotAJournal place) old mid not h = h.sink
   sink_of TooLong old mid not h = h.sink
   sink_of Differ old mid not h = h.sink
   sink_of (Unbuilt line) old mid not h = h.sink
@@ -247,6 +269,8 @@ module _ (laws : StreamLaws) where
   stops_calmly ReadFault old mid sources sink = sink refl
   stops_calmly WriteFault old mid sources sink = sources refl
   stops_calmly Memory old mid sources sink = record { sources = sources refl; sink = sink refl }
+  stops_calmly DiskFault old mid sources sink = record { sources = sources refl; sink = sink refl }
+  stops_calmly (NotAJournal place) old mid sources sink = record { sources = sources refl; sink = sink refl }
   stops_calmly TooLong old mid sources sink = record { sources = sources refl; sink = sink refl }
   stops_calmly Differ old mid sources sink = record { sources = sources refl; sink = sink refl }
   stops_calmly (Unbuilt line) old mid sources sink = record { sources = sources refl; sink = sink refl }
@@ -329,20 +353,24 @@ module _ (laws : StreamLaws) where
     fronts ReadFault not h = nothing_yet ending old mid.written h.1
     fronts WriteFault not h = absurd (not refl)
     fronts Memory not h = record { config = h.0; recordings = h.1; config_left = h.2; first_left = h.3; second_left = h.4; told = h.5 }
+    fronts DiskFault not h = front_of DiskFault ending old mid (stopped_by DiskFault h)
+    fronts (NotAJournal place) not h = front_of (NotAJournal place) ending old mid (stopped_by (NotAJournal place) h)
     fronts TooLong not h = front_of TooLong ending old mid (stopped_by TooLong h)
     fronts Differ not h = front_of Differ ending old mid (stopped_by Differ h)
     fronts (Unbuilt line) not h = front_of (Unbuilt line) ending old mid (stopped_by (Unbuilt line) h)
 
-    row_told : (fault : Fault) → fault ≢ WriteFault → is_memory fault ≡ false → Stops fault ending old mid → StopsCalmly fault old mid → faults ≡ mid.write_faults → Took mid.written after (fault_line fault) → Ends (status_of fault) (Some ending) old new
-    row_told BadWords not other h calm same t = absurd h
-    row_told (BadConfig field) not other h calm same t = stopped_told (BadConfig field) refl refl (stopped_badly field ending old mid h) calm same t
-    row_told (BadRecord line kind) not other h calm same t = stopped_told (BadRecord line kind) refl refl (stopped_by (BadRecord line kind) h) calm same t
-    row_told ReadFault not other h calm same t = ends_read_fault ending old new (failed_now h.0) (same ∙ calm) (nothing_before old.written mid.written after (fault_line ReadFault) h.1 t)
-    row_told WriteFault not other h calm same t = absurd (not refl)
-    row_told Memory not other h calm same t = absurd (cc)
-    row_told TooLong not other h calm same t = stopped_told TooLong refl refl (stopped_by TooLong h) calm same t
-    row_told Differ not other h calm same t = stopped_told Differ refl refl (stopped_by Differ h) calm same t
-    row_told (Unbuilt line) not other h calm same t = stopped_told (Unbuilt line) refl refl (stopped_by (Unbuilt line) h) calm same t
+    row_told : (fault : Fault) → fault ≢ WriteFault → fault ≢ DiskFault → is_memory fault ≡ false → Stops fault ending old mid → StopsCalmly fault old mid → faults ≡ mid.write_faults → Took mid.written after (fault_line fault) → Ends (status_of fault) (Some ending) old new
+    row_told BadWords not kept other h calm same t = absurd h
+    row_told (BadConfig field) not kept other h calm same t = stopped_told (BadConfig field) refl refl (stopped_badly field ending old mid h) calm same t
+    row_told (BadRecord line kind) not kept other h calm same t = stopped_told (BadRecord line kind) refl refl (stopped_by (BadRecord line kind) h) calm same t
+    row_told ReadFault not kept other h calm same t = ends_read_fault ending old new (failed_now h.0) (same ∙ calm) (nothing_before old.written mid.written after (fault_line ReadFault) h.1 t)
+    row_told WriteFault not kept other h calm same t = absurd (not refl)
+    row_told Memory not kept other h calm same t = absurd (cc)
+    row_told DiskFault not kept other h calm same t = absurd (kept refl)
+    row_told (NotAJournal place) not kept other h calm same t = stopped_told (NotAJournal place) refl refl (stopped_by (NotAJournal place) h) calm same t
+    row_told TooLong not kept other h calm same t = stopped_told TooLong refl refl (stopped_by TooLong h) calm same t
+    row_told Differ not kept other h calm same t = stopped_told Differ refl refl (stopped_by Differ h) calm same t
+    row_told (Unbuilt line) not kept other h calm same t = stopped_told (Unbuilt line) refl refl (stopped_by (Unbuilt line) h) calm same t
 
     row_cut : (fault : Fault) → fault ≢ WriteFault → is_memory fault ≡ false → Stops fault ending old mid → StopsCalmly fault old mid → TookLess mid.written after (fault_line fault) → Cut ending old new
     row_cut BadWords not other h calm t = absurd h
@@ -351,6 +379,8 @@ module _ (laws : StreamLaws) where
     row_cut ReadFault not other h calm t = read_fault_cut (failed_now h.0) (nothing_part old.written mid.written after (fault_line ReadFault) h.1 t)
     row_cut WriteFault not other h calm t = absurd (not refl)
     row_cut Memory not other h calm t = absurd (cc)
+    row_cut DiskFault not other h calm t = stopped_cut DiskFault (stopped_by DiskFault h) calm t
+    row_cut (NotAJournal place) not other h calm t = stopped_cut (NotAJournal place) (stopped_by (NotAJournal place) h) calm t
     row_cut TooLong not other h calm t = stopped_cut TooLong (stopped_by TooLong h) calm t
     row_cut Differ not other h calm t = stopped_cut Differ (stopped_by Differ h) calm t
     row_cut (Unbuilt line) not other h calm t = stopped_cut (Unbuilt line) (stopped_by (Unbuilt line) h) calm t
@@ -359,19 +389,19 @@ module _ (laws : StreamLaws) where
     fails_once : (fault : Fault) → fault ≢ WriteFault → StopsCalmly fault old mid → RoseByOne mid.write_faults faults → HasSinkFailed old new
     fails_once fault not calm rose = subst (λ (before : ℕ). RoseByOne before faults) (sink_of fault old mid not calm) rose
 
-    ends_told_by : (fault : Fault) (status : ℕ) → fault ≢ WriteFault → is_memory fault ≡ false → Stops fault ending old mid → StopsCalmly fault old mid → IsTold fault status mid.written after mid.write_faults faults → Ends status (Some ending) old new
-    ends_told_by fault status not other h calm (whole_line is same t) = rw is (row_told fault not other h calm same t)
-    ends_told_by fault status not other h calm (part_of_line is rose t) = rw is (ends_write_fault (Some ending) old new (fails_once fault not calm rose) (row_cut fault not other h calm t))
+    ends_told_by : (fault : Fault) (status : ℕ) → fault ≢ WriteFault → fault ≢ DiskFault → is_memory fault ≡ false → Stops fault ending old mid → StopsCalmly fault old mid → IsTold fault status mid.written after mid.write_faults faults → Ends status (Some ending) old new
+    ends_told_by fault status not kept other h calm (whole_line is same t) = rw is (row_told fault not kept other h calm same t)
+    ends_told_by fault status not kept other h calm (part_of_line is rose t) = rw is (ends_write_fault (Some ending) old new (fails_once fault not calm rose) (row_cut fault not other h calm t))
 
     -- the sink had failed at the output
     ends_cut : Stops WriteFault ending old mid → StopsCalmly WriteFault old mid → after ≡ mid.written → faults ≡ mid.write_faults → Ends 6 (Some ending) old new
     ends_cut h calm same stays = ends_write_fault (Some ending) old new (subst (λ (count : ℕ). RoseByOne old.write_faults count) (sym stays) h.0)
         (text_cut h.1.0 h.1.1 (reads_now h.1.0 h.1.1 h.1.2) (sources_now calm) (rw same (laws.less_of_more old.written mid.written (text_of (ending h.1.0 h.1.1).lines) (last_line (ending h.1.0 h.1.1).fault) h.1.3)))
 
-    pub ends_by : (fault : Fault) (status : ℕ) → Stops fault ending old mid → StopsCalmly fault old mid → Finishes fault status mid.written after mid.write_faults faults → Ends status (Some ending) old new
-    ends_by fault status h calm (told_line other quiet t) = ends_told_by fault status (is_no_write_fault fault quiet) other h calm t
-    ends_by fault status h calm (no_memory wants is t) = rw is (ends_memory (Some ending) old new (both_parts ending old mid after faults (fronts fault (wants_memory fault wants) h) (calm_of fault old mid wants calm) t))
-    ends_by fault status h calm (no_sink at is same stays) = rw is (ends_cut (subst (λ (f : Fault). Stops f ending old mid) at h) (subst (λ (f : Fault). StopsCalmly f old mid) at calm) same stays)
+    pub ends_by : (fault : Fault) (status : ℕ) → fault ≢ DiskFault → Stops fault ending old mid → StopsCalmly fault old mid → Finishes fault status mid.written after mid.write_faults faults → Ends status (Some ending) old new
+    ends_by fault status kept h calm (told_line other quiet t) = ends_told_by fault status (is_no_write_fault fault quiet) kept other h calm t
+    ends_by fault status kept h calm (no_memory wants is t) = rw is (ends_memory (Some ending) old new (both_parts ending old mid after faults (fronts fault (wants_memory fault wants) h) (calm_of fault old mid wants calm) t))
+    ends_by fault status kept h calm (no_sink at is same stays) = rw is (ends_cut (subst (λ (f : Fault). Stops f ending old mid) at h) (subst (λ (f : Fault). StopsCalmly f old mid) at calm) same stays)
 
   -- Words that have no form, and words that were not looked at.
 
@@ -395,6 +425,8 @@ module _ (laws : StreamLaws) where
   configuring_stops comes_to ReadFault old now first second written faults h = (config_failed h refl refl, laws.nothing written)
   configuring_stops comes_to WriteFault old now first second written faults h = absurd h
   configuring_stops comes_to Memory old now first second written faults h = (left_in old.left, left_in_both first second, IsLeft-left_in old.left, IsLeft-left_in first.left, IsLeft-left_in second.left, ([], (of_files comes_to (left_in old.left) (left_in_both first second)).lines, refl, laws.nothing written))
+  configuring_stops comes_to DiskFault old now first second written faults h = absurd h
+  configuring_stops comes_to (NotAJournal place) old now first second written faults h = absurd h
   configuring_stops comes_to TooLong old now first second written faults h = absurd h
   configuring_stops comes_to Differ old now first second written faults h = absurd h
   configuring_stops comes_to (Unbuilt line) old now first second written faults h = absurd h
@@ -405,7 +437,7 @@ module _ (laws : StreamLaws) where
   unconfigured comes_to fault status old now first second before after old_faults new_faults h calm end =
       let from = moment old first second before old_faults in
       let mid = moment now first second before old_faults in
-      ends_by (of_files comes_to) from mid after new_faults fault status (configuring_stops comes_to fault old now first second before old_faults h)
+      ends_by (of_files comes_to) from mid after new_faults fault status (no_disk_in_configuring fault old now h) (configuring_stops comes_to fault old now first second before old_faults h)
       (stops_calmly fault from mid (λ quiet. record { config = calm quiet; first = refl; second = refl }) (λ other. refl)) end
 
   never_fails_in_hand : RoseByOne 0 0 → ⊥
@@ -534,6 +566,8 @@ module _ (laws : StreamLaws) where
         was_left second second_old second_new h.recordings.second h.second_read,
         subst (λ (e : Ending). TookFirst before after e.lines) (sym h.is) p,
       )
+      stops_in_hand DiskFault p = absurd p
+      stops_in_hand (NotAJournal place) p = whole_in_hand (NotAJournal place) p
       stops_in_hand TooLong p = absurd p
       stops_in_hand Differ p = whole_in_hand Differ p
       stops_in_hand (Unbuilt line) p = whole_in_hand (Unbuilt line) p
@@ -571,13 +605,15 @@ module _ (laws : StreamLaws) where
       stops_recording ReadFault h = (failed h, laws.nothing before)
       stops_recording WriteFault h = stops_by_refusal WriteFault h
       stops_recording Memory h = stops_early
+      stops_recording DiskFault h = stops_by_refusal DiskFault h
+      stops_recording (NotAJournal place) h = stops_by_refusal (NotAJournal place) h
       stops_recording TooLong h = stops_by_refusal TooLong h
       stops_recording Differ h = stops_by_refusal Differ h
       stops_recording (Unbuilt line) h = stops_by_refusal (Unbuilt line) h
 
       ends_unrecorded : (fault : Fault) (status : ℕ) (after : Option (List ℕ)) (new_faults : ℕ) → StopsRecording fault source_old source_new → (is_read_fault fault ≡ false → AreSourcesCalm from_hand mid_hand) → Finishes fault status before after old_faults new_faults
           → Ends status (Some of_hand) from_hand (to_hand after new_faults)
-      ends_unrecorded fault status after new_faults h calm end = ends_by of_hand from_hand mid_hand after new_faults fault status (stops_recording fault h) (stops_calmly fault from_hand mid_hand calm (λ other. refl)) end
+      ends_unrecorded fault status after new_faults h calm end = ends_by of_hand from_hand mid_hand after new_faults fault status (no_disk_in_recording fault source_old source_new h) (stops_recording fault h) (stops_calmly fault from_hand mid_hand calm (λ other. refl)) end
 
     -- What its recordings come to was written, or was not.
     module _ (first second : Bool) (all : Played) (h : Comes first second all) (first_calm : first_new.faults ≡ first_old.faults) (second_calm : second_new.faults ≡ second_old.faults) where
@@ -590,7 +626,7 @@ module _ (laws : StreamLaws) where
           → Ends status (Some of_hand) from_hand (to_hand after new_faults)
       ends_stopped fault status between after faults new_faults p calm end =
           let mid = to_hand between faults in
-          ends_by of_hand from_hand mid after new_faults fault status (stops_in_hand first second all h between faults fault p)
+          ends_by of_hand from_hand mid after new_faults fault status (no_disk_in_playing fault all before between old_faults faults p) (stops_in_hand first second all h between faults fault p)
           (stops_calmly fault from_hand mid (λ quiet. record { config = refl; first = first_calm; second = second_calm }) calm) end
 
   -- One recording, with a configuration in hand. The second is not touched.

@@ -6,7 +6,7 @@ use Rattle.mt_files.specs.Kinds.{kind_name}
 use Rattle.mt_files.specs.declared.line_fault.LineFault.{LineFault}
 use Rattle.mt_files.specs.declared.line_fault.LineFault.TheVariants as lines
 use Rattle.mt_endings.specs.declared.fault.Fault.{Fault}
-use Rattle.mt_endings.specs.declared.fault.Fault.TheVariants.{BadWords, BadConfig, BadRecord, ReadFault, WriteFault, Memory, TooLong, Differ, Unbuilt}
+use Rattle.mt_endings.specs.declared.fault.Fault.TheVariants.{BadWords, BadConfig, BadRecord, ReadFault, WriteFault, Memory, DiskFault, NotAJournal, TooLong, Differ, Unbuilt}
 
 -- what a text comes to that is no recording, or was not read
 abbrev pub fault_of : LineFault → Fault
@@ -21,6 +21,8 @@ status_of (BadRecord line kind) = 4
 status_of ReadFault = 5
 status_of WriteFault = 6
 status_of Memory = 7
+status_of DiskFault = 8
+status_of (NotAJournal place) = 9
 status_of TooLong = 10
 status_of Differ = 11
 status_of (Unbuilt line) = 14
@@ -33,6 +35,8 @@ fault_text (BadRecord line kind) = codes "fault 4 line " ++ (decimal line ++ (co
 fault_text ReadFault = codes "fault 5 read"
 fault_text WriteFault = codes "fault 6 write"
 fault_text Memory = codes "fault 7 memory"
+fault_text DiskFault = codes "fault 8 disk"
+fault_text (NotAJournal place) = codes "fault 9 journal " ++ decimal place
 fault_text TooLong = codes "fault 10 long"
 fault_text Differ = []
 fault_text (Unbuilt line) = codes "fault 14 line " ++ decimal line

@@ -22,6 +22,10 @@ pub enum Fault {
     WriteFault,
     /// There was no memory.
     Memory,
+    /// A call of the disk failed.
+    DiskFault,
+    /// The journal is none from this place of its file on.
+    NotAJournal(u64),
     /// The recording is too long.
     TooLong,
     /// Two recordings differ by what a fabric sees of them. Its lines are written before, and it has no last line.
@@ -53,6 +57,8 @@ impl Fault {
             Fault::ReadFault => 5,
             Fault::WriteFault => 6,
             Fault::Memory => 7,
+            Fault::DiskFault => 8,
+            Fault::NotAJournal(_) => 9,
             Fault::TooLong => 10,
             Fault::Differ => 11,
             Fault::Unbuilt(_) => 14,
@@ -83,6 +89,8 @@ impl fmt::Display for Fault {
             Fault::ReadFault => f.write_str("fault 5 read"),
             Fault::WriteFault => f.write_str("fault 6 write"),
             Fault::Memory => f.write_str("fault 7 memory"),
+            Fault::DiskFault => f.write_str("fault 8 disk"),
+            Fault::NotAJournal(place) => write!(f, "fault 9 journal {place}"),
             Fault::TooLong => f.write_str("fault 10 long"),
             // its lines stand before
             Fault::Differ => Ok(()),

@@ -9,9 +9,9 @@ use crate::fault::Fault;
 use mt_outside::{Sink, write_all};
 use std::alloc::Global;
 
-/// Writes the last line of a run that a fault ended, and gives its exit status. That a source failed, or that there was no
-/// memory, is told without memory; where the output could not be written nothing more is, and where two recordings differ nothing
-/// is left to write.
+/// Writes the last line of a run that a fault ended, and gives its exit status. That a source or the disk failed, or that there
+/// was no memory, is told without memory; where the output could not be written nothing more is, and where two recordings differ
+/// nothing is left to write.
 pub fn finish<W: Sink>(alloc: Global, fault: Fault, out: &mut W) -> u8
     ensures { Finishes fault result (W.written out.old) (W.written out.new) (W.faults out.old) (W.faults out.new) }
 {
@@ -19,6 +19,7 @@ pub fn finish<W: Sink>(alloc: Global, fault: Fault, out: &mut W) -> u8
         Fault::WriteFault => 6,
         Fault::Differ => 11,
         Fault::ReadFault => tell(fault, b"fault 5 read\n", out),
+        Fault::DiskFault => tell(fault, b"fault 8 disk\n", out),
         Fault::Memory => tell_memory(out),
         _ => match fault.line(alloc) {
             Ok(line) => tell(fault, line.as_bytes(), out),

@@ -1,6 +1,7 @@
 //! How the parts of a run make up its end.
 
 ghost use Rattle.mt_endings.specs.Laws.{EndingLaws};
+ghost use Rattle.mt_endings.specs.OnDisk.{DiskEndingLaws};
 
 use mt_outside::writings_add_up;
 
@@ -9,4 +10,11 @@ pub fn endings_add_up()
     ensures { EndingLaws }
 {
     writings_add_up();
+}
+
+/// The same of a run that looks at a journal on a disk, as `EndsOnDisk` has it.
+pub fn endings_on_disk_add_up()
+    ensures { DiskEndingLaws }
+{
+    endings_add_up();
 }

@@ -42,7 +42,7 @@ faults name id ids words = by_stop (walk (shape_with name (id ∷ ids)).rules []
     by_stop (Some met) = refl
 
 -- what its parse tells, where it takes a name for each of these and nothing else
-commanded : (name id : Text) (ids : List Text) → Takes (shape_with name (id ∷ ids)) (id ∷ ids)
+pub commanded : (name id : Text) (ids : List Text) → Takes (shape_with name (id ∷ ids)) (id ∷ ids)
     → (a : App) (words : List (String Global)) (rows : List Row) → a ≡ app_with name (id ∷ ids) → rows ≡ matches_of a (words_of words)
     → Told (id ∷ ids) (exactly (length (id ∷ ids)) (names_of (words_of words))) (fault_of a (words_of words)) rows
 commanded name id ids takes a words rows is found =

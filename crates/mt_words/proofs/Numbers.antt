@@ -1,5 +1,5 @@
 -- Words that are numbers of a range.
-use Rattle.std.proofs.Common.{◌≡◌, ◌≤◌, ◌<◌, ◌^◌, ◌∙◌, ℕ, Bool, true, false, cond, leb, List, Option, Some, None, refl, ap, sym, subst, unwrap_or, decimal, arith}
+use Rattle.std.proofs.Common.{◌≡◌, ◌≤◌, ◌<◌, ◌^◌, ℕ, Bool, true, false, cond, leb, List, Option, Some, None, refl, ap, sym, subst, unwrap_or, decimal, arith}
 use Rattle.std.proofs.lemmas.Bool.{le-leb, leb-true}
 use Rattle.mt_files.specs.Field.{at_least, number_between, number_of, up_to}
 

@@ -26,3 +26,6 @@ soak_app = app_with (codes "soak") (codes "begin" ∷ codes "count" ∷ codes "c
 
 abbrev pub compare_app : App
 compare_app = app_with (codes "compare") (codes "fabric" ∷ codes "config" ∷ codes "first" ∷ codes "second" ∷ [])
+
+abbrev pub settle_app : App
+settle_app = app_with (codes "settle") (codes "config" ∷ codes "journal" ∷ [])

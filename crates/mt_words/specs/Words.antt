@@ -8,7 +8,7 @@ use Rattle.mt_files.specs.Field.{number_between}
 use Rattle.mt_words.specs.declared.asked.Asked.{Asked}
 use Rattle.mt_words.specs.declared.asked.Asked.TheVariants as asks
 use Rattle.mt_words.specs.declared.command.Command.{Command}
-use Rattle.mt_words.specs.declared.command.Command.TheVariants.{Compare, Replay, Soak}
+use Rattle.mt_words.specs.declared.command.Command.TheVariants.{Compare, Replay, Settle, Soak}
 use Rattle.mt_words.specs.declared.files.Files.{Files}
 
 -- Words.
@@ -58,13 +58,15 @@ abbrev pub names_of : List (List ℕ) → Option (List (List ℕ))
 names_of words = option_map (words_at words) (positional_from 1 (drop 1 words))
 
 -- Commands. What stands at the head of each rule below is what the command takes, in this order:
--- `replay CONFIG RECORDING`, `soak BEGIN COUNT CONFIG`, `compare F CONFIG FIRST SECOND`.
+-- `replay CONFIG RECORDING`, `soak BEGIN COUNT CONFIG`, `compare F CONFIG FIRST SECOND`,
+-- `settle CONFIG JOURNAL`.
 
 abbrev pub command_of : List ℕ → Option Command
 command_of word =
     if is_word word (codes "replay") then Some Replay
     else if is_word word (codes "soak") then Some Soak
     else if is_word word (codes "compare") then Some Compare
+    else if is_word word (codes "settle") then Some Settle
     else None
 
 -- Files.
@@ -74,6 +76,7 @@ abbrev pub files_at : Command → List ℕ → Option Files
 files_at Replay (config ∷ recording ∷ []) = Some (record { config = config; first = Some recording; second = None; journal = None; bind = None })
 files_at Soak (begin ∷ count ∷ config ∷ []) = Some (record { config = config; first = None; second = None; journal = None; bind = None })
 files_at Compare (fabric ∷ config ∷ first ∷ second ∷ []) = Some (record { config = config; first = Some first; second = Some second; journal = None; bind = None })
+files_at Settle (config ∷ journal ∷ []) = Some (record { config = config; first = None; second = None; journal = Some journal; bind = None })
 files_at _ places = None
 
 -- the files that the words name, None where they have no form
@@ -106,6 +109,7 @@ abbrev pub asked_by : Command → List (List ℕ) → Option Asked
 asked_by Replay (config ∷ recording ∷ []) = Some asks.Replay
 asked_by Soak (begin ∷ count ∷ config ∷ []) = soak_of (begin_of begin) (count_of count)
 asked_by Compare (fabric ∷ config ∷ first ∷ second ∷ []) = option_map asks.Compare (fabric_of fabric)
+asked_by Settle (config ∷ journal ∷ []) = Some asks.Settle
 asked_by _ words = None
 
 -- what the words ask for, None where they have no form

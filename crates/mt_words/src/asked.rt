@@ -6,7 +6,7 @@ ghost use Rattle.mt_words.specs.Words.{asked, asked_by, begin_of, count_of, fabr
 
 use crate::command::{Command, command_of};
 use crate::number::{begin_of, count_of, fabric_of};
-use crate::parse::{compare_command, parse, replay_command, soak_command};
+use crate::parse::{compare_command, parse, replay_command, settle_command, soak_command};
 use std::alloc::Global;
 
 /// What a command line asks for.
@@ -26,6 +26,8 @@ pub enum Asked {
         /// The fabric, 1 to 254.
         fabric: u8,
     },
+    /// What a journal keeps is written, as the next start takes it up.
+    Settle,
 }
 
 /// Why words ask for nothing.
@@ -50,6 +52,7 @@ pub fn asked_of(alloc: Global, words: &[String]) -> Result<Asked, WordsFault>
         Some(Command::Replay) => replay_asked(alloc, words),
         Some(Command::Soak) => soak_asked(alloc, words),
         Some(Command::Compare) => compare_asked(alloc, words),
+        Some(Command::Settle) => settle_asked(alloc, words),
         None => Err(WordsFault::Bad),
     }
 }
@@ -130,4 +133,20 @@ fn compare(fabric: &str) -> Result<Asked, WordsFault>
         Some(fabric) => Ok(Asked::Compare { fabric }),
         None => Err(WordsFault::Bad),
     }
+}
+
+fn settle_asked(alloc: Global, words: &[String]) -> Result<Asked, WordsFault>
+    ensures ok { IfOk result (λ found. option_and_then (asked_by Command.Settle)
+        (names_of (words_of words.now)) ≡ Some found) }
+    ensures bad { IfErr result (λ fault. fault ≡ WordsFault.Bad
+        → option_and_then (asked_by Command.Settle) (names_of (words_of words.now)) ≡ None) }
+{
+    let Ok(command) = settle_command(alloc) else {
+        return Err(WordsFault::Memory);
+    };
+    match parse(command, words) {
+        Ok(_) => {}
+        Err(fault) => return Err(fault),
+    }
+    Ok(Asked::Settle)
 }

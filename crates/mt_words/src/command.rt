@@ -12,6 +12,8 @@ pub enum Command {
     Soak,
     /// `compare F CONFIG FIRST SECOND`.
     Compare,
+    /// `settle CONFIG JOURNAL`.
+    Settle,
 }
 
 /// The command that a first word names.
@@ -22,6 +24,7 @@ pub fn command_of(word: &str) -> Option<Command>
         "replay" => Some(Command::Replay),
         "soak" => Some(Command::Soak),
         "compare" => Some(Command::Compare),
+        "settle" => Some(Command::Settle),
         _ => None,
     }
 }

@@ -17,6 +17,7 @@ pub struct Files {
     pub first: Option<usize>,
     /// The second recording.
     pub second: Option<usize>,
+    /// The journal.
     pub journal: Option<usize>,
     /// The address at which the node is served.
     pub bind: Option<usize>,
@@ -38,6 +39,7 @@ pub fn files_of(words: &[String]) -> Result<Files, BadWords>
         Some(Command::Replay) => replay_files(others),
         Some(Command::Soak) => soak_files(others),
         Some(Command::Compare) => compare_files(others),
+        Some(Command::Settle) => settle_files(others),
         None => Err(BadWords),
     }
 }
@@ -84,6 +86,22 @@ fn compare_files(words: &[String]) -> Result<Files, BadWords>
             first: Some(places[2]),
             second: Some(places[3]),
             journal: None,
+            bind: None,
+        }),
+        None => Err(BadWords),
+    }
+}
+
+fn settle_files(words: &[String]) -> Result<Files, BadWords>
+    ensures { result_ok result
+        ≡ option_and_then (files_at Command.Settle) (positional_from 1 (words_of words.now)) }
+{
+    match places::<2>(words) {
+        Some(places) => Ok(Files {
+            config: places[0],
+            first: None,
+            second: None,
+            journal: Some(places[1]),
             bind: None,
         }),
         None => Err(BadWords),

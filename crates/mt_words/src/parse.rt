@@ -2,7 +2,7 @@
 
 ghost use Rattle.std.specs.Prelude.{◌≡◌, ◌≢◌, ◌↔◌, [], IfErr, IfOk, false, true};
 ghost use Rattle.clap.specs.Words.{app_of, fault_of, found_of, is_simple_and_free, kind_of, matches_of, rows_of, rule_of};
-ghost use Rattle.mt_words.specs.Parsed.{compare_app, replay_app, required_rule, soak_app};
+ghost use Rattle.mt_words.specs.Parsed.{compare_app, replay_app, required_rule, settle_app, soak_app};
 ghost use Rattle.mt_words.specs.Words.{words_of};
 
 use crate::asked::WordsFault;
@@ -44,6 +44,17 @@ pub fn compare_command<'a>(alloc: Global) -> Result<Command<'a>, AllocError>
         .arg(required(alloc, "config"))?
         .arg(required(alloc, "first"))?
         .arg(required(alloc, "second"))
+}
+
+/// `settle CONFIG JOURNAL`.
+pub fn settle_command<'a>(alloc: Global) -> Result<Command<'a>, AllocError>
+    ensures { IfOk result (λ command. app_of command ≡ settle_app) }
+{
+    Command::new(alloc, "settle")
+        .disable_help_flag(true)
+        .disable_version_flag(true)
+        .arg(required(alloc, "config"))?
+        .arg(required(alloc, "journal"))
 }
 
 // A word that has to be there.
