@@ -3,6 +3,7 @@
 use crate::narrow::NarrowSink;
 use crate::runs::{Endless, output, recording, source, tell_ended, words_of};
 use cases_page::{Page, word};
+use mt_outside::MemDisk;
 use mt_top::run;
 use std::alloc::{AllocError, Global};
 use std::{fs, io};
@@ -35,7 +36,16 @@ fn with_endless(
     let asked = words_of(alloc, word(words, 1))?;
     let mut config = source(alloc, bytes, word(words, 5))?;
     let mut first = recording(alloc, word(words, 3), word(words, 6))?;
-    Ok(run(alloc, &asked, &mut config, &mut first, &mut Endless, out))
+    let mut disk = MemDisk::new(alloc, &[], &[])?;
+    Ok(run(
+        alloc,
+        &asked,
+        &mut config,
+        &mut first,
+        &mut Endless,
+        &mut disk,
+        out,
+    ))
 }
 
 fn with_second(
@@ -48,5 +58,14 @@ fn with_second(
     let mut config = source(alloc, bytes, word(words, 5))?;
     let mut first = recording(alloc, word(words, 3), word(words, 6))?;
     let mut second = recording(alloc, word(words, 4), word(words, 7))?;
-    Ok(run(alloc, &asked, &mut config, &mut first, &mut second, out))
+    let mut disk = MemDisk::new(alloc, &[], &[])?;
+    Ok(run(
+        alloc,
+        &asked,
+        &mut config,
+        &mut first,
+        &mut second,
+        &mut disk,
+        out,
+    ))
 }

@@ -7,7 +7,7 @@ use crate::numbers::numbers;
 use cases_page::{Page, word};
 use mt_files::config as configuration;
 use mt_model::Config;
-use mt_outside::{Failed, MemSink, MemSource, Source};
+use mt_outside::{Failed, MemDisk, MemSink, MemSource, Source};
 use mt_top::{replay_with, run};
 use std::alloc::{AllocError, Global};
 use std::{fs, io};
@@ -96,7 +96,16 @@ fn over_endless(alloc: Global, words: &[&str], out: &mut NarrowSink) -> Result<u
     let asked = words_of(alloc, word(words, 1))?;
     let mut first = recording(alloc, word(words, 3), word(words, 5))?;
     let mut second = MemSource::new(alloc, &[], &[])?;
-    Ok(run(alloc, &asked, &mut Endless, &mut first, &mut second, out))
+    let mut disk = MemDisk::new(alloc, &[], &[])?;
+    Ok(run(
+        alloc,
+        &asked,
+        &mut Endless,
+        &mut first,
+        &mut second,
+        &mut disk,
+        out,
+    ))
 }
 
 fn with_words(
@@ -109,7 +118,16 @@ fn with_words(
     let mut config = source(alloc, bytes, word(words, 4))?;
     let mut first = recording(alloc, word(words, 3), word(words, 5))?;
     let mut second = MemSource::new(alloc, &[], &[])?;
-    Ok(run(alloc, &asked, &mut config, &mut first, &mut second, out))
+    let mut disk = MemDisk::new(alloc, &[], &[])?;
+    Ok(run(
+        alloc,
+        &asked,
+        &mut config,
+        &mut first,
+        &mut second,
+        &mut disk,
+        out,
+    ))
 }
 
 /// The source of these bytes.

@@ -1,7 +1,7 @@
 //! The program: opens the files that the words name, and hands them to the top call.
 #![tactic(auto)]
 
-use mt_os::{ReaderSource, TerminalProgress, WriterSink};
+use mt_os::{FileDisk, ReaderSource, TerminalProgress, WriterSink};
 use mt_top::{files_of, run_watched};
 use std::fs::File;
 use std::process::ExitCode;
@@ -20,13 +20,14 @@ fn main(rt: HostRuntime) -> ExitCode {
         // A word that is not UTF-8 is in no command, and neither is no word at all.
         Err(_) => Vec::new(rt.alloc()),
     };
-    let (config, first, second) = match files_of(&words) {
-        Ok(files) => (Some(files.config), files.first, files.second),
-        Err(_) => (None, None, None),
+    let (config, first, second, journal) = match files_of(&words) {
+        Ok(files) => (Some(files.config), files.first, files.second, files.journal),
+        Err(_) => (None, None, None, None),
     };
     let mut config = ReaderSource::new(named(&rt, &words, config));
     let mut first = ReaderSource::new(named(&rt, &words, first));
     let mut second = ReaderSource::new(named(&rt, &words, second));
+    let mut disk = disk_named(&rt, &words, journal);
     let mut out = WriterSink::new(io::writer(&rt));
     let mut terminal = TerminalProgress::new(&rt);
     ExitCode::from(run_watched(
@@ -35,6 +36,7 @@ fn main(rt: HostRuntime) -> ExitCode {
         &mut config,
         &mut first,
         &mut second,
+        &mut disk,
         &mut out,
         &mut terminal,
     ))
@@ -44,6 +46,19 @@ fn main(rt: HostRuntime) -> ExitCode {
 fn named(rt: &HostRuntime, words: &[String], place: Option<usize>) -> Option<File> {
     let name = words.get(place?)?;
     File::open(rt, name.as_str()).ok()
+}
+
+// The disk over the file that the word at this place names, which is made where it is missing. Where no word names one, every call
+// of the disk fails.
+fn disk_named(rt: &HostRuntime, words: &[String], place: Option<usize>) -> FileDisk {
+    let word = match place {
+        Some(place) => words.get(place),
+        None => None,
+    };
+    match word {
+        Some(name) => FileDisk::open(rt, name.as_str()),
+        None => FileDisk::new(None),
+    }
 }
 
 // The words of the command line behind the program's name.

@@ -1,3 +1,4 @@
+pub mod Asks
 pub mod Compared
 pub mod Faults
 pub mod Isolated

@@ -7,7 +7,7 @@ use Rattle.mt_words.specs.Words.{asked, asked_by, begin_of, command_of, count_of
 use Rattle.mt_words.specs.declared.asked.Asked.{Asked}
 use Rattle.mt_words.specs.declared.asked.Asked.TheVariants as asks
 use Rattle.mt_words.specs.declared.command.Command.{Command}
-use Rattle.mt_words.specs.declared.command.Command.TheVariants.{Compare, Replay, Soak}
+use Rattle.mt_words.specs.declared.command.Command.TheVariants.{Compare, Replay, Settle, Soak}
 use Rattle.mt_top.specs.Asked.{is_within}
 
 -- whatever is wanted is within
@@ -60,6 +60,10 @@ by_within Soak (a ∷ []) = tt
 by_within Soak (a ∷ b ∷ []) = tt
 by_within Soak (a ∷ b ∷ c ∷ []) = soak_within (begin_of a) b
 by_within Soak (a ∷ b ∷ c ∷ d ∷ others) = tt
+by_within Settle [] = tt
+by_within Settle (a ∷ []) = tt
+by_within Settle (a ∷ b ∷ []) = refl
+by_within Settle (a ∷ b ∷ c ∷ others) = tt
 
 then_within : {X : Type 0} (found : X → Option Asked) (o : Option X) → ((x : X) → Within (found x)) → Within (option_and_then found o)
 unfolding Within

@@ -1,5 +1,5 @@
 -- What the words ask for comes to, by what the files hold.
-use Rattle.std.specs.Prelude.{ℕ, ◌+◌, nat_le, Bool, true, List, [], ◌∷◌, Option, Some, None, if◌then◌else◌, length, map}
+use Rattle.std.specs.Prelude.{◌≡◌, ℕ, ◌+◌, nat_le, Bool, true, false, List, [], ◌∷◌, Option, Some, None, if◌then◌else◌, length, map}
 use Rattle.std.specs.Option.{option_map}
 use Rattle.mt_files.specs.Output.{sent_line}
 use Rattle.mt_model.specs.declared.texts.recording.Event.{Event}
@@ -10,10 +10,14 @@ use Rattle.mt_soak.specs.Generated.{generated}
 use Rattle.mt_soak.specs.Summary.{summary_lines}
 use Rattle.mt_words.specs.Words.{asked}
 use Rattle.mt_words.specs.declared.asked.Asked.{Asked}
-use Rattle.mt_words.specs.declared.asked.Asked.TheVariants.{Compare, Replay, Soak}
+use Rattle.mt_words.specs.declared.asked.Asked.TheVariants.{Compare, Replay, Settle, Soak}
 use Rattle.mt_marks.specs.differences.Difference.{Difference, difference}
 use Rattle.mt_compare.specs.Text.{comparison_lines}
-use Rattle.mt_endings.specs.Endings.{Ending, Played, Recordings, nothing_but, of_files, of_none, of_recording, of_recordings}
+use Rattle.mt_settle.specs.Settled.{settled}
+use Rattle.mt_endings.specs.Endings.{Ending, Played, Recordings, in_hand_of, nothing_but, of_files, of_none, of_recording, of_recordings}
+use Rattle.mt_endings.specs.Moments.{Input, Moment}
+use Rattle.mt_endings.specs.OnDisk.{Asks, EndsInHand, of_files_alone, of_journal}
+use Rattle.mt_endings.specs.Run.{Ends}
 use Rattle.mt_endings.specs.declared.fault.Fault.{Fault}
 use Rattle.mt_endings.specs.declared.fault.Fault.TheVariants.{Differ, Unbuilt}
 use Rattle.mt_top.specs.Begun.{Begun, begun_with}
@@ -65,18 +69,39 @@ compared_by fabric begun first second = if_built (unbuilt_from 2 first) (unbuilt
 abbrev pub compared : ℕ → Contents → Recordings → Ending
 compared fabric contents = of_recordings (compared_by fabric (begun_with contents))
 
--- What is asked for comes to this, with what the configuration says, by the bytes of the recordings.
-abbrev pub comes_to : Asked → Contents → Recordings → Ending
-comes_to Replay = replayed
-comes_to (Compare fabric) = compared fabric
-comes_to (Soak begin count) = soaked begin count
+-- SETTLE: a line for each key of the map with which a node goes on, behind a journal.
+
+abbrev pub settles : List ℕ → Contents → Recordings → Ending
+settles journal contents = of_none (settled contents journal)
+
+-- What is asked for comes to this, by the bytes of a journal, with what the configuration says, and by the bytes of the recordings.
+abbrev pub comes_to : Asked → List ℕ → Contents → Recordings → Ending
+comes_to Replay journal = replayed
+comes_to (Compare fabric) journal = compared fabric
+comes_to (Soak begin count) journal = soaked begin count
+comes_to Settle journal = settles journal
+
+-- whether the journal is looked at
+abbrev pub reads_journal : Asked → Bool
+reads_journal Settle = true
+reads_journal wanted = false
 
 -- how many events may be asked for
 abbrev pub is_within : Asked → Bool
 is_within Replay = true
 is_within (Compare fabric) = true
 is_within (Soak begin count) = nat_le count 100000
+is_within Settle = true
 
--- what the words come to, by the bytes of the files; None where they have no form
-abbrev pub asked_of : List (List ℕ) → Option (List ℕ → Recordings → Ending)
-asked_of words = option_map (λ (wanted : Asked). of_files (comes_to wanted)) (asked words)
+-- what is asked for, by the bytes of the files
+abbrev pub asks_for : Asked → Asks
+asks_for wanted = if reads_journal wanted then of_journal (λ (journal : List ℕ). of_files (comes_to wanted journal)) else of_files_alone (of_files (comes_to wanted []))
+
+-- what the words ask for; None where they have no form
+abbrev pub asked_of : List (List ℕ) → Option Asks
+asked_of words = option_map asks_for (asked words)
+
+-- How what is asked for ends with a configuration in hand. Where the journal is looked at, no recording is.
+abbrev pub CarriesOut : ℕ → Asked → Contents → Input → Input → Moment → Moment → Type 0
+CarriesOut status Settle contents before after old new = EndsInHand status (λ (journal : List ℕ). settles journal contents) before after old new × (new.first ≡ old.first) × (new.second ≡ old.second)
+CarriesOut status wanted contents before after old new = Ends status (Some (in_hand_of (comes_to wanted [] contents))) old new × (after ≡ before)

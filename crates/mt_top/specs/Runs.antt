@@ -1,7 +1,7 @@
 -- What is promised of a run of the program, watched or not.
 use Rattle.std.specs.Prelude.{ℕ, List}
-use Rattle.mt_endings.specs.Moments.{Moment}
-use Rattle.mt_endings.specs.Run.{Ends}
+use Rattle.mt_endings.specs.Moments.{Input, Moment}
+use Rattle.mt_endings.specs.OnDisk.{EndsAs}
 use Rattle.mt_runs.specs.Expiries.{ExpiriesAreRollbacks}
 use Rattle.mt_runs.specs.Replies.{RepliesAreExact}
 use Rattle.mt_top.specs.Asked.{asked_of}
@@ -9,10 +9,10 @@ use Rattle.mt_top.specs.Compared.{ComparisonsAreExact}
 use Rattle.mt_top.specs.Denials.{DenialsAreExact}
 use Rattle.mt_top.specs.Isolated.{RunsAreIsolated}
 
--- These words were asked for, and this was the status.
-pub record IsRun (words : List (List ℕ)) (status : ℕ) (before after : Moment) : Type 0 where
-  -- it ends as what is asked for ends
-  pub ends : Ends status (asked_of words) before after
+-- These words were asked for, and this was the status. The disk, and the sources and the sink, are told as they were before and after.
+pub record IsRun (words : List (List ℕ)) (status : ℕ) (disk_before disk_after : Input) (before after : Moment) : Type 0 where
+  -- it ends as what is asked for ends; where that looks at no journal, the disk is as it was
+  pub ends : EndsAs status (asked_of words) disk_before disk_after before after
   -- what each fabric is sent of any run is determined by its own part and its marks
   pub isolated : RunsAreIsolated
   -- access is denied exactly where no entry grants it

@@ -7,7 +7,7 @@ use crate::data::{repeated, text_of};
 use crate::rates::{a_second, since};
 use crate::sealed;
 use mt_files::config as configuration;
-use mt_outside::{Failed, MemSource, Sink};
+use mt_outside::{Failed, MemDisk, MemSource, Sink};
 use mt_top::{replay_with, run};
 use std::alloc::{AllocError, Global};
 use std::io::{self, Write};
@@ -137,6 +137,7 @@ fn compare(rt: &HostRuntime, row: &str, requests: u64, timed: bool) -> io::Resul
     let mut config = MemSource::new(alloc, made.configuration.as_bytes(), &[])?;
     let mut first = MemSource::new(alloc, &made.text, &[])?;
     let mut second = MemSource::new(alloc, &made.text, &[])?;
+    let mut disk = MemDisk::new(alloc, &[], &[])?;
     let mut out = Counter { lines: 0, bytes: 0 };
     let start = Instant::now(rt)?;
     let status = run(
@@ -145,6 +146,7 @@ fn compare(rt: &HostRuntime, row: &str, requests: u64, timed: bool) -> io::Resul
         &mut config,
         &mut first,
         &mut second,
+        &mut disk,
         &mut out,
     );
     let took = since(rt, start)?;

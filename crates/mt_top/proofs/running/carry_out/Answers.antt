@@ -1,49 +1,56 @@
-use Rattle.std.proofs.Common.{Some, ap, leb-true, subst, sym, ◌∙◌}
+use Rattle.std.proofs.Common.{ap, leb-true, refl, subst, sym, ◌∙◌}
 use Rattle.mt_model.specs.texts.Contents.{contents_of}
 use Rattle.mt_words.specs.declared.asked.Asked.{Asked}
-use Rattle.mt_endings.specs.Endings.{in_hand_of}
 use Rattle.mt_endings.specs.Moments.{in_hand, input, moment}
-use Rattle.mt_endings.specs.Run.{Ends}
-use Rattle.mt_top.specs.Asked.{comes_to, is_within}
+use Rattle.mt_top.specs.Asked.{CarriesOut, is_within}
 use Rattle.mt_top.proofs.running.carry_out.Goals as goal
 
 pub soak_with-requires : goal.soak_with-requires
 soak_with-requires g c = leb-true c.in-Soak.count 100000 (sym (ap is_within c.in-Soak.is) ∙ c.requires)
 
-pub returns-in-Soak : goal.returns-in-Soak
-returns-in-Soak g c =
-    let left = g.A.Source.left in
-    let reads = g.A.Source.faults in
+pub returns-in-Soak-clause-ends : goal.returns-in-Soak-clause-ends
+returns-in-Soak-clause-ends g c =
     let written = g.W.Sink.written in
     let faults = g.W.Sink.faults in
-    let first = input (left c.args.first.now) (reads c.args.first.now) in
+    let first = input (g.A.Source.left c.args.first.now) (g.A.Source.faults c.args.first.now) in
     let second = input (g.B.Source.left c.args.second.now) (g.B.Source.faults c.args.second.now) in
-    record {
-      ends = subst (λ (wanted : Asked). Ends c.soak_with.result (Some (in_hand_of (comes_to wanted (contents_of c.args.config.now)))) (moment in_hand first second (written c.args.out.now) (faults c.args.out.now)) (moment in_hand first second (written c.soak_with.new.out) (faults c.soak_with.new.out)))
-          (sym c.in-Soak.is) (c.soak_with.ensures first second);
-    }
+    let disk = input (g.D.Disk.contents c.args.disk.now) (g.D.Disk.faults c.args.disk.now) in
+    subst (λ (wanted : Asked). CarriesOut c.soak_with.result wanted (contents_of c.args.config.now) disk disk (moment in_hand first second (written c.args.out.now) (faults c.args.out.now)) (moment in_hand first second (written c.soak_with.new.out) (faults c.soak_with.new.out)))
+    (sym c.in-Soak.is) (c.soak_with.ensures first second, refl)
 
-pub returns-in-Replay : goal.returns-in-Replay
-returns-in-Replay g c =
+pub returns-in-Replay-clause-ends : goal.returns-in-Replay-clause-ends
+returns-in-Replay-clause-ends g c =
     let left = g.A.Source.left in
     let reads = g.A.Source.faults in
     let written = g.W.Sink.written in
     let faults = g.W.Sink.faults in
     let second = input (g.B.Source.left c.args.second.now) (g.B.Source.faults c.args.second.now) in
-    record {
-      ends = subst (λ (wanted : Asked). Ends c.replay_with.result (Some (in_hand_of (comes_to wanted (contents_of c.args.config.now)))) (moment in_hand (input (left c.args.first.now) (reads c.args.first.now)) second (written c.args.out.now) (faults c.args.out.now)) (moment in_hand (input (left c.replay_with.new.first) (reads c.replay_with.new.first)) second (written c.replay_with.new.out) (faults c.replay_with.new.out)))
-          (sym c.in-Replay.is) (c.replay_with.ensures.ends second);
-    }
+    let disk = input (g.D.Disk.contents c.args.disk.now) (g.D.Disk.faults c.args.disk.now) in
+    subst (λ (wanted : Asked). CarriesOut c.replay_with.result wanted (contents_of c.args.config.now) disk disk
+    (moment in_hand (input (left c.args.first.now) (reads c.args.first.now)) second (written c.args.out.now) (faults c.args.out.now))
+    (moment in_hand (input (left c.replay_with.new.first) (reads c.replay_with.new.first)) second (written c.replay_with.new.out) (faults c.replay_with.new.out)))
+    (sym c.in-Replay.is) (c.replay_with.ensures.ends second, refl)
 
-pub returns-in-Compare : goal.returns-in-Compare
-returns-in-Compare g c =
+pub returns-in-Compare-clause-ends : goal.returns-in-Compare-clause-ends
+returns-in-Compare-clause-ends g c =
     let left = g.A.Source.left in
     let reads = g.A.Source.faults in
     let written = g.W.Sink.written in
     let faults = g.W.Sink.faults in
-    record {
-      ends = subst (λ (wanted : Asked). Ends c.compare_with.result (Some (in_hand_of (comes_to wanted (contents_of c.args.config.now))))
-          (moment in_hand (input (left c.args.first.now) (reads c.args.first.now)) (input (g.B.Source.left c.args.second.now) (g.B.Source.faults c.args.second.now)) (written c.args.out.now) (faults c.args.out.now))
-          (moment in_hand (input (left c.compare_with.new.first) (reads c.compare_with.new.first)) (input (g.B.Source.left c.compare_with.new.second) (g.B.Source.faults c.compare_with.new.second)) (written c.compare_with.new.out) (faults c.compare_with.new.out)))
-          (sym c.in-Compare.is) c.compare_with.ensures;
-    }
+    let disk = input (g.D.Disk.contents c.args.disk.now) (g.D.Disk.faults c.args.disk.now) in
+    subst (λ (wanted : Asked). CarriesOut c.compare_with.result wanted (contents_of c.args.config.now) disk disk
+    (moment in_hand (input (left c.args.first.now) (reads c.args.first.now)) (input (g.B.Source.left c.args.second.now) (g.B.Source.faults c.args.second.now)) (written c.args.out.now) (faults c.args.out.now))
+    (moment in_hand (input (left c.compare_with.new.first) (reads c.compare_with.new.first)) (input (g.B.Source.left c.compare_with.new.second) (g.B.Source.faults c.compare_with.new.second)) (written c.compare_with.new.out) (faults c.compare_with.new.out)))
+    (sym c.in-Compare.is) (c.compare_with.ensures, refl)
+
+pub returns-in-Settle-clause-ends : goal.returns-in-Settle-clause-ends
+returns-in-Settle-clause-ends g c =
+    let written = g.W.Sink.written in
+    let faults = g.W.Sink.faults in
+    let told = g.D.Disk.contents in
+    let failed = g.D.Disk.faults in
+    let first = input (g.A.Source.left c.args.first.now) (g.A.Source.faults c.args.first.now) in
+    let second = input (g.B.Source.left c.args.second.now) (g.B.Source.faults c.args.second.now) in
+    subst (λ (wanted : Asked). CarriesOut c.settle_with.result wanted (contents_of c.args.config.now) (input (told c.args.disk.now) (failed c.args.disk.now)) (input (told c.settle_with.new.disk) (failed c.settle_with.new.disk))
+    (moment in_hand first second (written c.args.out.now) (faults c.args.out.now)) (moment in_hand first second (written c.settle_with.new.out) (faults c.settle_with.new.out)))
+    (sym c.in-Settle.is) (c.settle_with.ensures.ends first second, refl, refl)
