@@ -9,11 +9,12 @@ use serde_json::Value as Json;
 use std::alloc::{AllocError, AllocFailed, Global};
 use std::{io, str};
 
-/// Which of the two files it is.
+/// Which of the files it is.
 #[derive(Clone, Copy)]
 pub(crate) enum Which {
     Configuration,
     Recording,
+    Journal,
 }
 
 /// Why a run ended before its end.
@@ -34,6 +35,10 @@ pub(crate) enum Fault {
     TooLong(Option<u64>),
     Unwritten,
     Memory,
+    /// A call of the disk failed.
+    Disk,
+    /// The journal is none from this place of its file on.
+    NotAJournal(u64),
     /// The first line that the node does not support yet.
     Unbuilt(u64),
 }
@@ -59,6 +64,8 @@ impl Fault {
             Fault::Unread(_) => 5,
             Fault::Unwritten => 6,
             Fault::Memory => 7,
+            Fault::Disk => 8,
+            Fault::NotAJournal(_) => 9,
             Fault::TooLong(_) => 10,
             Fault::Unbuilt(_) => 14,
         }
@@ -68,6 +75,7 @@ impl Fault {
     pub(crate) fn tell(&self, rt: &HostRuntime, options: &Options<'_>) -> io::Result<()> {
         let config = options.config;
         let recording = options.recording;
+        let journal = options.journal.unwrap_or("");
         match self {
             Fault::Unread(Which::Configuration) => {
                 eprintln!(rt; "The configuration {config} can't be read.")
@@ -75,6 +83,7 @@ impl Fault {
             Fault::Unread(Which::Recording) => {
                 eprintln!(rt; "The recording {recording} can't be read.")
             }
+            Fault::Unread(Which::Journal) => eprintln!(rt; "The journal {journal} can't be read."),
             Fault::Configuration {
                 field,
                 line,
@@ -95,6 +104,10 @@ impl Fault {
             }
             Fault::Unwritten => eprintln!(rt; "What is shown can't be written."),
             Fault::Memory => eprintln!(rt; "There is not enough memory."),
+            Fault::Disk => eprintln!(rt; "The disk failed as the journal {journal} was read."),
+            Fault::NotAJournal(place) => {
+                eprintln!(rt; "{journal} is no journal from byte {place} on.")
+            }
             Fault::Unbuilt(line) => {
                 eprintln!(rt;
                     "Line {line} is of a kind that the node does not support yet: the run ends before it."

@@ -1,14 +1,16 @@
 //! A lens for people: it plays a recording as `replay` of matter_node does, and shows the run as a
-//! conversation, in words or as objects of JSON. It stands on the product's public calls, and changes
-//! nothing of what they do.
+//! conversation, in words or as objects of JSON; or it shows in words what a node's journal keeps. It stands on the
+//! product's public calls, and changes nothing of what they do.
 //!
 //! - `options`: the words of the command line;
 //! - `faults`: why a run ended before its end, in words;
 //! - `rows`: which row of a faulty configuration is the first that is wrong;
-//! - `story`: the recording, line by line, with what came of each.
+//! - `story`: the recording, line by line, with what came of each;
+//! - `journal`: what a journal keeps.
 #![tactic(auto)]
 
 mod faults;
+mod journal;
 mod options;
 mod rows;
 mod story;
@@ -65,9 +67,12 @@ fn command_line(rt: &HostRuntime) -> io::Result<Vec<String>> {
     Ok(words)
 }
 
-// Reads both files, and shows the run.
+// Reads the files, and shows the run, or the journal.
 fn shown(rt: &HostRuntime, options: &Options<'_>) -> Result<(), Fault> {
     let config = read_configuration(rt, options.config)?;
+    if let Some(journal) = options.journal {
+        return journal::tell(rt, journal, &config, options.fabric);
+    }
     let recording = read_recording(rt, options.recording)?;
     story::tell(rt, options, &config, &recording)
 }

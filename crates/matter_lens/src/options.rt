@@ -6,9 +6,10 @@ use std::alloc::Global;
 /// What the words ask for.
 #[derive(Clone, Copy)]
 pub(crate) struct Options<'a> {
-    /// The names of the two files.
+    /// The names of the files. No recording is played where a journal is given.
     pub config: &'a str,
     pub recording: &'a str,
+    pub journal: Option<&'a str>,
     /// Whether it is shown in words, and as objects of JSON.
     pub words: bool,
     pub json: bool,
@@ -24,6 +25,7 @@ pub(crate) fn options_of<'a>(alloc: Global, words: &'a [String]) -> Result<Optio
     Ok(Options {
         config: matches.get_str("CONFIG").unwrap_or(""),
         recording: matches.get_str("RECORDING").unwrap_or(""),
+        journal: matches.get_str("journal"),
         words: matches.get_flag("words") || !json,
         json,
         fabric: matches.get_one::<u8>("fabric"),
@@ -35,11 +37,19 @@ fn command<'a>(alloc: Global) -> Result<Command<'a>, Error> {
         .required(true)
         .help("The configuration of the node, as replay takes it");
     let recording = Arg::new(alloc, "RECORDING")
-        .required(true)
+        .required_unless_present("journal")?
+        .conflicts_with("journal")?
         .help("The recording");
+    let journal = Arg::new(alloc, "journal")
+        .long("journal")
+        .value_name("FILE")
+        .help(
+            "Show what the journal FILE of a node with the configuration keeps, and play nothing",
+        );
     let json = Arg::new(alloc, "json")
         .long("json")
         .action(ArgAction::SetTrue)
+        .conflicts_with("journal")?
         .help("Show an object of JSON for each line, in place of words");
     let words = Arg::new(alloc, "words")
         .long("words")
@@ -49,12 +59,17 @@ fn command<'a>(alloc: Global) -> Result<Command<'a>, Error> {
         .long("fabric")
         .value_name("F")
         .value_parser(value_parser!(u8))
-        .help("Show what fabric F asked and was sent, alone; 0 is PASE without a fabric");
+        .help(
+            "Show what fabric F asked and was sent, alone; 0 is PASE without a fabric. Of a journal, what it keeps of fabric F",
+        );
     let command = Command::new(alloc, "matter_lens")
         .version("1")
-        .about("Plays a recording as replay does, and shows it as a conversation")
+        .about(
+            "Plays a recording as replay does, and shows it as a conversation; or shows what a journal keeps",
+        )
         .arg(config)?
         .arg(recording)?
+        .arg(journal)?
         .arg(json)?
         .arg(words)?
         .arg(fabric)?;

@@ -1,5 +1,6 @@
 //! What happened on a node, told to people: a line of a recording and what came of it, in words or as an object of
-//! JSON. Nothing here plays a recording: what came of a line is given.
+//! JSON; and in words what its journal keeps. Nothing here plays a recording or reads a journal: what came of a line is
+//! given, and so is what a journal holds.
 //!
 //! - `teller`: what is to be told of a line; `datagrams`: what stands in sealed datagrams;
 //! - `told`: what is told;
@@ -9,7 +10,8 @@
 //! - `json`, `json_messages`, `json_answers`, `json_values`, `json_objects`: the same as objects of JSON;
 //! - `places`: where a payload's first fault stands;
 //! - `shapes`: what the fields of a value are called;
-//! - `faulty`: a line of a recording that is none, with what is wrong.
+//! - `faulty`: a line of a recording that is none, with what is wrong;
+//! - `kept`: what a journal keeps.
 #![tactic(auto)]
 
 mod answers;
@@ -22,6 +24,7 @@ mod json_answers;
 mod json_messages;
 mod json_objects;
 mod json_values;
+mod kept;
 mod page;
 mod places;
 mod shapes;
@@ -34,6 +37,7 @@ mod words;
 
 pub use faulty::show_faulty_line;
 pub use json::show_object;
+pub use kept::show_kept;
 pub use page::Page;
 pub use teller::{Line, Teller};
 pub use telling::show_words;

@@ -94,7 +94,13 @@ fn show_passing(page: &mut Page, expiry: Option<Expiry>) {
     let Some(expiry) = expiry else {
         return page.text("time goes on");
     };
-    page.text("the fail-safe expires: the networks are those from before");
+    page.text("the fail-safe expires: ");
+    show_taken_back(page, expiry)
+}
+
+/// What an expiry of the fail-safe takes back.
+pub(crate) fn show_taken_back(page: &mut Page, expiry: Expiry) {
+    page.text("the networks are those from before");
     if let Some(fabric) = expiry.added {
         page.text(", fabric ");
         page.number(fabric as u64);

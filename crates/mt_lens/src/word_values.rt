@@ -88,8 +88,8 @@ fn show_subject(page: &mut Page, subject: u64) {
     page.octets(&subject.to_be_bytes())
 }
 
-// Octets in hex digits behind `0x`, so that they are told from numbers.
-fn show_octets(page: &mut Page, octets: &[u8]) {
+/// Octets in hex digits behind `0x`, so that they are told from numbers.
+pub(crate) fn show_octets(page: &mut Page, octets: &[u8]) {
     if octets.is_empty() {
         return page.text("no bytes");
     }
