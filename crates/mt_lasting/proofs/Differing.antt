@@ -29,15 +29,15 @@ none_differs key old new same =
 
 -- Lists of lists.
 
-flat_mapped : {X Y A : Type 0} (f : Y → List A) (g : X → Y) (xs : List X) → flat_map f (map g xs) ≡ flat_map (λ x. f (g x)) xs
+pub flat_mapped : {X Y A : Type 0} (f : Y → List A) (g : X → Y) (xs : List X) → flat_map f (map g xs) ≡ flat_map (λ x. f (g x)) xs
 flat_mapped f g [] = refl
 flat_mapped {A = A} f g (x ∷ xs) = ap (λ (l : List A). f (g x) ++ l) (flat_mapped f g xs)
 
-flat_nested : {X Y A : Type 0} (f : Y → List A) (g : X → List Y) (xs : List X) → flat_map f (flat_map g xs) ≡ flat_map (λ x. flat_map f (g x)) xs
+pub flat_nested : {X Y A : Type 0} (f : Y → List A) (g : X → List Y) (xs : List X) → flat_map f (flat_map g xs) ≡ flat_map (λ x. flat_map f (g x)) xs
 flat_nested f g [] = refl
 flat_nested {A = A} f g (x ∷ xs) = flat_map-append f (g x) (flat_map g xs) ∙ ap (λ (l : List A). flat_map f (g x) ++ l) (flat_nested f g xs)
 
-flat_none : {X A : Type 0} (f : X → List A) → ((x : X) → f x ≡ []) → (xs : List X) → flat_map f xs ≡ []
+pub flat_none : {X A : Type 0} (f : X → List A) → ((x : X) → f x ≡ []) → (xs : List X) → flat_map f xs ≡ []
 flat_none f each [] = refl
 flat_none f each (x ∷ xs) = λ i. each x i ++ flat_none f each xs i
 
@@ -104,7 +104,7 @@ steps_said : (s : NodeState) (ceiling : ℕ) (steps : List NodeStep) → list_al
 steps_said s ceiling steps settings = all_said s (after_all None steps s) ceiling (stays_all steps s settings)
 
 -- a state changes nothing of itself
-nothing_said : (s : NodeState) (ceiling : ℕ) → change_between s ceiling s ceiling ≡ []
+pub nothing_said : (s : NodeState) (ceiling : ℕ) → change_between s ceiling s ceiling ≡ []
 nothing_said s ceiling = flat_none (differing_at s ceiling s ceiling) (λ key. none_differs key (value_at key s ceiling) (value_at key s ceiling) refl) all_keys
 
 -- where there is no step, nothing is said

@@ -11,8 +11,13 @@ pub mod AllowedMaps
 pub mod AllowedSingles
 pub mod AllowedTables
 pub mod AllowedTrees
+pub mod Alone
+pub mod Anyones
+pub mod Boots
 pub mod Buckets
+pub mod Ceilings
 pub mod Changing
+pub mod Committed
 pub mod Differing
 pub mod Empty
 pub mod EntriesBehind
@@ -46,8 +51,10 @@ pub mod RowsBehind
 pub mod Same
 pub mod SingleSizes
 pub mod SoFar
+pub mod Staying
 pub mod TableSizes
 pub mod TreeSizes
+pub mod Unnamed
 pub mod Untagged
 pub mod Valid
 pub mod ValuesBehind

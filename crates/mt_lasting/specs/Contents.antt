@@ -52,3 +52,7 @@ kept_of s ceiling = record {
   networks = s.networks;
   failsafe = option_map kept_failsafe s.armed;
 }
+
+-- Of a state this lasts: rows, entries, fabrics, roots, networks, the fail-safe and the boot. The rest is as in no state.
+abbrev pub what_lasts : NodeState → NodeState
+what_lasts s = record s { versions = []; changes = []; changed = 0; sessions = []; plain = None; clock = 0 }

@@ -1,5 +1,5 @@
 -- What holds of the durable map of a state, of what is kept, and of changes.
-use Rattle.std.specs.Prelude.{◌≡◌, ◌↔◌, ℕ, ◌^◌, ◌≤◌, ◌||◌, Bool, true, false, [], Some, Result, Ok, Err, filter, length, map}
+use Rattle.std.specs.Prelude.{◌≡◌, ◌≢◌, ◌↔◌, ℕ, ◌^◌, ◌≤◌, ◌||◌, ◌++◌, Bool, true, false, List, [], Option, None, Some, Result, Ok, Err, filter, length, map}
 use Rattle.std.specs.List.{list_all}
 use Rattle.mt_tlv.specs.declared.value.Value.{Value}
 use Rattle.mt_durable.specs.Changes.{change_bytes}
@@ -19,8 +19,16 @@ use Rattle.mt_grammar.specs.Facts.{facts_hold}
 use Rattle.mt_grammar.specs.Keys.{key_in}
 use Rattle.mt_grammar.specs.Values.{has_items, is_single}
 use Rattle.mt_machine.specs.State.{IsValid}
-use Rattle.mt_lasting.specs.Changes.{change_between, is_same_value}
-use Rattle.mt_lasting.specs.Contents.{durable, kept_of}
+use Rattle.mt_machine.specs.Changes.{changed_at}
+use Rattle.mt_machine.specs.Effects.{after_all, is_setting_step}
+use Rattle.mt_machine.specs.Environment.{Environment}
+use Rattle.mt_machine.specs.Step.{after_action, at_time}
+use Rattle.mt_machine.specs.Taking.{may_take_all}
+use Rattle.mt_model.specs.declared.node.action.Action.{Action}
+use Rattle.mt_model.specs.declared.node.action.NodeStep.{NodeStep}
+use Rattle.mt_model.specs.declared.tables.access.Actor.{Actor}
+use Rattle.mt_lasting.specs.Changes.{bytes_to_commit, change_between, is_same_value, raised}
+use Rattle.mt_lasting.specs.Contents.{durable, kept_of, what_lasts}
 use Rattle.mt_lasting.specs.Keys.{acl_place, all_keys, item_places, key_bytes, single_places}
 
 -- each key is read as itself
@@ -91,3 +99,44 @@ MapsHaveImages = (s : NodeState) (ceiling : ℕ) → IsValid s → ceiling ≤ 2
 
 abbrev pub ChangesAreSaid : Type 0
 ChangesAreSaid = (s t : NodeState) (ceiling next : ℕ) → IsValid t → next ≤ 2 ^ 62 → Says (change_between s ceiling t next) (change_bytes (change_between s ceiling t next))
+
+-- What does not last: the time, versions and change numbers, sessions. Where two states have the same that lasts, the same changes to the one
+-- as to the other, and nothing changes from the one to the other.
+
+abbrev pub OnlyWhatLastsChanges : Type 0
+OnlyWhatLastsChanges = (s t u : NodeState) (ceiling next : ℕ) → what_lasts t ≡ what_lasts u → change_between s ceiling t next ≡ change_between s ceiling u next
+
+abbrev pub NothingElseChanges : Type 0
+NothingElseChanges = (s t : NodeState) (ceiling : ℕ) → what_lasts s ≡ what_lasts t → change_between s ceiling t ceiling ≡ []
+
+-- What steps that set values change does not hang on who asked, on the time, nor on the versions that follow. A state that takes them takes
+-- them of anyone.
+
+abbrev pub AnyonesStepsChangeTheSame : Type 0
+AnyonesStepsChangeTheSame = (s : NodeState) (asking : Option Actor) (steps : List NodeStep) (places : List Place) (now ceiling : ℕ) → list_all is_setting_step steps ≡ true
+    → change_between s ceiling (changed_at places s (after_all asking steps (at_time now s))) ceiling ≡ change_between s ceiling (after_all None steps s) ceiling
+
+abbrev pub AnyonesStepsAreTaken : Type 0
+AnyonesStepsAreTaken = (s : NodeState) (asking : Option Actor) (steps : List NodeStep) (now : ℕ) → list_all is_setting_step steps ≡ true
+    → may_take_all asking steps (at_time now s) ≡ true → may_take_all None steps s ≡ true
+
+-- A ceiling that is raised stands in front of what else changes in a boot, and no other change hangs on it.
+
+abbrev pub RaisedCeilingsComeFirst : Type 0
+RaisedCeilingsComeFirst = (s t : NodeState) (ceiling next : ℕ) → s.boot ≡ t.boot → change_between s ceiling t next ≡ raised ceiling next ++ change_between s ceiling t ceiling
+
+abbrev pub SameUnderAnyCeiling : Type 0
+SameUnderAnyCeiling = (s t : NodeState) (ceiling next : ℕ) → change_between s ceiling t ceiling ≡ change_between s next t next
+
+-- No action begins another boot.
+abbrev pub ActionsKeepTheBoot : Type 0
+ActionsKeepTheBoot = (given : Environment) (s : NodeState) (action : Action) (now : ℕ) → (after_action given s action now).boot ≡ s.boot
+
+-- What is to be committed: nothing exactly where the maps are equal, and else the bytes of the change that leads from the one to the other.
+
+abbrev pub NothingToCommit : Type 0
+NothingToCommit = (s t : NodeState) (ceiling next : ℕ) → (bytes_to_commit (change_between s ceiling t next) ≡ []) ↔ (durable s ceiling ≡ durable t next)
+
+abbrev pub CommittedBytesSayIt : Type 0
+CommittedBytesSayIt = (s t : NodeState) (ceiling next : ℕ) → IsValid t → next ≤ 2 ^ 62 → durable s ceiling ≢ durable t next
+    → Says (change_between s ceiling t next) (bytes_to_commit (change_between s ceiling t next))

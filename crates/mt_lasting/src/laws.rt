@@ -1,6 +1,6 @@
 //! Laws of maps and changes. Each is the contract of a function that does nothing.
 
-ghost use Rattle.mt_lasting.specs.Laws.{ArePlacesKept, ChangesAreChanges, ChangesAreSaid, ChangesAreShort, ChangesLeadOn, EmptyWhereEqual, KeptFactsHold, KeysAreRead, MapsAreMaps, MapsAreReadBack, MapsAreShort, MapsHaveImages, SameValuesAreEqual};
+ghost use Rattle.mt_lasting.specs.Laws.{ActionsKeepTheBoot, AnyonesStepsAreTaken, AnyonesStepsChangeTheSame, ArePlacesKept, ChangesAreChanges, ChangesAreSaid, ChangesAreShort, ChangesLeadOn, CommittedBytesSayIt, EmptyWhereEqual, KeptFactsHold, KeysAreRead, MapsAreMaps, MapsAreReadBack, MapsAreShort, MapsHaveImages, NothingElseChanges, NothingToCommit, OnlyWhatLastsChanges, RaisedCeilingsComeFirst, SameUnderAnyCeiling, SameValuesAreEqual};
 
 use mt_tlv::narrow_is_element;
 
@@ -54,4 +54,31 @@ pub fn maps_and_changes_are_elements()
     maps_are_maps();
     changes_lead_on();
     maps_and_changes_are_short();
+}
+
+/// Of a state rows, entries, fabrics, roots, networks, the fail-safe and the boot last, and nothing else of it changes the map. So
+/// what steps that set values change hangs neither on who asked nor on the time, and a state that takes them takes them of anyone.
+pub fn only_what_lasts_changes()
+    ensures alone { OnlyWhatLastsChanges }
+    ensures nothing { NothingElseChanges }
+    ensures steps { AnyonesStepsChangeTheSame }
+    ensures taken { AnyonesStepsAreTaken }
+{}
+
+/// In a boot, which no action ends, a ceiling of event numbers that is raised stands in front of what else changes, and no other
+/// change hangs on it.
+pub fn raised_ceilings_come_first()
+    ensures first { RaisedCeilingsComeFirst }
+    ensures any { SameUnderAnyCeiling }
+    ensures boot { ActionsKeepTheBoot }
+{}
+
+/// Nothing is to be committed exactly where two maps are equal. What is committed otherwise are the bytes of the change that leads
+/// from the one to the other.
+pub fn committed_bytes_say_the_change()
+    ensures nothing { NothingToCommit }
+    ensures said { CommittedBytesSayIt }
+{
+    changes_lead_on();
+    maps_and_changes_are_elements();
 }

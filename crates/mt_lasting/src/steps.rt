@@ -8,7 +8,7 @@ ghost use Rattle.mt_machine.specs.Effects.{after_all, is_setting_step};
 ghost use Rattle.mt_machine.specs.State.{IsValid};
 ghost use Rattle.mt_lasting.specs.Changes.{change_between, differing_at};
 ghost use Rattle.mt_lasting.specs.Keys.{acl_place, indexes, item_places, keys_of, single_places};
-ghost use Rattle.mt_lasting.specs.Steps.{first_kept};
+ghost use Rattle.mt_lasting.specs.Steps.{first_kept, names_fabric};
 
 use crate::arrays::array_if;
 use crate::changes::push_differing;
@@ -123,10 +123,46 @@ fn push_items(
 {
     let fabrics = indexes();
     for fabric in fabrics {
-        push_entries_of(alloc, *fabric, state, steps, entries)?;
-        push_rows_of(alloc, *fabric, state, steps, entries)?;
+        push_items_of(alloc, *fabric, state, steps, entries)?;
     }
     Ok(())
+}
+
+// A fabric's items of all lists: nothing is said of a fabric that no step names.
+fn push_items_of(
+    alloc: Global,
+    fabric: u8,
+    state: &NodeState,
+    steps: &[NodeStep],
+    entries: &mut Vec<Entry>,
+) -> Result<(), AllocError>
+    requires valid { IsValid state.now }
+    requires steps { list_all is_setting_step steps.now ≡ true }
+    ensures { (ceiling : ℕ) → OnOk result (entries.new.items ≡ entries.old.items ++ flat_map (differing_at state.now ceiling (after_all None steps.now state.now) ceiling) (keys_of fabric)) }
+{
+    set_rows_stand_in_order();
+    set_entries_stand_in_order();
+    if !is_named(fabric, steps) {
+        return Ok(());
+    }
+    push_entries_of(alloc, fabric, state, steps, entries)?;
+    push_rows_of(alloc, fabric, state, steps, entries)
+}
+
+fn is_named(fabric: u8, steps: &[NodeStep]) -> bool
+    ensures { result ≡ list_any (names_fabric fabric) steps.now }
+{
+    steps.iter().any(|step| names_fabric(fabric, step))
+}
+
+fn names_fabric(fabric: u8, step: &NodeStep) -> bool
+    ensures { result ≡ names_fabric fabric step.now }
+{
+    match step {
+        NodeStep::SetRow { fabric: whose, .. } => *whose == fabric,
+        NodeStep::SetEntries { fabric: whose, .. } => *whose == fabric,
+        _ => false,
+    }
 }
 
 // A fabric's entries of the access control list.

@@ -88,7 +88,8 @@ fn fabric_at(alloc: Global, index: u8, fabrics: &[Fabric]) -> Result<Option<Valu
     }
 }
 
-fn find_fabric(index: u8, fabrics: &[Fabric]) -> Option<&Fabric>
+/// The fabric of an index.
+pub(crate) fn find_fabric(index: u8, fabrics: &[Fabric]) -> Option<&Fabric>
     ensures { option_copied result ≡ find (has_index index) fabrics.now }
 {
     fabrics.iter().find(|fabric| fabric.index == index)

@@ -5,15 +5,14 @@ use Rattle.mt_grammar.specs.declared.keys.Key.{Key}
 use Rattle.mt_machine.specs.Effects.{after_all}
 use Rattle.mt_lasting.specs.Changes.{differing_at}
 use Rattle.mt_lasting.specs.Keys.{keys_of}
-use Rattle.mt_lasting.proofs.SoFar.{all_done, one_fabric, one_more}
+use Rattle.mt_lasting.proofs.SoFar.{all_done, one_more}
 use Rattle.mt_lasting.proofs.steps.push_items.Goals as goal
 
 pub loop-fabric-preserved : goal.loop-fabric-preserved
 loop-fabric-preserved c = λ ceiling.
     let said : Key → List Entry = differing_at c.args.state.now ceiling (after_all None c.args.steps.now c.args.state.now) ceiling in
-    one_more (λ fabric. flat_map said (keys_of fabric)) c.indexes-fabrics.result.now c.loop-fabric.fabric-index _ c.loop-fabric.entries.items c.push_rows_of.new.entries.items _ c.loop-fabric-test.true
-    (c.loop-fabric.invariant ceiling)
-    (one_fabric said _ c.loop-fabric.entries.items c.push_entries_of.new.entries.items c.push_rows_of.new.entries.items (c.in_ok-push_entries_of.ensures ceiling) (c.in_ok-push_rows_of.ensures ceiling))
+    one_more (λ fabric. flat_map said (keys_of fabric)) c.indexes-fabrics.result.now c.loop-fabric.fabric-index _ c.loop-fabric.entries.items c.push_items_of.new.entries.items _ c.loop-fabric-test.true
+    (c.loop-fabric.invariant ceiling) (c.in_ok-push_items_of.ensures ceiling)
 
 pub returns : goal.returns
 returns c = λ ceiling.
