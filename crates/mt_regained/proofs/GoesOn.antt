@@ -30,7 +30,7 @@ ceiling_fits map kept is = leb-true (unwrap_or kept.ceiling 0) (2 ^ 62) (numbers
 
 -- a map that is not empty is rolled back
 
-has_entries : List Entry → Bool
+unfoldable pub has_entries : List Entry → Bool
 has_entries [] = false
 has_entries (entry ∷ entries) = true
 
@@ -39,7 +39,7 @@ unfolding has_entries
 rolled_where contents [] kept some read facts = absurd cc
 rolled_where contents (entry ∷ entries) kept some read facts = ap rolled_if read ∙ ap (λ (holds : Bool). if holds then Some (rolled_map_of kept) else None) facts
 
-durable_some : (s : NodeState) (ceiling : ℕ) → has_entries (durable s ceiling) ≡ true
+pub durable_some : (s : NodeState) (ceiling : ℕ) → has_entries (durable s ceiling) ≡ true
 unfolding has_entries
 durable_some s ceiling = refl
 

@@ -1,5 +1,6 @@
 pub mod Again
 pub mod Armed
+pub mod Beginning
 pub mod BehindRollbacks
 pub mod Durable
 pub mod DurableAgain
@@ -9,6 +10,7 @@ pub mod GoesOn
 pub mod KeyBytes
 pub mod KeyFacts
 pub mod Lists
+pub mod NewNodes
 pub mod Order
 pub mod OtherKeys
 pub mod PlaceFacts

@@ -1,6 +1,6 @@
 //! Laws of states that are regained from a map. Each is the contract of a function that does nothing.
 
-ghost use Rattle.mt_regained.specs.Reopened.{GoesOnAgain};
+ghost use Rattle.mt_regained.specs.Reopened.{GoesOnAgain, NewNodesBegin, ReopenedMayStart};
 ghost use Rattle.mt_regained.specs.Laws.{BeginsValid, DurableIsKept, FirstBoots, KeepsOtherKeys, KeptAgain, RolledTwice, StatesAreRegained, StatesAreValid};
 
 use mt_lasting::{maps_are_maps, maps_are_read_back};
@@ -56,4 +56,16 @@ pub fn maps_go_on_again()
     durable_maps_are_kept();
     expiries_roll_back();
     expiries_spare_others();
+}
+
+/// With the map with which it goes on a node may start, where it can count one more boot and has room for event numbers. A
+/// new node may, in its first boot.
+pub fn reopened_nodes_may_start()
+    ensures reopened { ReopenedMayStart }
+    ensures new { NewNodesBegin }
+{
+    states_are_valid();
+    durable_maps_are_kept();
+    boots_begin_valid();
+    maps_go_on_again();
 }

@@ -1,7 +1,7 @@
 //! The state that a node regains from its durable map after a loss of power, and the rollback of that map.
 //!
 //! - `regained`: the state of a map, `kept_rows`: its rows, `bytes`: of what its keys are;
-//! - `opening`: the state in which a boot begins;
+//! - `opening`: the state in which a boot begins, `starting`: that behind the map with which a node goes on;
 //! - `rolled`: the map without what was done under a fail-safe that was armed, `reopened`: that with which a node goes on;
 //! - `laws`: what holds of them.
 #![tactic(auto)]
@@ -13,12 +13,14 @@ mod opening;
 mod regained;
 mod reopened;
 mod rolled;
+mod starting;
 
 pub use laws::{
-    boots_begin_valid, durable_maps_are_kept, maps_go_on_again, rollbacks_are_the_last_word,
-    states_are_regained,
+    boots_begin_valid, durable_maps_are_kept, maps_go_on_again, reopened_nodes_may_start,
+    rollbacks_are_the_last_word, states_are_regained,
 };
 pub use opening::next_boot;
 pub use regained::state_from;
-pub use reopened::reopened_map;
+pub use reopened::{new_map, reopened_map};
 pub use rolled::rolled_map;
+pub use starting::begun;

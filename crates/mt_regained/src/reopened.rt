@@ -29,8 +29,8 @@ pub fn reopened_map(
     rolled_map(alloc, map)
 }
 
-// The map of a node that has never started.
-fn new_map(alloc: Global, config: &Config) -> Result<Durable, AllocError>
+/// The map of a node that has never started, with which it begins.
+pub fn new_map(alloc: Global, config: &Config) -> Result<Durable, AllocError>
     ensures map { IfOk result (λ map. map ≡ new_map (contents_of config.now)) }
     ensures image { IfOk result HasImage }
 {
