@@ -1,6 +1,7 @@
 pub mod Ample
 pub mod Applied
 pub mod Observed
+pub mod OnePlace
 pub mod Closed
 pub mod Counts
 pub mod Differ
@@ -11,3 +12,4 @@ pub mod Plans
 pub mod Rules
 pub mod RowsBehind
 pub mod Same
+pub mod Unchanging

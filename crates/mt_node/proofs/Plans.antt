@@ -32,6 +32,7 @@ plan_of given s action now asking answered outcome asks replies steps valid one 
       told = made.told ∙ (λ i. told_between (asks i) (steps i) s (behind i));
       aside = aside;
       state = made.state ∙ behind;
+      change = made.change;
       ready = made.ready;
       valid = subst IsValid (sym (made.state ∙ behind)) valid;
       leaves = λ fabric.
@@ -48,6 +49,7 @@ nobody_asks given s actor request timed now outcome nobody planned =
       told = planned.told ∙ (λ i. told_between (sym nobody i) (asked_steps given s request timed now (sym nobody i)) s (behind i));
       aside = planned.aside ∙ (λ i. aside_between (option_and_then (λ (a : Actor). a.session) (sym nobody i)) s (behind i));
       state = planned.state ∙ behind;
+      change = planned.change;
       ready = planned.ready;
       valid = planned.valid;
       leaves = planned.leaves;

@@ -1,6 +1,6 @@
 -- Which attributes differ behind steps, told by the steps and by what stands before them. The last of the steps that set the
 -- rows of a fabric at a place, or the entries of a fabric, says what stands there behind all of them.
-use Rattle.std.specs.Prelude.{ℕ, ◌&&◌, not, Bool, true, false, List, Option, Some, None, filter, map, if◌then◌else◌}
+use Rattle.std.specs.Prelude.{ℕ, ◌==◌, ◌&&◌, nat_lt, not, Bool, true, false, List, Option, Some, None, filter, map, if◌then◌else◌}
 use Rattle.std.specs.List.{list_any}
 use Rattle.mt_tlv.specs.declared.value.Value.{Value}
 use Rattle.mt_model.specs.rows.Order.{entry_rows, row_at}
@@ -16,6 +16,9 @@ use Rattle.mt_model.specs.declared.rows.place.Place.{Place}
 use Rattle.mt_model.specs.declared.rows.place.Row.{Row}
 use Rattle.mt_model.specs.declared.node.state.NodeState.{NodeState}
 use Rattle.mt_meta.specs.Stored.{is_stored}
+use Rattle.mt_meta.specs.clusters.AccessControl as access_control
+use Rattle.mt_meta.specs.clusters.NetworkCommissioning as network_commissioning
+use Rattle.mt_meta.specs.clusters.OperationalCredentials as operational_credentials
 use Rattle.mt_write.specs.Latest.{entries_set, latest, row_set}
 
 -- whether rows stand already where these values are set, if any are
@@ -57,3 +60,16 @@ differs_with s steps list_differs place =
 
 abbrev pub differs_by : NodeState → List NodeStep → Place → Bool
 differs_by s steps = differs_with s steps (has_other_entries s steps)
+
+-- a step that sets no rows at another place
+abbrev pub sets_none_beside : Place → NodeStep → Bool
+sets_none_beside place (SetRow at fabric values) = same_place at place
+sets_none_beside place step = true
+
+-- Whether an attribute that is not stored has rows of the tables of a state: of entries, networks, fabrics or roots. The rows
+-- of all others that are not stored never change.
+abbrev pub is_of_tables : Place → Bool
+is_of_tables place =
+    if place.cluster == access_control.cluster then place.leaf == 0  -- ACL
+    else if place.cluster == network_commissioning.cluster then place.leaf == 1  -- Networks
+    else place.cluster == operational_credentials.cluster && nat_lt place.leaf 5  -- NOCs to TrustedRootCertificates

@@ -20,14 +20,15 @@ use Rattle.mt_machine.specs.Leaving.{has_left}
 use Rattle.mt_machine.specs.State.{IsValid}
 use Rattle.mt_machine.specs.Step.{Aside, after_action, after_steps, aside_between, aside_of, at_time, reply_of}
 use Rattle.mt_machine.specs.Telling.{told, told_between}
+use Rattle.mt_lasting.specs.Changes.{change_between}
 use Rattle.mt_model.specs.declared.node.action.Effect.{Effect}
 use Rattle.mt_node.specs.declared.outcome.Outcome.{Outcome}
 
 -- The state behind an outcome. One that brings a state puts it in place; for another it is its time, its steps are made, and versions and
--- change numbers follow from where attributes differ.
+-- change numbers follow from where attributes differ. Steps that set values make the same, whoever asks.
 
 abbrev pub made_by : Outcome → NodeState → NodeState
-made_by outcome s = changed_at outcome.places s (after_all outcome.asking outcome.steps s)
+made_by outcome s = changed_at outcome.places s (after_all None outcome.steps s)
 
 abbrev pub applied_as : Option (Box NodeState) → Outcome → NodeState → NodeState
 applied_as None outcome s = made_by outcome (at_time outcome.clock s)
@@ -95,21 +96,27 @@ IsReadyAs (Some behind) s outcome = ⊤
 abbrev pub IsReady : NodeState → Outcome → Type 0
 IsReady s outcome = IsReadyAs outcome.behind s outcome
 
+-- The outcome says what of the durable map changes, where the ceiling of event numbers stays, whatever it is.
+abbrev pub SaysTheChange : NodeState → Outcome → Type 0
+SaysTheChange s outcome = (ceiling : ℕ) → outcome.change ≡ change_between s ceiling (applied outcome s) ceiling
+
 -- The outcome is that of an answer to whoever is taken as asking, at this time, whose steps it makes, and it tells what these tell.
 pub record IsMade (s : NodeState) (asking : Option Actor) (answered : Effect) (now : ℕ) (outcome : Outcome) : Type 0 where
   pub reply : outcome.reply ≡ answered.reply
   pub told : outcome.told ≡ told_between asking answered.steps s (after_steps asking answered.steps (at_time now s))
   pub aside : aside_in outcome ≡ aside_between (option_and_then (λ (actor : Actor). actor.session) asking) s (after_steps asking answered.steps (at_time now s))
   pub state : applied outcome s ≡ after_steps asking answered.steps (at_time now s)
+  pub change : SaysTheChange s outcome
   pub ready : IsReady s outcome
 
--- The outcome is that of this action at this time, where this is given: what is answered, the events that are told, the state. The state
--- behind it is valid, and the fabric that leaves the table, where one does, is the one that is gone.
+-- The outcome is that of this action at this time, where this is given: what is answered, the events that are told, the state, and what of it
+-- is to be committed. The state behind it is valid, and the fabric that leaves the table, where one does, is the one that is gone.
 pub record IsPlan (given : Environment) (s : NodeState) (action : Action) (now : ℕ) (outcome : Outcome) : Type 0 where
   pub reply : outcome.reply ≡ reply_of given s action now
   pub told : outcome.told ≡ told given s action now
   pub aside : aside_in outcome ≡ aside_of given s action now
   pub state : applied outcome s ≡ after_action given s action now
+  pub change : SaysTheChange s outcome
   pub ready : IsReady s outcome
   pub valid : IsValid (applied outcome s)
   pub leaves : (fabric : ℕ) → has_left s (applied outcome s) fabric ≡ is_that fabric outcome.gone

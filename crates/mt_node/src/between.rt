@@ -7,11 +7,13 @@ ghost use Rattle.mt_model.specs.texts.Config.{ascend_from};
 ghost use Rattle.mt_machine.specs.Changes.{differing, differs};
 ghost use Rattle.mt_machine.specs.State.{IsValid};
 ghost use Rattle.mt_machine.specs.Step.{closed_between, gone_between, is_live};
+ghost use Rattle.mt_node.specs.Differences.{is_of_tables};
 
 use crate::actors::has_fabric;
 use crate::node::Node;
 use crate::sight::view_of;
 use mt_apps::rows_at;
+use mt_meta::clusters::{ACCESS_CONTROL, NETWORK_COMMISSIONING, OPERATIONAL_CREDENTIALS};
 use mt_meta::{all_places, is_stored};
 use mt_model::{
     Fabric, NodeSession, NodeState, Place, Places, Row, SessionIds, Standing,
@@ -60,12 +62,29 @@ fn differs(
     requires fabrics_behind { IsTrue (fabrics_ascend behind.now.fabrics) }
     ensures { IfOk result (λ other. other ≡ differs state.now behind.now place.now) }
 {
+    what_is_told_the_same_is();
     if is_stored(place) {
         return Ok(!are_same_rows(state.rows.at(place), behind.rows.at(place)));
+    }
+    if !is_of_tables(place) {
+        return Ok(false);
     }
     let rows = rows_at(alloc, &view_of(state), place)?;
     let others = rows_at(alloc, &view_of(behind), place)?;
     Ok(!are_same_rows(rows.as_slice(), others.as_slice()))
+}
+
+// Whether an attribute that is not stored has rows of the tables of a state. The rows of all others never change.
+fn is_of_tables(place: &Place) -> bool
+    ensures { result ≡ is_of_tables place.now }
+{
+    if place.cluster == ACCESS_CONTROL {
+        return place.leaf == 0;
+    }
+    if place.cluster == NETWORK_COMMISSIONING {
+        return place.leaf == 1;
+    }
+    place.cluster == OPERATIONAL_CREDENTIALS && place.leaf < 5
 }
 
 fn are_same_rows(rows: &[Row], others: &[Row]) -> bool

@@ -1,7 +1,7 @@
 //! Which attributes differ behind the steps of an answer. The state before them and the steps tell it, so that
 //! nothing of the state is copied.
 
-ghost use Rattle.std.specs.Prelude.{◌≡◌, ◌↔◌, ◌&&◌, ℕ, true, IfOk, IsTrue, Option, filter, map, option_map};
+ghost use Rattle.std.specs.Prelude.{◌≡◌, ◌↔◌, ◌&&◌, ℕ, false, true, IfOk, IfSome, IsTrue, Option, filter, map, option_map};
 ghost use Rattle.std.specs.List.{list_all, list_any};
 ghost use Rattle.mt_model.specs.rows.Setting.{is_at};
 ghost use Rattle.mt_model.specs.rows.Seen.{own_entries};
@@ -13,11 +13,11 @@ ghost use Rattle.mt_machine.specs.Changes.{differing};
 ghost use Rattle.mt_machine.specs.Effects.{after_all, is_setting_step};
 ghost use Rattle.mt_machine.specs.State.{IsValid};
 ghost use Rattle.mt_machine.specs.Step.{at_time};
-ghost use Rattle.mt_node.specs.Differences.{differs_by, differs_with, entries_stand, has_other_entries, rows_stand, sets_other_entries, sets_other_rows};
+ghost use Rattle.mt_node.specs.Differences.{differs_by, differs_with, entries_stand, has_other_entries, rows_stand, sets_none_beside, sets_other_entries, sets_other_rows};
 
 use crate::node::Node;
 use mt_meta::clusters::ACCESS_CONTROL;
-use mt_meta::{all_places, is_stored};
+use mt_meta::{all_places, find, is_stored, places_are_found, places_ascend};
 use mt_model::{
     AclEntries, AclEntry, NodeState, NodeStep, Place, Places, Row, StoredRows, Values,
     entries_are_in_order, entries_are_read_again, entries_of, rows_of_a_place_are_in_order,
@@ -49,20 +49,78 @@ fn places_by(alloc: Global, node: &Node, steps: &[NodeStep]) -> Result<Places, A
     ensures valid { IsValid node.now.state }
 {
     let entries = has_other_entries(node, steps);
-    let state = &node.state;
+    match only_place(steps) {
+        Some(place) if !entries => one_place(alloc, &node.state, steps, &place),
+        _ => places_among_all(alloc, &node.state, steps, entries),
+    }
+}
+
+// The place at which all steps set rows, where the first of them does and none sets any elsewhere.
+fn only_place(steps: &[NodeStep]) -> Option<Place>
+    ensures { IfSome result (λ place. list_all (sets_none_beside place) steps.now ≡ true) }
+{
+    match steps.first() {
+        Some(NodeStep::SetRow { place, .. }) if set_none_beside(steps, place) => Some(*place),
+        _ => None,
+    }
+}
+
+fn set_none_beside(steps: &[NodeStep], place: &Place) -> bool
+    ensures { result ≡ list_all (sets_none_beside place.now) steps.now }
+{
+    steps.iter().all(|step| sets_none_beside(place, step))
+}
+
+fn sets_none_beside(place: &Place, step: &NodeStep) -> bool
+    ensures { result ≡ sets_none_beside place.now step.now }
+{
+    match step {
+        NodeStep::SetRow { place: at, .. } => at == place,
+        _ => true,
+    }
+}
+
+// The place alone, where its attribute differs.
+fn one_place(
+    alloc: Global,
+    state: &NodeState,
+    steps: &[NodeStep],
+    place: &Place,
+) -> Result<Places, AllocError>
+    requires { list_all (sets_none_beside place.now) steps.now ≡ true }
+    ensures { IfOk result (λ places. places ≡ filter (differs_with state.now steps.now false) all_places) }
+{
+    places_ascend();
+    places_are_found();
+    let mut places = Places::new(alloc);
+    if differs(state, steps, false, place) && find(place).is_ok() {
+        places.push(*place)?;
+    }
+    Ok(places)
+}
+
+fn places_among_all(
+    alloc: Global,
+    state: &NodeState,
+    steps: &[NodeStep],
+    entries: bool,
+) -> Result<Places, AllocError>
+    ensures { IfOk result (λ places. places ≡ filter (differs_with state.now steps.now entries) all_places) }
+{
     let mut places = all_places(alloc)?.into_vec();
     places.retain(|place| differs(state, steps, entries, place));
     Ok(Places::from_vec(places))
 }
 
-// Whether the attribute differs, where it is known whether the access control list does.
+// Whether the attribute differs, where it is known whether the access control list does. The table is asked last:
+// few places are those of steps.
 fn differs(state: &NodeState, steps: &[NodeStep], entries: bool, place: &Place) -> bool
     ensures { result ≡ differs_with state.now steps.now entries place.now }
 {
-    if is_stored(place) {
-        return has_other_rows(&state.rows, steps, place);
+    if entries && is_acl(place) && !is_stored(place) {
+        return true;
     }
-    is_acl(place) && entries
+    has_other_rows(&state.rows, steps, place) && is_stored(place)
 }
 
 fn is_acl(place: &Place) -> bool

@@ -17,10 +17,12 @@ ghost use Rattle.mt_node.specs.Plan.{HaveRoom, IsMade, IsReady, IsRoomFor, appli
 
 use crate::behind::made_whole;
 use crate::differences::differing;
+use crate::lasting::{change_set, no_change};
 use crate::node::Node;
 use crate::outcome::{Outcome, OutcomeParts};
 use crate::rooms::rooms;
 use crate::telling::events_in;
+use mt_lasting::only_what_lasts_changes;
 use mt_machine::{actions_set_values, actions_tell_their_own};
 use mt_model::{
     AclEntries, AclEntry, Actor, ChangeNumbers, Effect, NodeState, NodeStep, Place, Places, Row,
@@ -78,13 +80,16 @@ fn made_in_place(
     answered: Effect,
     now: u64,
 ) -> Result<Outcome, AllocError>
-    requires { list_all is_setting_step answered.steps ≡ true }
+    requires steps { list_all is_setting_step answered.steps ≡ true }
+    requires taken { may_take_all asking answered.steps (at_time now node.now.state) ≡ true }
     ensures { IfOk result (IsMade node.now.state asking answered now) }
 {
     actions_set_values();
     actions_tell_their_own();
+    only_what_lasts_changes();
     let steps = answered.steps.as_slice();
     let told = events_in(alloc, steps)?;
+    let change = change_set(node, steps)?;
     let places = differing(alloc, node, steps)?;
     let rows_rooms = rooms(alloc, &node.state.rows, steps)?;
     let Some(entries) = entries_needed(&node.state.entries, steps) else {
@@ -96,7 +101,7 @@ fn made_in_place(
         closed: SessionIds::new(alloc),
         gone: None,
         told,
-        asking,
+        change,
         behind: None,
         steps: answered.steps,
         places,
@@ -113,13 +118,14 @@ pub(crate) fn unchanged(alloc: Global, asking: Option<Actor>, answered: Effect, 
 {
     actions_set_values();
     actions_tell_their_own();
+    only_what_lasts_changes();
     Outcome {
         reply: answered.reply,
         session: session_of(asking),
         closed: SessionIds::new(alloc),
         gone: None,
         told: Steps::new(alloc),
-        asking,
+        change: no_change(alloc),
         behind: None,
         steps: answered.steps,
         places: Places::new(alloc),

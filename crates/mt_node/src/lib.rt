@@ -11,9 +11,9 @@
 //! - `between`: what differs between two states;
 //! - `effects`: what the steps of an answer make of the state;
 //! - `telling`: which events an action tells;
+//! - `lasting`: what an action changes of the durable map;
 //! - `rooms`: the room for the rows that the steps set;
-//! - `sight`: what of the node answers are made of;
-//! - `opening`: the state in which a new node begins.
+//! - `sight`: what of the node answers are made of.
 #![tactic(auto)]
 
 mod actors;
@@ -22,8 +22,8 @@ mod between;
 mod commands;
 mod differences;
 mod effects;
+mod lasting;
 mod node;
-mod opening;
 mod outcome;
 mod reads;
 mod requests;

@@ -1,38 +1,43 @@
 //! The node.
 
-ghost use Rattle.std.specs.Prelude.{◌≡◌, ◌↔◌, ◌≤◌, ◌^◌, ◌∷◌, [], None, Some, true, false, IfOk, if◌then◌else◌, option_copied};
+ghost use Rattle.std.specs.Prelude.{◌≡◌, ◌↔◌, ◌∷◌, ℕ, [], None, Some, true, false, IfOk, if◌then◌else◌, option_copied};
+ghost use Rattle.mt_durable.specs.Setting.{with_all};
 ghost use Rattle.mt_model.specs.declared.node.action.NodeStep.TheVariants.{Expire};
 ghost use Rattle.mt_machine.specs.Environment.{Environment};
 ghost use Rattle.mt_machine.specs.Rollback.{is_due};
 ghost use Rattle.mt_machine.specs.State.{IsValid};
 ghost use Rattle.mt_machine.specs.Step.{asker, is_late, session_actor, tick_steps};
 ghost use Rattle.mt_node.specs.Answered.{IsAnswerInTime, is_of_credentials};
-ghost use Rattle.mt_node.specs.Configured.{given_to, in_state, started};
+ghost use Rattle.mt_lasting.specs.Contents.{durable};
+ghost use Rattle.mt_regained.specs.Begun.{MayStart, ceiling_in, first_change};
+ghost use Rattle.mt_node.specs.Configured.{IsStarted, given_to, in_state};
 ghost use Rattle.mt_node.specs.Plan.{IsPlan, IsPlanned, applied};
 ghost use Rattle.mt_opcreds.specs.Judged.{judged_by};
 ghost use Rattle.mt_opcreds.specs.Laws.{KeepsRules};
 
 use crate::effects::{outcome, unchanged};
-use crate::opening::opened;
 use crate::outcome::Outcome;
 use crate::requests::{answered, nothing, refused};
 use crate::sight::view;
 use crate::{actors, effects};
 use mt_admin::tick;
+use mt_durable::Durable;
 use mt_machine::{one_leaves, states_are_valid};
 use mt_meta::clusters::OPERATIONAL_CREDENTIALS;
 use mt_model::{
     Action, Actor, Armed, Config, Effect, ExactCopy, NodeState, NodeStep, Reply, Request, Roots,
     Status, Steps, Verdicts,
 };
+use mt_regained::begun;
 use std::alloc::{AllocError, Global};
 use std::marker::Model;
 
-/// The node. Contracts see its state and the configuration with which it was started.
+/// The node. Contracts see its state, and the configuration and the durable map with which it was started.
 pub struct Node {
     pub(crate) alloc: Global,
     pub(crate) state: NodeState,
     config: Config,
+    durable: Durable,
 }
 
 impl Drop for Node {
@@ -41,6 +46,7 @@ impl Drop for Node {
             alloc: _,
             state: _,
             config: _,
+            durable: _,
         } = self;
     }
 }
@@ -56,25 +62,29 @@ impl Model for Node {
 
     ghost coded = { Prim.hlevel (codes, values.the_row.coded) };
 
-    ghost view = { λ node. record { state = node.state; config = contents_of node.config } };
+    ghost view = { λ node. record { state = node.state; config = contents_of node.config; durable = node.durable } };
 
     ghost invariant = { λ node. IsValid node.state };
 }
 
 impl Node {
-    /// A new node with this configuration, in a boot.
-    pub fn start(alloc: Global, boot: u32, config: &Config) -> Result<Node, AllocError>
-        requires { boot ≤ 2 ^ 31 }
-        ensures { IfOk result (λ node. node ≡ started boot config.now) }
+    /// A node with this configuration, in the boot behind the map with which it goes on, and at which number its events go on. What
+    /// has to be committed first is the number of the boot, with the ceiling of event numbers that is set aside.
+    pub fn start(alloc: Global, map: Durable, config: &Config) -> Result<(Node, u64), AllocError>
+        requires { MayStart map }
+        ensures started { IfOk result (λ both. IsStarted map config.now both.0) }
+        ensures ceiling { IfOk result (λ both. both.1 ≡ ceiling_in map) }
+        ensures first { (next : ℕ) → IfOk result (λ both. with_all (first_change both.0.state.boot next) map ≡ durable both.0.state next) }
     {
-        let state = opened(alloc, boot, config)?;
+        let (state, ceiling) = begun(alloc, config, &map)?;
         let config = config.copy()?;
-        states_are_valid();
-        Ok(Node {
+        let node = Node {
             alloc,
             state,
             config,
-        })
+            durable: map,
+        };
+        Ok((node, ceiling))
     }
 
     /// Plans an action, at this time in ms, by the verdicts on certificates that are handed in. It changes nothing, and
@@ -192,6 +202,13 @@ impl Node {
         ensures { result.now ≡ self.now.config.reachable }
     {
         &self.config.reachable
+    }
+
+    /// The map with which it was started.
+    pub fn durable(&self) -> &Durable
+        ensures { result.now ≡ self.now.durable }
+    {
+        &self.durable
     }
 
     /// The state of the node, lent.

@@ -2,7 +2,8 @@
 
 ghost use Rattle.std.specs.Prelude.{◌≡◌};
 
-use mt_model::{AclEntry, Actor, NodeState, Places, Reply, Row, SessionIds, Steps};
+use mt_durable::Change;
+use mt_model::{AclEntry, NodeState, Places, Reply, Row, SessionIds, Steps};
 
 /// What a planned action answers, and what it makes of the node.
 pub struct Outcome {
@@ -16,8 +17,9 @@ pub struct Outcome {
     pub gone: Option<u8>,
     /// The events that are told, in their order.
     pub told: Steps,
-    /// Who is taken as asking.
-    pub(crate) asking: Option<Actor>,
+    /// What has to be committed before it is put in place: the keys of the durable map under which another value is behind it, but for
+    /// that of event numbers. None is there where nothing of what lasts changes.
+    pub change: Change,
     /// The state behind the action, where that is made whole; None where the steps make it. It is apart, since an outcome is
     /// handed on often and seldom has one.
     pub(crate) behind: Option<Box<NodeState>>,
@@ -40,7 +42,7 @@ impl Drop for Outcome {
             closed: _,
             gone: _,
             told: _,
-            asking: _,
+            change: _,
             behind: _,
             steps: _,
             places: _,
@@ -82,7 +84,7 @@ impl Outcome {
             closed: _,
             gone: _,
             told,
-            asking: _,
+            change: _,
             behind,
             steps,
             places,

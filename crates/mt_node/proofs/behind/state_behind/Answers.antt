@@ -6,8 +6,10 @@ use Rattle.mt_machine.specs.Changes.{differing}
 use Rattle.mt_machine.specs.Effects.{after_all}
 use Rattle.mt_machine.specs.Laws.{AllStayValid, TimesStayValid}
 use Rattle.mt_machine.specs.State.{IsValid}
-use Rattle.mt_machine.specs.Step.{at_time}
+use Rattle.mt_machine.specs.Step.{after_steps, at_time}
 use Rattle.mt_machine.specs.Taking.{may_take_all}
+use Rattle.mt_lasting.specs.Changes.{change_between}
+use Rattle.mt_lasting.specs.Contents.{what_lasts}
 use Rattle.mt_node.specs.Configured.{ConfiguredNode}
 use Rattle.mt_node.proofs.Counts.{newest_up_to, settled_is}
 use Rattle.mt_node.proofs.behind.state_behind.Goals as goal
@@ -23,6 +25,16 @@ make_all-requires-clause-valid c = c.states_are_valid.ensures.times c.in_ok-behi
 
 pub differing_between-requires : goal.differing_between-requires
 differing_between-requires c =
+    let s = c.args.node.now.state in
+    let there : c.node.inside.state ≡ s = ap (λ (kept : ConfiguredNode). kept.state) c.node.view_is in
+    made_valid c.states_are_valid.ensures.times c.steps_leave_states_valid.ensures.all c.args.asking c.args.steps c.args.now s c.in_ok-behind.behind c.make_all.new.state
+    (subst IsValid there c.node.invariant) c.requires (c.in_ok-behind.ensures ∙ there) c.in_ok-make_all.ensures
+
+pub change_to-requires-clause-before : goal.change_to-requires-clause-before
+change_to-requires-clause-before c = c.node.invariant
+
+pub change_to-requires-clause-behind : goal.change_to-requires-clause-behind
+change_to-requires-clause-behind c =
     let s = c.args.node.now.state in
     let there : c.node.inside.state ≡ s = ap (λ (kept : ConfiguredNode). kept.state) c.node.view_is in
     made_valid c.states_are_valid.ensures.times c.steps_leave_states_valid.ensures.all c.args.asking c.args.steps c.args.now s c.in_ok-behind.behind c.make_all.new.state
@@ -56,3 +68,15 @@ returns-clause-made c =
     let made : t ≡ after_all c.args.asking c.args.steps (at_time now s) = c.in_ok-make_all.ensures ∙ ap (λ (x : NodeState). after_all c.args.asking c.args.steps (at_time now x)) copied in
     let places : c.as_slice.result.now ≡ differing (at_time now s) t = c.as_slice.ensures ∙ c.in_ok-places.ensures in
     settled_is c.args.asking c.args.steps (at_time now s) t c.settle.new.state c.as_slice.result.now made places c.settle.ensures
+
+pub returns-clause-change : goal.returns-clause-change
+returns-clause-change c = λ ceiling.
+    let s = c.args.node.now.state in
+    let timed = at_time c.args.now s in
+    let t = c.make_all.new.state in
+    let there : c.node.inside.state ≡ s = ap (λ (kept : ConfiguredNode). kept.state) c.node.view_is in
+    let copied : c.in_ok-behind.behind ≡ s = c.in_ok-behind.ensures ∙ there in
+    let made : t ≡ after_all c.args.asking c.args.steps timed = c.in_ok-make_all.ensures ∙ ap (λ (x : NodeState). after_all c.args.asking c.args.steps (at_time c.args.now x)) copied in
+    c.in_ok-change.ensures ceiling
+    ∙ ap (λ (x : NodeState). change_between x ceiling t ceiling) there
+    ∙ c.only_what_lasts_changes.ensures.alone s t (after_steps c.args.asking c.args.steps timed) ceiling ceiling (ap what_lasts made)

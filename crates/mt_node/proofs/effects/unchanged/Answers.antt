@@ -6,7 +6,7 @@ use Rattle.mt_model.specs.declared.tables.access.Actor.{Actor}
 use Rattle.mt_machine.specs.Effects.{events_in, is_setting_step}
 use Rattle.mt_machine.specs.Step.{at_time}
 use Rattle.mt_node.specs.Plan.{entries_in}
-use Rattle.mt_node.proofs.Applied.{none_have_room, none_made, none_needed}
+use Rattle.mt_node.proofs.Applied.{none_changes, none_have_room, none_made, none_needed}
 use Rattle.mt_node.proofs.effects.unchanged.Goals as goal
 
 pub returns : goal.returns
@@ -20,6 +20,7 @@ returns c = λ s.
       told = c.new-2.ensures ∙ ap events_in (sym c.requires) ∙ sym (c.actions_tell_their_own.ensures.setting asking steps s c.args.now settings);
       aside = (λ i. record { session = c.session_of.ensures i; closed = c.new.ensures i; gone = None }) ∙ sym (c.actions_set_values.ensures.nothing_ends session asking steps s c.args.now settings);
       state = none_made c.actions_set_values.ensures.settled c.actions_set_values.ensures.nowhere asking steps c.new-3.result (at_time c.args.now s) c.requires c.new-3.ensures;
+      change = λ ceiling. c.no_change.ensures ∙ none_changes c.only_what_lasts_changes.ensures.nothing steps c.new-3.result s c.args.now ceiling c.requires c.new-3.ensures;
       ready = (
         settings,
         record {
