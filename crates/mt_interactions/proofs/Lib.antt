@@ -1,4 +1,5 @@
 pub mod Planned
+pub mod Committed
 pub mod Dated
 pub mod Recorded
 pub mod Reported

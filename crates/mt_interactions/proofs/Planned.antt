@@ -25,7 +25,7 @@ use Rattle.mt_node.specs.Plan.{IsPlan, applied}
 use Rattle.mt_model.specs.declared.node.state.NodeState.{NodeState}
 use Rattle.mt_model.specs.declared.tables.fabric.Fabric.{Fabric}
 use Rattle.std.proofs.lemmas.Bool.{cases_Bool}
-use Rattle.mt_interactions.specs.Plan.{IsDone, IsLine, IsPassing, IsTick, applied_history, applied_ledger, is_want_of_memory, left_without}
+use Rattle.mt_interactions.specs.Plan.{IsDone, IsLine, IsPassing, IsPlanned, IsTick, applied_history, applied_ledger, is_want_of_memory, left_without}
 use Rattle.mt_interactions.specs.Replying.{replied_plainly, sent_both}
 use Rattle.mt_interactions.specs.Subscribing.{applied_subs}
 use Rattle.mt_interactions.specs.declared.behind.SubsBehind.{SubsBehind}
@@ -35,7 +35,6 @@ use Rattle.mt_ledger.specs.Asking.{full_reply, line_response, line_wish, with_wi
 use Rattle.mt_ledger.specs.Behind.{Activity, acts, action_in, ledger_behind, subs_done}
 use Rattle.mt_ledger.specs.Ledger.{Ledger}
 use Rattle.mt_ledger.specs.Subscribing.{behind_wish_if_any, wish_asked, wish_in_time}
-use Rattle.mt_interactions.specs.Recording.{may_record}
 use Rattle.mt_ledger.specs.history.Asking.{events_for, with_events}
 use Rattle.mt_ledger.specs.history.Behind.{history_behind}
 use Rattle.mt_ledger.specs.history.History.{History, recorded_all, without_left}
@@ -126,11 +125,11 @@ nobody_changes given s l actor ms (Err fault) deadline none = refl
 -- a request of whoever is taken as asking
 pub request_line : (given : Environment) (s : State) (l : Ledger) (ms : ℕ) (actor asking : Actor) (request : Request) (outcome : InteractionOutcome) → asker s.node actor ≡ Some asking
     → IsPlan given s.node (Ask actor request (deadline_of asking s.deadlines)) ms outcome.node
-    → outcome.ms ≡ ms → may_record outcome.node.told l.history ≡ true
+    → outcome.ms ≡ ms → IsPlanned s l outcome
     → applied_subs outcome.subs ms l.subs ≡ behind_wish_if_any s.node l ms (line_wish s asking ms (Ok request))
     → unwrap_or outcome.deadlines s.deadlines ≡ left_without outcome.node.gone (with_deadline asking s.deadlines ms (Ok request))
     → IsLine given s l ms actor (Ok request) outcome
-request_line given s l ms actor asking request outcome asks p time may made next =
+request_line given s l ms actor asking request outcome asks p time so made next =
     let until = deadline_of asking s.deadlines in
     let behind : NodeState = after_action given s.node (action_of actor (deadline_for s (asker s.node actor)) (Ok request)) ms in
     let node : applied outcome.node s.node ≡ behind = p.state ∙ ap (λ (a : Option Actor). after_action given s.node (action_of actor (deadline_for s a) (Ok request)) ms) (sym asks) in
@@ -142,7 +141,7 @@ request_line given s l ms actor asking request outcome asks p time may made next
       state = λ i. record { node = node i; deadlines = deadlines i };
       ledger = ledger_of given s l (acts (Ask actor request until)) ms outcome time p subs
           ∙ ap (λ (a : Option Actor). ledger_behind given s.node (acts (action_of actor (deadline_for s a) (Ok request))) ms l) (sym asks);
-      planned = record { node = (given, (Ask actor request until, (ms, p))); recordable = may };
+      planned = so;
     }
 
 pub request_sent : (given : Environment) (s : State) (l : Ledger) (ms : ℕ) (actor asking : Actor) (request : Request) (messages : List Sent) (reply : Reply) → asker s.node actor ≡ Some asking
@@ -157,18 +156,18 @@ request_sent given s l ms actor asking request messages reply asks is sends =
 -- a payload that is no request, of whoever is taken as asking
 pub refused_line : (given : Environment) (s : State) (l : Ledger) (ms : ℕ) (actor asking : Actor) (fault : ImFault) (outcome : InteractionOutcome) → asker s.node actor ≡ Some asking
     → IsPlan given s.node Nothing ms outcome.node
-    → outcome.ms ≡ ms → may_record outcome.node.told l.history ≡ true
+    → outcome.ms ≡ ms → IsPlanned s l outcome
     → applied_subs outcome.subs ms l.subs ≡ l.subs
     → unwrap_or outcome.deadlines s.deadlines ≡ with_deadline asking s.deadlines ms (Err fault)
     → IsLine given s l ms actor (Err fault) outcome
-refused_line given s l ms actor asking fault outcome asks p time may made next =
+refused_line given s l ms actor asking fault outcome asks p time so made next =
     let deadlines : unwrap_or outcome.deadlines s.deadlines ≡ deadlines_of_those_left s.node (after_action given s.node Nothing ms) (deadlines_after (asker s.node actor) s.deadlines ms (Err fault)) =
     next ∙ ap (λ (a : Option Actor). deadlines_after a s.deadlines ms (Err fault)) (sym asks)
     ∙ all_left s.node (after_action given s.node Nothing ms) refl (deadlines_after (asker s.node actor) s.deadlines ms (Err fault)) in
     record {
       state = λ i. record { node = p.state i; deadlines = deadlines i };
       ledger = ledger_of given s l (acts Nothing) ms outcome time p made;
-      planned = record { node = (given, (Nothing, (ms, p))); recordable = may };
+      planned = so;
     }
 
 pub refused_sent : (given : Environment) (s : State) (l : Ledger) (ms : ℕ) (actor asking : Actor) (fault : ImFault) (messages : List Sent) → asker s.node actor ≡ Some asking → messages ≡ sent_as ms asking.fabric (fault_reply fault)
@@ -225,30 +224,30 @@ left_due : (due : Bool) (armed : Option Armed) (ds : List PlainDeadline) → lef
 left_due true armed ds = left_armed armed ds
 left_due false armed ds = refl
 
-pub tick_of : TakesTheAddedAway → (given : Environment) (s : State) (l : Ledger) (ms : ℕ) (outcome : InteractionOutcome) → IsValid s.node → outcome.ms ≡ ms → may_record outcome.node.told l.history ≡ true → applied_subs outcome.subs ms l.subs ≡ l.subs → IsPlan given s.node Expire ms outcome.node
+pub tick_of : TakesTheAddedAway → (given : Environment) (s : State) (l : Ledger) (ms : ℕ) (outcome : InteractionOutcome) → IsValid s.node → outcome.ms ≡ ms → IsPlanned s l outcome → applied_subs outcome.subs ms l.subs ≡ l.subs → IsPlan given s.node Expire ms outcome.node
     → unwrap_or outcome.deadlines s.deadlines ≡ left_without outcome.node.gone s.deadlines → IsTick given s l ms outcome
-tick_of takes given s l ms outcome valid time may made plan left =
+tick_of takes given s l ms outcome valid time so made plan left =
     let gone : outcome.node.gone ≡ (if is_due s.node.armed ms then added_in s.node.armed else None) = ap (λ (aside : Aside). aside.gone) plan.aside ∙ takes given s.node ms valid in
     let deadlines : unwrap_or outcome.deadlines s.deadlines ≡ (if is_due s.node.armed ms then deadlines_left s.node.armed s.deadlines else s.deadlines) =
     left ∙ ap (λ (g : Option ℕ). left_without g s.deadlines) gone ∙ left_due (is_due s.node.armed ms) s.node.armed s.deadlines in
     record {
       state = λ i. record { node = plan.state i; deadlines = deadlines i };
       ledger = ledger_of given s l (acts Expire) ms outcome time plan made;
-      planned = record { node = (given, (Expire, (ms, plan))); recordable = may };
+      planned = so;
     }
 
 -- What no line of a plain actor does.
 
 -- time passes
-pub passes : (given : Environment) (s : State) (l : Ledger) (ms : ℕ) (subs : SubsBehind) (outcome : InteractionOutcome) → outcome.deadlines ≡ None → outcome.ms ≡ ms → outcome.subs ≡ subs → may_record outcome.node.told l.history ≡ true → IsPlan given s.node Nothing ms outcome.node
+pub passes : (given : Environment) (s : State) (l : Ledger) (ms : ℕ) (subs : SubsBehind) (outcome : InteractionOutcome) → outcome.deadlines ≡ None → outcome.ms ≡ ms → outcome.subs ≡ subs → IsPlanned s l outcome → IsPlan given s.node Nothing ms outcome.node
     → IsPassing given s l ms subs outcome
-passes given s l ms subs outcome none time made may plan =
+passes given s l ms subs outcome none time made so plan =
     let deadlines : unwrap_or outcome.deadlines s.deadlines ≡ deadlines_of_those_left s.node (after_action given s.node Nothing ms) s.deadlines =
     ap (λ (d : Option (List PlainDeadline)). unwrap_or d s.deadlines) none ∙ all_left s.node (after_action given s.node Nothing ms) refl s.deadlines in
     record {
       state = λ i. record { node = plan.state i; deadlines = deadlines i };
       ledger = λ i. record { history = tells given s l.history Nothing ms outcome time plan i; subs = left_in (plan.state i) (applied_subs (made i) (time i) l.subs) };
-      planned = record { node = (given, (Nothing, (ms, plan))); recordable = may };
+      planned = so;
     }
 
 -- what is done where time passes, and this is made of the subscriptions
@@ -261,17 +260,17 @@ passing_does given s l ms subs activity outcome nothing made passing = record {
 }
 
 -- what is asked over a session
-pub asked_over : (given : Environment) (s : State) (l : Ledger) (ms : ℕ) (actor asking : Actor) (request : Request) (timed : Option ℕ) (outcome : InteractionOutcome) → asker s.node actor ≡ Some asking → outcome.ms ≡ ms → may_record outcome.node.told l.history ≡ true → IsPlan given s.node (Ask actor request timed) ms outcome.node
+pub asked_over : (given : Environment) (s : State) (l : Ledger) (ms : ℕ) (actor asking : Actor) (request : Request) (timed : Option ℕ) (outcome : InteractionOutcome) → asker s.node actor ≡ Some asking → outcome.ms ≡ ms → IsPlanned s l outcome → IsPlan given s.node (Ask actor request timed) ms outcome.node
     → applied_subs outcome.subs ms l.subs ≡ behind_wish_if_any s.node l ms (wish_in_time asking timed ms request)
     → unwrap_or outcome.deadlines s.deadlines ≡ left_without outcome.node.gone s.deadlines → IsDone given s l (acts (Ask actor request timed)) ms outcome
-asked_over given s l ms actor asking request timed outcome asks time may plan made left =
+asked_over given s l ms actor asking request timed outcome asks time so plan made left =
     let behind : NodeState = after_action given s.node (Ask actor request timed) ms in
     let deadlines : unwrap_or outcome.deadlines s.deadlines ≡ deadlines_of_those_left s.node behind s.deadlines =
     left ∙ left_is_gone s.node (applied outcome.node s.node) outcome.node.gone plan.leaves s.deadlines ∙ ap (λ (now : NodeState). deadlines_of_those_left s.node now s.deadlines) plan.state in
     record {
       state = λ i. record { node = plan.state i; deadlines = deadlines i };
       ledger = ledger_of given s l (acts (Ask actor request timed)) ms outcome time plan (made ∙ ap (λ (a : Option Actor). behind_wish_if_any s.node l ms (wish_asked a timed ms request)) (sym asks));
-      planned = record { node = (given, (Ask actor request timed, (ms, plan))); recordable = may };
+      planned = so;
     }
 
 -- what it is replied

@@ -1,3 +1,4 @@
+pub mod Committing
 pub mod Configured
 pub mod Plan
 pub mod Recording

@@ -1,13 +1,15 @@
 -- What an outcome stands for.
-use Rattle.std.specs.Prelude.{◌≡◌, ℕ, Bool, true, false, List, Option, Some, None, Result, Ok, Err, filter, length, unwrap_or}
+use Rattle.std.specs.Prelude.{◌≡◌, ℕ, ◌++◌, Bool, true, false, List, Option, Some, None, Result, Ok, Err, filter, length, unwrap_or}
 use Rattle.mt_im.specs.declared.fault.ImFault.{ImFault}
 use Rattle.mt_im.specs.declared.fault.ImFault.TheVariants as faults
 use Rattle.mt_model.specs.tables.Leaving.{stays}
 use Rattle.mt_model.specs.declared.tables.access.Actor.{Actor}
 use Rattle.mt_model.specs.declared.node.action.PlainDeadline.{PlainDeadline}
 use Rattle.mt_model.specs.declared.messages.message.Request.{Request}
+use Rattle.mt_lasting.specs.Changes.{bytes_to_commit, change_between, raised}
 use Rattle.mt_node.specs.Plan as nodes
 use Rattle.mt_node.specs.Plan.{applied}
+use Rattle.mt_node.specs.declared.outcome.Outcome.{Outcome}
 use Rattle.mt_model.specs.declared.node.action.Action.TheVariants.{Expire, Nothing}
 use Rattle.mt_subs.specs.Leaving.{left_in}
 use Rattle.mt_machine.specs.Environment.{Environment}
@@ -55,10 +57,17 @@ applied_ledger outcome s l = record {
   subs = left_in (applied outcome.node s.node) (applied_subs outcome.subs outcome.ms l.subs);
 }
 
--- The outcome was made on this state, where this was the ledger, in which all that it tells can be recorded.
+-- What has to be committed for a node's outcome at a time: what it changes, and in front of that the ceiling of event numbers, where what it
+-- tells raises that.
+abbrev pub told_to_commit : History → ℕ → Outcome → List ℕ
+told_to_commit h ms node = bytes_to_commit (raised h.numbers.ceiling (recorded_all ms node.told (without_left node.gone h)).numbers.ceiling ++ node.change)
+
+-- The outcome was made on this state, where this was the ledger, in which all that it tells can be recorded. What is to be committed before it
+-- is put in place leads from the durable map before it to that behind it.
 pub record IsPlanned (s : State) (l : Ledger) (outcome : InteractionOutcome) : Type 0 where
   pub node : nodes.IsPlanned s.node outcome.node
   pub recordable : may_record outcome.node.told l.history ≡ true
+  pub change : outcome.change ≡ bytes_to_commit (change_between s.node l.history.numbers.ceiling (applied outcome.node s.node) (applied_history outcome l.history).numbers.ceiling)
 
 -- The outcome is that of a line of this actor, whose payload was decoded to this.
 pub record IsLine (given : Environment) (s : State) (l : Ledger) (ms : ℕ) (actor : Actor) (asked : Result Request ImFault) (outcome : InteractionOutcome) : Type 0 where

@@ -1,6 +1,6 @@
 //! What the node remembers of events: the latest ones, and the numbers.
 
-ghost use Rattle.std.specs.Prelude.{◌≡◌, ◌+◌, ◌≤◌, ◌^◌, IfOk, length, true};
+ghost use Rattle.std.specs.Prelude.{◌≡◌, ℕ, ◌+◌, ◌*◌, ◌≤◌, ◌^◌, IfOk, Option, length, true};
 ghost use Rattle.std.specs.List.{list_all, list_any};
 ghost use Rattle.mt_events.specs.Reading.{asking, is_told};
 ghost use Rattle.mt_events.specs.Rings.{AreRings};
@@ -9,7 +9,7 @@ ghost use Rattle.mt_ledger.specs.history.History.{begun_at, happened, recorded, 
 ghost use Rattle.mt_tlv.specs.declared.value.Tag.TheVariants.{Context};
 ghost use Rattle.mt_tlv.specs.declared.value.Value.TheVariants as kinds;
 ghost use Rattle.mt_tlv.specs.Tree.{uint, none, more};
-ghost use Rattle.mt_interactions.specs.Recording.{StartsMayRecord, is_of_a_fabric, may_record};
+ghost use Rattle.mt_interactions.specs.Recording.{StartsMayRecord, is_of_a_fabric, may_record, numbers_after, numbers_behind};
 
 use mt_events::{Numbers, Rings};
 use mt_ledger::{histories_grow_by_events, histories_stay_histories};
@@ -135,6 +135,14 @@ impl History {
         self.numbers.ceiling <= LAST_CEILING && told.len() <= MOST_EVENTS && are_of_fabrics(told)
     }
 
+    /// The ceiling of event numbers behind an action that tells this, at whatever time, whichever fabric goes.
+    pub(crate) fn ceiling_behind(&self, told: &[NodeStep]) -> u64
+        requires { may_record told.now self.now ≡ true }
+        ensures { (ms : ℕ) (gone : Option ℕ) → result ≡ (recorded_all ms told.now (without_left gone self.now)).numbers.ceiling }
+    {
+        numbers_after(self.numbers, told).ceiling
+    }
+
     /// Makes of the history what an action makes of it at this time, in ms: what is private to the fabric that goes is forgotten,
     /// and all that is told is recorded. It takes no memory, and cannot fail.
     pub(crate) fn pass_on(&mut self, gone: Option<u8>, ms: u64, told: Steps)
@@ -189,6 +197,34 @@ impl History {
             });
         }
     }
+}
+
+// The numbers behind what is told.
+fn numbers_after(numbers: Numbers, told: &[NodeStep]) -> Numbers
+    requires within { numbers.next ≤ numbers.ceiling }
+    requires room { numbers.ceiling + 1024 * length told.now ≤ 2 ^ 62 }
+    ensures { result ≡ numbers_after told.now numbers }
+{
+    let mut behind = numbers;
+    for step in told {
+        behind = numbers_behind(step, behind);
+    }
+    behind
+}
+
+// The numbers behind a step, which takes one where it tells of an event.
+fn numbers_behind(step: &NodeStep, numbers: Numbers) -> Numbers
+    requires within { numbers.next ≤ numbers.ceiling }
+    requires room { numbers.ceiling ≤ 2 ^ 62 }
+    ensures behind { result ≡ numbers_behind step.now numbers }
+    ensures within { result.next ≤ result.ceiling }
+    ensures ceiling { result.ceiling ≤ numbers.ceiling + 1024 }
+{
+    let mut numbers = numbers;
+    if let NodeStep::Emit { .. } = step {
+        let _ = numbers.take();
+    }
+    numbers
 }
 
 fn are_of_fabrics(told: &[NodeStep]) -> bool

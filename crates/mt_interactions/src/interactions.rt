@@ -1,18 +1,21 @@
 //! The node with its plain actors.
 
-ghost use Rattle.std.specs.Prelude.{◌≡◌, ◌≤◌, ◌^◌, IfOk, option_copied};
+ghost use Rattle.std.specs.Prelude.{◌≡◌, IfOk, option_copied};
 ghost use Rattle.mt_machine.specs.Lines.{line_actor};
 ghost use Rattle.mt_im.specs.Limits.{IsWithinLimits};
 ghost use Rattle.mt_im.specs.Reading.{request_in};
 ghost use Rattle.mt_runs.specs.Lines.{sent_asked};
-ghost use Rattle.mt_interactions.specs.Configured.{behind, given_to, started};
+ghost use Rattle.mt_regained.specs.Begun.{MayStart};
+ghost use Rattle.mt_interactions.specs.Configured.{IsFirst, IsStarted, behind, given_to};
 ghost use Rattle.mt_interactions.specs.Plan.{IsLine, IsPlanned, IsTick, applied_ledger, applied_state, is_want_of_memory};
 
 use crate::behind::make;
 use crate::history::History;
 use crate::lines::{line_actor, planned_line};
 use crate::outcome::InteractionOutcome;
+use crate::starting::first_change;
 use crate::ticks::planned_tick;
+use mt_durable::Durable;
 use mt_im::{ImFault, decode};
 use mt_model::{Armed, Config, PlainDeadlines, Request, SentList, Verdicts};
 use mt_node::Node;
@@ -22,7 +25,8 @@ use std::alloc::{AllocError, Global};
 use std::marker::Model;
 
 /// The node, and around it what it remembers of events and subscriptions, and the deadlines of plain actors. Contracts see the
-/// state of the node and the deadlines, the ledger of events and subscriptions, and the configuration with which it was started.
+/// state of the node and the deadlines, the ledger of events and subscriptions, and the configuration and the durable map with
+/// which it was started.
 pub struct Interactions {
     pub(crate) alloc: Global,
     pub(crate) node: Node,
@@ -52,30 +56,33 @@ impl Model for Interactions {
 
     ghost coded = { Prim.hlevel (codes, values.the_row.coded) };
 
-    ghost view = { λ interactions. record { state = record { node = interactions.node.state; deadlines = interactions.deadlines }; ledger = record { history = interactions.history; subs = interactions.subs }; config = interactions.node.config } };
+    ghost view = { λ interactions. record { state = record { node = interactions.node.state; deadlines = interactions.deadlines }; ledger = record { history = interactions.history; subs = interactions.subs }; config = interactions.node.config; durable = interactions.node.durable } };
 }
 
 impl Interactions {
-    /// A new node with this configuration, in a boot, where this ceiling of event numbers was stored. Its start is told;
-    /// nobody has a deadline or has subscribed.
+    /// A node with this configuration, in the boot behind the map with which it goes on, and the bytes of the change that has to be
+    /// committed first: the number of the boot, and the ceiling of the event numbers that are set aside for it. Its start is
+    /// told; nobody has a deadline or has subscribed.
     pub fn start(
         alloc: Global,
-        boot: u32,
-        ceiling: u64,
+        map: Durable,
         config: &Config,
-    ) -> Result<Interactions, AllocError>
-        requires boot { boot ≤ 2 ^ 31 }
-        requires ceiling { ceiling ≤ 2 ^ 61 }
-        ensures { IfOk result (λ interactions. interactions ≡ started boot ceiling config.now) }
+    ) -> Result<(Interactions, Bytes), AllocError>
+        requires { MayStart map }
+        ensures started { IfOk result (λ both. IsStarted map config.now both.0) }
+        ensures first { IfOk result (λ both. IsFirst map both.0 both.1) }
     {
-        let node = Node::start(alloc, boot, config)?;
-        Ok(Interactions {
+        let (node, ceiling) = Node::start(alloc, map, config)?;
+        let history = History::begun(alloc, ceiling)?;
+        let first = first_change(alloc, node.state().boot, history.numbers().ceiling)?;
+        let interactions = Interactions {
             alloc,
             node,
-            history: History::begun(alloc, ceiling)?,
+            history,
             subs: Subs::new(alloc),
             deadlines: PlainDeadlines::new(alloc),
-        })
+        };
+        Ok((interactions, first))
     }
 
     /// Plans a line of a plain actor of a fabric, with the payload of its message, by the verdicts on certificates that are

@@ -1,7 +1,8 @@
 //! The node, and around it what belongs to plain actors, who have no session. A line is planned, which changes nothing
 //! and takes all the memory, and then applied, which takes none. What is asked over a session is planned here too.
 //!
-//! - `plain`: the node with its plain actors, how it starts, plans and applies;
+//! - `interactions`: the node with its plain actors, how it starts, plans and applies;
+//! - `starting`: what it commits first;
 //! - `outcome`: what comes of a line;
 //! - `lines`: a line of a plain actor, from its payload to what is sent;
 //! - `sessions`: what is asked over a session;
@@ -15,13 +16,15 @@
 //! - `behind`: what is made of the subscriptions;
 //! - `deadlines`: until when the next requests of plain actors must come;
 //! - `sending`: the messages of a reply;
-//! - `seeing`: what it is, lent to whoever compares.
+//! - `seeing`: what it is, lent to whoever compares;
+//! - `laws`: what holds of what is committed.
 #![tactic(auto)]
 
 mod behind;
 mod deadlines;
 mod history;
 mod interactions;
+mod laws;
 mod lines;
 mod outcome;
 mod reporting;
@@ -29,6 +32,7 @@ mod reports;
 mod seeing;
 mod sending;
 mod sessions;
+mod starting;
 mod subscribing;
 mod telling;
 mod ticks;
@@ -36,4 +40,5 @@ mod wishes;
 
 pub use history::starts_may_record;
 pub use interactions::{Interactions, asked};
+pub use laws::commits_lead_on;
 pub use outcome::InteractionOutcome;

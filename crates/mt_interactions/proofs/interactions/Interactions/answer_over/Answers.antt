@@ -9,7 +9,7 @@ use Rattle.mt_ledger.specs.Behind.{acts}
 use Rattle.mt_runs.specs.Datagrams.{actor_on, dated, deadline_set}
 use Rattle.mt_node.specs.Plan.{IsPlan}
 use Rattle.mt_interactions.specs.Configured.{ConfiguredInteractions, given_to}
-use Rattle.mt_interactions.specs.Plan.{IsDone, left_without}
+use Rattle.mt_interactions.specs.Plan.{IsDone, IsPlanned, left_without, told_to_commit}
 use Rattle.mt_interactions.specs.declared.outcome.InteractionOutcome.{InteractionOutcome}
 use Rattle.mt_interactions.proofs.Planned.{asked_over, nobody_over, nobody_replied, replied}
 use Rattle.mt_interactions.proofs.interactions.Interactions.answer_over.Goals as goal
@@ -50,7 +50,7 @@ returns-clause-payloads g c =
     let request = c.args.request.now in
     let actor = actor_on c.args.session in
     let until = deadline_set c.args.timed c.args.ms (Ok request) in
-    let here : ConfiguredInteractions = record { state = record { node = inside.node.state; deadlines = inside.deadlines }; ledger = record { history = inside.history; subs = inside.subs }; config = inside.node.config } in
+    let here : ConfiguredInteractions = record { state = record { node = inside.node.state; deadlines = inside.deadlines }; ledger = record { history = inside.history; subs = inside.subs }; config = inside.node.config; durable = inside.node.durable } in
     let asks : asker kept.state.node actor ≡ Some c.in-Some.asking =
     ap (λ (k : ConfiguredInteractions). asker k.state.node actor) (sym c.self.view_is) ∙ ap (λ (a : Actor). asker inside.node.state a) (sym c.actor_on-actor.ensures) ∙ sym c.asker.ensures ∙ c.in-Some.is in
     let plan : IsPlan given kept.state.node (Ask actor request c.args.timed) c.args.ms c.in_ok-node.node = subst (λ (k : ConfiguredInteractions). IsPlan (given_to k roots csrs rows) k.state.node (Ask actor request c.args.timed) c.args.ms c.in_ok-node.node) c.self.view_is
@@ -59,6 +59,29 @@ returns-clause-payloads g c =
     ∙ ap (λ (u : Option ℕ). dated u c.in_ok-payloads-2.payloads) c.deadline_set.ensures
     ∙ ap (dated until) c.in_ok-payloads-2.ensures.payloads
     ∙ ap (λ (r : Reply). dated until (chunks_of r)) (replied given kept.state.node kept.ledger c.args.ms actor c.in-Some.asking request c.args.timed c.in_ok-node.node.reply asks plan.reply)
+
+pub outcome-requires : goal.outcome-requires
+outcome-requires g c =
+    let verdicts = c.args.verdicts.now in
+    let roots = g.V.Verdicts.roots verdicts in
+    let csrs = g.V.Verdicts.csrs verdicts in
+    let rows = g.V.Verdicts.joins verdicts in
+    let inside = c.self.inside in
+    let request = c.args.request.now in
+    let actor = actor_on c.args.session in
+    let ms = c.args.ms in
+    let node = c.in_ok-node.node in
+    let here : ConfiguredInteractions = record { state = record { node = inside.node.state; deadlines = inside.deadlines }; ledger = record { history = inside.history; subs = inside.subs }; config = inside.node.config; durable = inside.node.durable } in (
+      given_to c.args.self.now roots csrs rows,
+      (
+        Ask actor request c.args.timed,
+        (
+          ms,
+          subst (λ (k : ConfiguredInteractions). IsPlan (given_to k roots csrs rows) k.state.node (Ask actor request c.args.timed) ms node) c.self.view_is
+              (subst (λ (a : Actor). IsPlan (given_to here roots csrs rows) here.state.node (Ask a request c.args.timed) ms node) c.actor_on-actor.ensures c.in_ok-node.ensures),
+        ),
+      ),
+    )
 
 pub returns-clause-outcome : goal.returns-clause-outcome
 returns-clause-outcome g c =
@@ -73,7 +96,7 @@ returns-clause-outcome g c =
     let actor = actor_on c.args.session in
     let ms = c.args.ms in
     let node = c.in_ok-node.node in
-    let here : ConfiguredInteractions = record { state = record { node = inside.node.state; deadlines = inside.deadlines }; ledger = record { history = inside.history; subs = inside.subs }; config = inside.node.config } in
+    let here : ConfiguredInteractions = record { state = record { node = inside.node.state; deadlines = inside.deadlines }; ledger = record { history = inside.history; subs = inside.subs }; config = inside.node.config; durable = inside.node.durable } in
     let asks : asker kept.state.node actor ≡ Some c.in-Some.asking =
     ap (λ (k : ConfiguredInteractions). asker k.state.node actor) (sym c.self.view_is) ∙ ap (λ (a : Actor). asker inside.node.state a) (sym c.actor_on-actor.ensures) ∙ sym c.asker.ensures ∙ c.in-Some.is in
     let plan : IsPlan given kept.state.node (Ask actor request c.args.timed) ms node = subst (λ (k : ConfiguredInteractions). IsPlan (given_to k roots csrs rows) k.state.node (Ask actor request c.args.timed) ms node) c.self.view_is
@@ -81,6 +104,6 @@ returns-clause-outcome g c =
     let ds : c.as_slice.result.now ≡ kept.state.deadlines = c.as_slice.ensures ∙ ap (λ (k : ConfiguredInteractions). k.state.deadlines) c.self.view_is in
     let left : unwrap_or c.in_ok-deadlines.deadlines kept.state.deadlines ≡ left_without node.gone kept.state.deadlines =
     subst (λ (l : List PlainDeadline). unwrap_or c.in_ok-deadlines.deadlines l ≡ left_without node.gone l) ds c.in_ok-deadlines.ensures in
-    let made : InteractionOutcome = record { ms = ms; node = node; deadlines = c.in_ok-deadlines.deadlines; subs = c.in_ok-payloads-2.subs } in
+    let made : InteractionOutcome = record { ms = ms; node = node; deadlines = c.in_ok-deadlines.deadlines; subs = c.in_ok-payloads-2.subs; change = told_to_commit kept.ledger.history ms node } in
     subst (λ (x : InteractionOutcome). IsDone given kept.state kept.ledger (acts (Ask actor request c.args.timed)) ms x) (sym c.in_ok-outcome.ensures.made)
-    (asked_over given kept.state kept.ledger ms actor c.in-Some.asking request c.args.timed made asks refl c.in_ok-outcome.ensures.recordable plan c.in_ok-payloads-2.ensures.subs left)
+    (asked_over given kept.state kept.ledger ms actor c.in-Some.asking request c.args.timed made asks refl (subst (IsPlanned kept.state kept.ledger) c.in_ok-outcome.ensures.made c.in_ok-outcome.ensures.planned) plan c.in_ok-payloads-2.ensures.subs left)
