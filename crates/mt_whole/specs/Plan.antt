@@ -1,6 +1,9 @@
 -- What an outcome stands for.
 use Rattle.std.specs.Prelude.{◌≡◌, ℕ, List, [], Option, Some, None}
+use Rattle.mt_durable.specs.declared.durable.Entry.{Entry}
+use Rattle.mt_model.specs.declared.node.state.NodeState.{NodeState}
 use Rattle.mt_model.specs.declared.texts.config.RootRow.{RootRow}
+use Rattle.mt_model.specs.declared.texts.config.SessionRow.{SessionRow}
 use Rattle.mt_model.specs.declared.texts.config.CsrRow.{CsrRow}
 use Rattle.mt_model.specs.declared.texts.config.JoinRow.{JoinRow}
 use Rattle.mt_model.specs.declared.texts.recording.Event.{Event}
@@ -19,9 +22,10 @@ use Rattle.mt_machine.specs.Lines.{behind_action}
 use Rattle.mt_machine.specs.State.{State}
 use Rattle.mt_runs.specs.Datagrams.{Answer, all_sent, answer_to, activity_resent, activity_said, if_any, resent_over, resent_talk, said_to, sent_over, session_named, talked}
 use Rattle.mt_ledger.specs.Behind.{acts, action_in, ledger_behind}
-use Rattle.mt_ledger.specs.Ledger.{Ledger}
+use Rattle.mt_ledger.specs.Ledger.{Ledger, opened_at}
+use Rattle.mt_regained.specs.Begun.{ceiling_in, next_boot}
 use Rattle.mt_runs.specs.Lines.{ledger_after, sent, state_behind, talks_behind}
-use Rattle.mt_runs.specs.Whole.{SessionTalk, Whole, talk_of, whole_with}
+use Rattle.mt_runs.specs.Whole.{SessionTalk, Whole, begun_in, talk_of}
 use Rattle.mt_interactions.specs.Configured as configured
 use Rattle.mt_interactions.specs.Plan as interactions
 use Rattle.mt_interactions.specs.Plan.{applied_ledger, applied_state}
@@ -36,10 +40,15 @@ use Rattle.mt_whole.specs.Talks.{AreTalks, IsWholeOf, put}
 abbrev pub given_to : whole.Whole → List RootRow → List CsrRow → List JoinRow → Environment
 given_to one roots csrs joins = configured.given_to one.interactions roots csrs joins
 
--- a whole that was started in a boot, at a stored ceiling, with this configuration
-pub record IsStarted (boot ceiling : ℕ) (config : Config) (one : whole.Whole) : Type 0 where
-  pub begun : one.interactions ≡ configured.started boot ceiling config
-  pub stands : IsWholeOf one (whole_with boot ceiling config.fabrics config.entries config.sessions)
+-- the whole that begins in this state of the node, where this ceiling of event numbers was stored: nobody has a deadline or has subscribed, and
+-- nothing has been said over the sessions of its boot
+abbrev pub whole_from : NodeState → ℕ → List SessionRow → Whole
+whole_from s ceiling sessions = record { state = record { node = s; deadlines = [] }; ledger = opened_at ceiling; talks = begun_in s.boot sessions }
+
+-- a whole that was started with the map with which a node goes on, and with this configuration
+pub record IsStarted (map : List Entry) (config : Config) (one : whole.Whole) : Type 0 where
+  pub begun : configured.IsStarted map config one.interactions
+  pub stands : (s : NodeState) → next_boot config map ≡ Some s → IsWholeOf one (whole_from s (ceiling_in map) config.sessions)
 
 -- a message that was let in, as the code tells it
 abbrev pub told_fresh : Option (ℕ × ProtocolHeader × List ℕ) → Option Arrival

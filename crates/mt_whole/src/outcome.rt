@@ -38,6 +38,13 @@ impl WholeOutcome {
         replace(&mut self.sent, SentList::new(alloc))
     }
 
+    /// The bytes of the change that has to be committed before it is put in place, none where nothing of what lasts changes.
+    pub fn change(&self) -> &[u8]
+        ensures { result.now ≡ self.now.interactions.change }
+    {
+        self.interactions.change()
+    }
+
     /// The sessions that end with it.
     pub fn closed(&self) -> &[u16]
         ensures { result.now ≡ self.now.interactions.node.closed }

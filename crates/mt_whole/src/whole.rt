@@ -1,10 +1,12 @@
 //! The whole.
 
-ghost use Rattle.std.specs.Prelude.{◌≡◌, ◌≤◌, ◌^◌, IfOk, IfSome, is_some, option_copied};
+ghost use Rattle.std.specs.Prelude.{◌≡◌, IfOk, IfSome, is_some, option_copied};
 ghost use Rattle.mt_machine.specs.Environment.{Environment};
 ghost use Rattle.mt_model.specs.declared.texts.recording.Event.{Event as Line};
 ghost use Rattle.mt_runs.specs.Lines.{is_built, next};
 ghost use Rattle.mt_runs.specs.Whole.{Whole as Told, fabric_live};
+ghost use Rattle.mt_regained.specs.Begun.{MayStart};
+ghost use Rattle.mt_interactions.specs.Configured.{IsFirst};
 ghost use Rattle.mt_whole.specs.Plan.{Brings, IsPlainly, IsPlan, IsPlanned, IsStarted, given_to};
 ghost use Rattle.mt_whole.specs.Talks.{IsWholeOf};
 
@@ -13,8 +15,10 @@ use crate::outcome::WholeOutcome;
 use crate::reports::planned_report;
 use crate::resends::planned_resend;
 use crate::talks::{SessionTalk, begun, let_go, put_if_any};
+use mt_durable::Durable;
 use mt_interactions::{InteractionOutcome, Interactions};
 use mt_model::{Armed, Config, Event, SentList, Verdicts};
+use mt_tlv::Bytes;
 use std::alloc::{AllocError, Global};
 
 /// The node, the deadlines of plain actors, its events and subscriptions, and what is said over each session. Contracts
@@ -36,23 +40,21 @@ impl Drop for Whole {
 }
 
 impl Whole {
-    /// A new node with this configuration, in a boot, where this ceiling of event numbers was stored; nobody has a
-    /// deadline or has subscribed, and nothing has been said.
-    pub fn start(
-        alloc: Global,
-        boot: u32,
-        ceiling: u64,
-        config: &Config,
-    ) -> Result<Whole, AllocError>
-        requires boot { boot ≤ 2 ^ 31 }
-        requires ceiling { ceiling ≤ 2 ^ 61 }
-        ensures { IfOk result (IsStarted boot ceiling config.now) }
+    /// A node with this configuration, in the boot behind the map with which it goes on, and the bytes of the change that has to be
+    /// committed first. Nobody has a deadline or has subscribed, and nothing has been said.
+    pub fn start(alloc: Global, map: Durable, config: &Config) -> Result<(Whole, Bytes), AllocError>
+        requires { MayStart map }
+        ensures started { IfOk result (λ both. IsStarted map config.now both.0) }
+        ensures first { IfOk result (λ both. IsFirst map both.0.interactions both.1) }
     {
-        Ok(Whole {
+        let (interactions, first) = Interactions::start(alloc, map, config)?;
+        let talks = begun(alloc, interactions.state().boot, config.sessions.as_slice())?;
+        let whole = Whole {
             alloc,
-            interactions: Interactions::start(alloc, boot, ceiling, config)?,
-            talks: begun(alloc, boot, config.sessions.as_slice())?,
-        })
+            interactions,
+            talks,
+        };
+        Ok((whole, first))
     }
 
     /// Plans an event of a recording, None exactly where it is not built, by the verdicts on certificates that are
