@@ -10,13 +10,12 @@ ghost use Rattle.mt_whole.specs.Plan.{IsPlan, IsPlanned};
 ghost use Rattle.mt_play.specs.Plays.{IsPlaying, StepsTo};
 
 use mt_model::{Config, Event, SentList, TableVerdicts};
+use mt_regained::{new_map, reopened_nodes_may_start};
 use mt_whole::{Whole, WholeOutcome};
 use std::alloc::{AllocError, Global};
 
 // What is played is the first boot of a node, which has told of nothing before.
 pub(crate) const FIRST_BOOT: u32 = 1;
-
-const FIRST_CEILING: u64 = 0;
 
 /// A node, and the verdicts on certificates by which it plays. Contracts say for which written whole it stands, and what is
 /// given to that.
@@ -41,9 +40,12 @@ impl Playing {
     pub fn start(alloc: Global, config: &Config) -> Result<Playing, AllocError>
         ensures { IfOk result (λ playing. IsPlaying playing (given_by (contents_of config.now)) (opened config.now)) }
     {
+        reopened_nodes_may_start();
+        let map = new_map(alloc, config)?;
+        let (whole, _) = Whole::start(alloc, map, config)?;
         Ok(Playing {
             alloc,
-            whole: Whole::start(alloc, FIRST_BOOT, FIRST_CEILING, config)?,
+            whole,
             verdicts: TableVerdicts::new(config)?,
         })
     }
