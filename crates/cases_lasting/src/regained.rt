@@ -48,7 +48,7 @@ fn is_read_back(alloc: Global, ceiling: u64, kept: &Durable) -> Result<bool, All
         return Ok(false);
     };
     let again = durable_of(alloc, &state, ceiling)?;
-    Ok(is_within(kept, &again) && is_within(&again, kept))
+    Ok(is_same_map(kept, &again))
 }
 
 // What is taken back where the fail-safe is armed, key by key.
@@ -59,7 +59,7 @@ fn add_rollback(
     rolled: &Durable,
 ) -> Result<(), AllocError> {
     if kept.get(&[FAILSAFE]).is_none() {
-        if is_within(kept, rolled) && is_within(rolled, kept) {
+        if is_same_map(kept, rolled) {
             page.line("rolled as it is");
         }
         return Ok(());
@@ -136,6 +136,11 @@ fn goes_on(map: &Durable, other: &Durable) -> bool {
 
 fn is_of_boot(entry: &Entry) -> bool {
     entry.key.as_slice() == [BOOT].as_slice()
+}
+
+/// Whether two maps have the same.
+pub(crate) fn is_same_map(map: &Durable, other: &Durable) -> bool {
+    is_within(map, other) && is_within(other, map)
 }
 
 // Whether another map has all that a map has.
