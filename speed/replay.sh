@@ -1,5 +1,5 @@
 #!/bin/sh
-# For each recording of crates/speed_runs: how many instructions matter_node takes for a line of it, and how many
+# For each recording of speed/recordings.py: how many instructions matter_node takes for a line of it, and how many
 # calls of malloc and realloc. They are counted by valgrind, and less those of a recording with no line.
 #        speed/replay.sh [LINES]
 set -eu
@@ -7,13 +7,12 @@ cd "$(dirname "$0")/.."
 lines=${1:-3000}
 folder=$(mktemp -d)
 trap 'rm -rf "$folder"' EXIT
-(cd crates/speed_runs && rt run -- configuration attribute >/dev/null 2>&1)
 # With no words it ends with status 2, and is built.
 (cd crates/matter_node && rt run >/dev/null 2>&1) || true
 
 # The instructions, and the calls of malloc and realloc, of a run on a recording of so many lines.
 counts() {
-    (cd crates/speed_runs && out/speed_runs recording "$1" "$2") >"$folder/recording"
+    speed/recordings.py recording "$1" "$2" >"$folder/recording"
     valgrind --tool=callgrind --callgrind-out-file="$folder/counts" \
         crates/matter_node/out/matter_node replay "$folder/configuration" "$folder/recording" \
         >/dev/null 2>&1
@@ -29,8 +28,8 @@ counts() {
     ' "$folder/counts"
 }
 
-for name in attribute endpoint-0 endpoint-1 entries paths all-entries roots label items-by-turns own-entries toggle joins sealed-1 sealed-8 sealed-64; do
-    (cd crates/speed_runs && out/speed_runs configuration "$name") >"$folder/configuration"
+for name in $(cut -d ' ' -f 1 speed/data/recordings.txt); do
+    speed/recordings.py configuration "$name" >"$folder/configuration"
     echo "$name $lines $(counts "$name" "$lines") $(counts "$name" 0)"
 done | awk '{
     printf "%s: %.0f instructions a line, %.1f calls of malloc and %.1f of realloc\n",

@@ -2,7 +2,7 @@
 """How many report steps a second matter_node plays, with 48 subscriptions of 16 fabrics: three of each to On/Off of endpoint 1, every one of
 which a step asks in its turn. `few`: an On/Off toggle once in 4,800 steps. `many`: once in 48, so that every step finds a change.
        speed/reports.py [STEPS]
-It takes crates/matter_node as `rt run` builds it, and a configuration of crates/speed_runs."""
+It takes crates/matter_node as `rt run` builds it, and a configuration of speed/data."""
 import subprocess
 import sys
 import tempfile
@@ -31,7 +31,7 @@ def recording(steps, between):
 
 def main():
     steps = int(sys.argv[1]) if len(sys.argv) > 1 else 200_000
-    config = TOP / 'crates/speed_runs/data/all-entries.json'
+    config = TOP / 'speed/data/all-entries.json'
     with tempfile.TemporaryDirectory() as folder:
         for name, between in (('few', 4800), ('many', 48)):
             for size in (0, steps // 10, steps):

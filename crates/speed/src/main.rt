@@ -9,7 +9,7 @@
 //! - `keep FILE`: a count is kept in a file; `speed/kill.py` kills it in the middle of commits.
 //!
 //! What depends on the machine goes to standard error where no word asks for it. The texts and messages are the
-//! files of data/. How fast whole runs are, the program speed_runs measures.
+//! files of data/. How fast whole runs are, the script `speed/recordings.py` tells.
 #![tactic(auto)]
 
 mod ccm;
