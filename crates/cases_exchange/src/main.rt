@@ -1,24 +1,22 @@
-//! Prints what a session and its exchanges answer. Each line of data/happenings.txt is something that
-//! happens on a session, and what must be printed for it is worked out outside of the program. The lines,
-//! in which bytes are hex, times are in ms, and `-` stands for what is not there:
+//! Prints what a session and its exchanges answer and what is said in talks, what bytes are read as and written again, and what
+//! is read of texts as a stranger writes them. Each line of the tables in data/ is a case, and what must be printed for it is
+//! worked out outside of the program.
 //!
-//! - `CASE counter` or `PASE counter`: a new session, whose first own counter is given;
-//! - `unseal datagram`;
-//! - `receive theirs|ours exchange opcode protocol vendor acknowledged payload`;
-//! - `answer theirs|ours exchange acknowledged now [opcode deadline payload..]`;
-//! - `report subscription now [opcode deadline payload..]`;
-//! - `resend now`;
-//! - `ends`;
-//! - `seal theirs|ours exchange opcode protocol vendor acknowledged payload`: a message of no exchange;
-//! - `counter`: the next own counter;
-//! - `copy`: the lines behind it go to copies; `drop`: all that is to be sent again is let go;
-//! - any other line is a title.
-//!
-//! Each line of data/talks.txt is something that is heard or said over a session: `CASE`, `PASE`, `answer`, `report`, `resend`,
-//! `ends`, `copy` and `drop` likewise, `hear live|waits port datagram`, and `pass count now [opcode deadline payload..]`: so many
-//! reports, of which each is let go.
+//! - `happenings.txt`: something that happens on a session (`stand`);
+//! - `talks.txt`: something that is heard or said over a session (`talking`);
+//! - `elements.txt`: bytes as elements, headers, blocks and seals (`octets`);
+//! - `bench.txt`, `others.txt`: configurations that are printed row by row;
+//! - `configurations.txt`: a text, or `old|new` for the bench configuration with new in the place of old;
+//! - `recordings.txt`: a recording, in which `/` ends a line.
 #![tactic(auto)]
 
+mod ciphers;
+mod configurations;
+mod elements;
+mod frames;
+mod octets;
+mod pieces;
+mod recordings;
 mod shown;
 mod stand;
 mod talking;
@@ -32,11 +30,18 @@ use talking::Talking;
 
 fn main(rt: HostRuntime) -> io::Result<()> {
     let mut page = Page::new(rt.alloc());
-    let happenings = fs::read_to_string(&rt, "happenings.txt")?;
-    tell_happenings(rt.alloc(), &mut page, happenings.as_str())?;
-    let talks = fs::read_to_string(&rt, "talks.txt")?;
-    tell_talks(rt.alloc(), &mut page, talks.as_str())?;
+    tell_sessions(&rt, &mut page)?;
+    tell_octets(&rt, &mut page)?;
+    tell_texts(&rt, &mut page)?;
     print!(rt; "{}", page.whole()?)
+}
+
+fn tell_sessions(rt: &HostRuntime, page: &mut Page) -> io::Result<()> {
+    let happenings = fs::read_to_string(rt, "happenings.txt")?;
+    tell_happenings(rt.alloc(), page, happenings.as_str())?;
+    let talks = fs::read_to_string(rt, "talks.txt")?;
+    tell_talks(rt.alloc(), page, talks.as_str())?;
+    Ok(())
 }
 
 fn tell_happenings(alloc: Global, page: &mut Page, happenings: &str) -> Result<(), AllocError> {
@@ -55,6 +60,35 @@ fn tell_talks(alloc: Global, page: &mut Page, talks: &str) -> Result<(), AllocEr
         page.line(line);
         let words: Vec<&str> = line.split(' ').collect(alloc)?;
         talking.happen(page, &words)?;
+    }
+    Ok(())
+}
+
+fn tell_octets(rt: &HostRuntime, page: &mut Page) -> io::Result<()> {
+    let cases = fs::read_to_string(rt, "elements.txt")?;
+    for line in cases.as_str().lines() {
+        page.line(line);
+        let words: Vec<&str> = line.split(' ').collect(rt.alloc())?;
+        octets::tell(rt.alloc(), page, &words)?;
+    }
+    Ok(())
+}
+
+fn tell_texts(rt: &HostRuntime, page: &mut Page) -> io::Result<()> {
+    let alloc = rt.alloc();
+    let bench = fs::read_to_string(rt, "bench.txt")?;
+    configurations::tell_rows(alloc, page, bench.as_str())?;
+    let others = fs::read_to_string(rt, "others.txt")?;
+    for text in others.as_str().lines() {
+        configurations::tell_rows(alloc, page, text)?;
+    }
+    let cases = fs::read_to_string(rt, "configurations.txt")?;
+    for case in cases.as_str().lines() {
+        configurations::tell(alloc, page, bench.as_str(), case)?;
+    }
+    let cases = fs::read_to_string(rt, "recordings.txt")?;
+    for case in cases.as_str().lines() {
+        recordings::tell(alloc, page, case)?;
     }
     Ok(())
 }

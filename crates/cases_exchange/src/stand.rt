@@ -1,4 +1,17 @@
-//! A session with its exchanges, and what happens on it.
+//! A session with its exchanges, and what happens on it. A line of `happenings.txt`, in which bytes are hex, times are in ms, and
+//! `-` stands for what is not there:
+//!
+//! - `CASE counter` or `PASE counter`: a new session, whose first own counter is given;
+//! - `unseal datagram`;
+//! - `receive theirs|ours exchange opcode protocol vendor acknowledged payload`;
+//! - `answer theirs|ours exchange acknowledged now [opcode deadline payload..]`;
+//! - `report subscription now [opcode deadline payload..]`;
+//! - `resend now`;
+//! - `ends`;
+//! - `seal theirs|ours exchange opcode protocol vendor acknowledged payload`: a message of no exchange;
+//! - `counter`: the next own counter;
+//! - `copy`: the lines behind it go to copies; `drop`: all that is to be sent again is let go;
+//! - any other line is a title.
 
 ghost use Rattle.std.specs.Prelude.{◌≢◌};
 ghost use Rattle.mt_model.specs.declared.tables.access.Auth.TheVariants.{Group};

@@ -1,4 +1,6 @@
-//! A talk over a session, and what is heard and said in it.
+//! A talk over a session, and what is heard and said in it. A line of `talks.txt` is `CASE`, `PASE`, `answer`, `report`, `resend`,
+//! `ends`, `copy` or `drop` as on a session (`stand`), `hear live|waits port datagram`, or `pass count now [opcode deadline
+//! payload..]`: so many reports, of which each is let go.
 
 use crate::shown::{tell_bytes, tell_ends, tell_number, tell_resent};
 use crate::stand::row;

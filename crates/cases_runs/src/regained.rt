@@ -1,6 +1,6 @@
 //! What a node regains of what is kept, where it loses its power.
 
-use crate::shown::add_value;
+use crate::maps::add_value;
 use cases_page::Page;
 use mt_durable::{Durable, Entry};
 use mt_lasting::durable_of;

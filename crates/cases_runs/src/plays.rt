@@ -5,8 +5,8 @@ ghost use Rattle.mt_model.specs.texts.Contents.{contents_of};
 ghost use Rattle.mt_regained.specs.Reopened.{new_map};
 ghost use Rattle.mt_interactions.specs.Plan.{IsPlanned};
 
+use crate::maps::add_kept;
 use crate::regained::{add_regained, is_same_map};
-use crate::shown::add_kept;
 use cases_page::Page;
 use mt_durable::{Durable, read_change};
 use mt_interactions::{InteractionOutcome, Interactions};

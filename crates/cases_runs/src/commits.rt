@@ -4,14 +4,14 @@
 //! - `c1618`: a change is committed, by its bytes;
 //! - `x3:k`, `x3:l`, `x3:t`: the disk stops at that one of the writes and syncs to come, 0 at once, and what was written since
 //!   the latest sync is kept, lost or torn;
-//! - `r`: the disk is restarted, and the state recovered;
+//! - `r`: the disk is restarted, and the state recovered; `R`: the same, in place;
 //! - `b`: the bytes on the disk.
 //!
 //! Told are the map of each recovery, or why there is none, what became of each commit, and the bytes, with ` | ` between
 //! them.
 
+use crate::answers::{add_bytes, add_fault, add_map};
 use crate::disks::{disk_of, restarted, stop};
-use crate::shown::{add_bytes, add_fault, add_map};
 use cases_page::{Page, hex_bytes, no_case};
 use mt_durable::{Keeper, read_change};
 use mt_files::config as configuration;
@@ -71,6 +71,12 @@ fn play_on(
                 return Ok(());
             };
             store = next;
+        } else if *call == "R" {
+            page.add(" | ");
+            store.disk_mut().restart();
+            if !reopened(alloc, page, config, &mut store)? {
+                return Ok(());
+            }
         } else {
             called(alloc, page, &mut store, call)?;
         }
@@ -93,6 +99,25 @@ fn recovered(
         Err((_, fault)) => {
             add_fault(page, fault);
             Ok(None)
+        }
+    }
+}
+
+// Recovers the state again on the disk that the store has, and tells its map; whether there is one.
+fn reopened(
+    alloc: Global,
+    page: &mut Page,
+    config: &Config,
+    store: &mut StateStore,
+) -> Result<bool, AllocError> {
+    match store.reopen(alloc, config) {
+        Ok(map) => {
+            add_map(alloc, page, &map)?;
+            Ok(true)
+        }
+        Err(fault) => {
+            add_fault(page, fault);
+            Ok(false)
         }
     }
 }

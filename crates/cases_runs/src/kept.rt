@@ -2,8 +2,8 @@
 //! the fabric the one that is shown, `-` for all, and the journal the file on the disk (`disks`). What is shown is told line
 //! by line, with ` | ` between lines.
 
+use crate::answers::{add_fault, add_lines};
 use crate::disks::disk_of;
-use crate::shown::{add_fault, add_lines};
 use cases_page::{Page, no_case};
 use mt_durable::Durable;
 use mt_files::config as configuration;

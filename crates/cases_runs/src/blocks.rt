@@ -1,4 +1,4 @@
-//! The cases of a text. A case is a block of lines: `case NAME CONFIGURATION`, the configuration the name of a file; then
+//! What lasts of a node, case by case. A case is a block of lines: `case NAME CONFIGURATION`, the configuration the name of a file; then
 //! the lines of a recording behind its head; then `end`.
 
 use crate::plays::told;

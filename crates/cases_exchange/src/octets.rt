@@ -1,6 +1,5 @@
-//! Prints what bytes are read as, and as what that is written again. Each line of data/elements.txt is a case, and what
-//! must be printed for it is worked out outside of the program. Bytes are hex, `*` and a number behind a piece say
-//! how often it stands there, and `,` stands between pieces:
+//! Bytes, and what is told of them. A line of `elements.txt`, in which bytes are hex, `*` and a number behind a piece say how often
+//! it stands there, and `,` stands between pieces:
 //!
 //! - `element bytes`: the element in front: its tag, its narrow encoding and its length, then its parts;
 //! - `faults bytes`: why there is none, as reading the whole and going over the parts tells it;
@@ -11,34 +10,15 @@
 //! - `sealed key nonce bytes bytes`: what a plaintext is sealed to with associated data, what that is opened to, and how many of
 //!   the changed ones are refused;
 //! - any other line is a title.
-#![tactic(auto)]
 
-mod ciphers;
-mod elements;
-mod frames;
-
+use crate::{ciphers, elements, frames};
 use cases_page::{Page, pieces, word};
 use mt_soak::count_codes;
 use std::alloc::Global;
-use std::{fs, io};
+use std::io;
 
-fn main(rt: HostRuntime) -> io::Result<()> {
-    let cases = fs::read_to_string(&rt, "elements.txt")?;
-    let mut page = Page::new(rt.alloc());
-    tell_cases(rt.alloc(), &mut page, cases.as_str())?;
-    print!(rt; "{}", page.whole()?)
-}
-
-fn tell_cases(alloc: Global, page: &mut Page, cases: &str) -> io::Result<()> {
-    for line in cases.lines() {
-        page.line(line);
-        let words: Vec<&str> = line.split(' ').collect(alloc)?;
-        tell(alloc, page, &words)?;
-    }
-    Ok(())
-}
-
-fn tell(alloc: Global, page: &mut Page, words: &[&str]) -> io::Result<()> {
+/// Tells what the words of a line ask. A line that begins otherwise is a title.
+pub(crate) fn tell(alloc: Global, page: &mut Page, words: &[&str]) -> io::Result<()> {
     match word(words, 0) {
         "element" | "faults" | "message" | "protocol" => {
             let bytes = pieces(alloc, word(words, 1))?;

@@ -2,8 +2,8 @@
 //! then come the numbers of the calls of the disk that fail, and the file on the disk (`disks`). What is written is told
 //! line by line, with ` | ` between lines.
 
+use crate::answers::add_lines;
 use crate::disks::disk_of;
-use crate::shown::add_lines;
 use cases_page::{Page, no_case};
 use mt_outside::{MemDisk, MemSink, MemSource};
 use mt_top::run;

@@ -1,4 +1,4 @@
-//! What is kept, as it is printed.
+//! The map that is kept of a node, as it is printed.
 
 use cases_page::Page;
 use mt_durable::{Durable, Entry, write_image};
