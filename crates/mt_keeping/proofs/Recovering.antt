@@ -1,5 +1,5 @@
 -- What is recovered of a file whose journal leads to a map.
-use Rattle.std.proofs.Common.{◌≡◌, ℕ, List, ◌⊎◌, ⊎_elim, inl, inr, ap, subst, sym, ◌∙◌}
+use Rattle.std.proofs.Common.{◌≡◌, ℕ, List, ⊎_elim, inl, inr, ap, subst, sym, ◌∙◌}
 use Rattle.std.specs.Prelude.{Option, Some, Result, Ok, Err, OnErr, OnOk}
 use Rattle.std.specs.Option.{option_and_then}
 use Rattle.mt_durable.specs.declared.durable.Entry.{Entry}

@@ -6,7 +6,7 @@ ghost use Rattle.mt_durable.specs.Keeping.{Committed, HasRoom, IsAdmitted, IsCha
 ghost use Rattle.mt_durable.specs.Reading.{said};
 ghost use Rattle.mt_durable.specs.Setting.{with_all};
 ghost use Rattle.mt_grammar.specs.Grammar.{is_in_grammar};
-ghost use Rattle.mt_journal.specs.Recovering.{FaultHasCause, HasPlace, OnlyRead};
+ghost use Rattle.mt_journal.specs.Recovering.{FaultHasCause, HasPlace, HasReadCause, IfNotAJournal, OnlyRead};
 ghost use Rattle.mt_journal.specs.Standing.{switch_calls};
 ghost use Rattle.mt_journal.specs.Stopping.{Outlasts};
 ghost use Rattle.mt_model.specs.texts.Contents.{Contents, contents_of};
@@ -95,6 +95,35 @@ impl<D: Disk> Store<D> {
                 Ok((store, reopened))
             }
             Err(_) => Err((store.into_disk(), JournalFault::Memory)),
+        }
+    }
+
+    /// Recovers the map again with which a node goes on, over the disk that the store has, as `recover` does: that map is told
+    /// from then on, and the first commit carries the rollback. Where that fails the store has failed, and has to be reopened:
+    /// what the disk has is still to be recovered.
+    pub fn reopen(&mut self, alloc: Global, config: &Config) -> Result<Durable, JournalFault>
+        ensures recovered { (file : List ℕ) → D.contents self.old.store.journal.disk ≡ Some file → IfOk result (λ map. recovered (contents_of config.now) file ≡ Ok (Some map)) }
+        ensures kept { (file : List ℕ) → D.contents self.old.store.journal.disk ≡ Some file → OnOk result (KeepsMap D.contents D.images self.new.store.journal.disk self.new.store.journal.place self.new.store.image) }
+        ensures rolled { IfOk result (λ map. reopened_map (contents_of config.now) self.new.store.image ≡ Some map) }
+        ensures told { IfOk result (λ map. self.new.rolled ≡ Some map) }
+        ensures ready { self.new.store.journal.failed ≡ is_err result }
+        // It names the place from which on the file is no journal of states.
+        ensures refused { (file : List ℕ) → D.contents self.old.store.journal.disk ≡ Some file → IfNotAJournal result (λ at. recovered (contents_of config.now) file ≡ Err at) }
+        // Whatever it answers, the disk has what it had.
+        ensures only_read { OnlyRead D.contents D.images D.moment D.images_since self.old.store.journal.disk self.new.store.journal.disk }
+        // The disk has failed where that is the fault, and not otherwise.
+        ensures cause { HasReadCause (D.faults self.old.store.journal.disk) (D.faults self.new.store.journal.disk) result }
+    {
+        let map = self.store.reopen(alloc)?;
+        match rolled_of(alloc, config, &map) {
+            Ok((reopened, rolled)) => {
+                self.rolled = Some(rolled);
+                Ok(reopened)
+            }
+            Err(_) => {
+                self.store.give_up();
+                Err(JournalFault::Memory)
+            }
         }
     }
 

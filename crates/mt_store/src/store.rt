@@ -1,6 +1,6 @@
 //! Recovering a map, and committing a change of it.
 
-ghost use Rattle.std.specs.Prelude.{◌≡◌, ◌<◌, ◌≤◌, ℕ, List, Some, Err, false, is_err, length, IfErr, IfOk, OnErr, OnOk, IsErr, IsTrue};
+ghost use Rattle.std.specs.Prelude.{◌≡◌, ◌<◌, ◌≤◌, ℕ, List, Some, Err, false, true, is_err, length, IfErr, IfOk, OnErr, OnOk, IsErr, IsTrue};
 ghost use Rattle.std.specs.Borrow.{Lends, sem};
 ghost use Rattle.mt_durable.specs.Changes.{change_bytes, entry_trees};
 ghost use Rattle.mt_durable.specs.Images.{IsImage};
@@ -127,6 +127,13 @@ impl<D: Disk, F: MapForm> Store<D, F> {
                 Err(JournalFault::Memory)
             }
         }
+    }
+
+    /// The store makes no more calls, until it is reopened.
+    pub fn give_up(&mut self)
+        ensures { self.new ≡ record self.old { journal = record self.old.journal { failed = true } } }
+    {
+        self.journal.give_up();
     }
 
     /// Commits the map of another image in the place of this one: the change that leads there goes behind the others, or where
