@@ -72,7 +72,7 @@ nobodys fabrics row (Ok one) meta is unscoped stands =
 
 -- Fabrics: one that was neither added nor updated is found as it was.
 
-given_index : (updated : Option ℕ) (saved : Option Credentials) (fabric : Fabric) → (given_back updated saved fabric).index ≡ fabric.index
+pub given_index : (updated : Option ℕ) (saved : Option Credentials) (fabric : Fabric) → (given_back updated saved fabric).index ≡ fabric.index
 given_index None saved fabric = refl
 given_index (Some index) None fabric = refl
 given_index (Some index) (Some saved) fabric = elim (cases_Bool (fabric.index == index)) [

@@ -67,7 +67,7 @@ module _ (is_kept : DurableIsKept) (are_valid : StatesAreValid) (again : KeptAga
     same_rows : flat_map (rows_under behind) all_keys ≡ flat_map (rows_under s) all_keys
     same_rows = ap (λ (kept : MapContents). kept.rows) (regained is_kept again s ceiling valid)
 
-    same_under : (place : Place) (fabric : ℕ) (key : Key) → IsIn key all_keys → key_at place fabric key ≡ true → rows_under behind key ≡ rows_under s key
+    pub same_under : (place : Place) (fabric : ℕ) (key : Key) → IsIn key all_keys → key_at place fabric key ≡ true → rows_under behind key ≡ rows_under s key
     same_under place fabric key there at =
         sym (under_key behind behind_valid place fabric key there at)
         ∙ ap (filter (is_at place fabric)) same_rows

@@ -6,6 +6,7 @@ pub mod Durable
 pub mod DurableAgain
 pub mod FirstBoot
 pub mod Fold
+pub mod Gathering
 pub mod GoesOn
 pub mod KeyBytes
 pub mod KeyFacts
@@ -13,10 +14,13 @@ pub mod Lists
 pub mod NewNodes
 pub mod Order
 pub mod OtherKeys
+pub mod OwnRows
+pub mod OwnTables
 pub mod PlaceFacts
 pub mod Places
 pub mod Read
 pub mod Regaining
+pub mod Reopenings
 pub mod Rises
 pub mod Rows
 pub mod RowsUnder

@@ -2,4 +2,5 @@ pub mod Begun
 pub mod Laws
 pub mod Regained
 pub mod Reopened
+pub mod Reopening
 pub mod Rolled

@@ -2,6 +2,7 @@
 
 ghost use Rattle.mt_regained.specs.Reopened.{GoesOnAgain, NewNodesBegin, ReopenedMayStart};
 ghost use Rattle.mt_regained.specs.Laws.{BeginsValid, DurableIsKept, FirstBoots, KeepsOtherKeys, KeptAgain, RolledTwice, StatesAreRegained, StatesAreValid};
+ghost use Rattle.mt_regained.specs.Reopening.{ReopeningsRollBack, ReopeningsSeeTheOwn, ReopeningsTakeTheAdded, ReopensValid, RolledIsRollback};
 
 use mt_lasting::{maps_are_maps, maps_are_read_back};
 use mt_machine::{expiries_roll_back, expiries_spare_others, states_are_valid};
@@ -68,4 +69,29 @@ pub fn reopened_nodes_may_start()
     durable_maps_are_kept();
     boots_begin_valid();
     maps_go_on_again();
+}
+
+/// A reopened node is valid, where its boot is one that there may be. What it keeps is what was kept before, rolled back, but for
+/// the number of the boot; and that is what is kept of the state, rolled back.
+pub fn reopenings_roll_back()
+    ensures valid { ReopensValid }
+    ensures back { ReopeningsRollBack }
+    ensures rolled { RolledIsRollback }
+{
+    states_are_regained();
+    durable_maps_are_kept();
+    boots_begin_valid();
+    expiries_spare_others();
+}
+
+/// A loss of power leaves of a fabric's own part what is made of that part and of the boot, and of nothing else, where the fabric
+/// was not added under the fail-safe. The fabrics of a reopened node are those that were there, but for the one that was.
+pub fn reopenings_see_the_own()
+    ensures own { ReopeningsSeeTheOwn }
+    ensures members { ReopeningsTakeTheAdded }
+{
+    states_are_regained();
+    durable_maps_are_kept();
+    expiries_spare_others();
+    expiries_roll_back();
 }
