@@ -1,7 +1,12 @@
 pub mod Answered
+pub mod Bare
+pub mod Heard
 pub mod Keeping
 pub mod Keys
 pub mod Places
 pub mod Received
 pub mod Reported
+pub mod Retelling
 pub mod Sealings
+pub mod Showing
+pub mod Told

@@ -5,5 +5,7 @@ pub mod Payloads
 pub mod Places
 pub mod Receiving
 pub mod Resending
+pub mod Retold
 pub mod Runs
 pub mod Sending
+pub mod Shown

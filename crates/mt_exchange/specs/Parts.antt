@@ -3,13 +3,18 @@ use Rattle.std.specs.Prelude.{List, [], ◌∷◌, Option, Some, None}
 use Rattle.mt_model.specs.declared.messages.message.Payload.{Payload}
 use Rattle.mt_exchange.specs.declared.sending.Sending as code
 use Rattle.mt_exchange.specs.declared.sending.Sending.TheVariants as sendings
+use Rattle.mt_exchange.specs.declared.telling.Outgoing as told
 use Rattle.mt_exchange.specs.Sending.{Sending, silence, alone, reliably, plainly}
+use Rattle.mt_exchange.specs.Shown.{Outgoing}
 
 abbrev pub sending_by : code.Sending → Sending
 sending_by sendings.Silence = silence
 sending_by (sendings.Alone counter) = alone counter
 sending_by (sendings.Reliably payload rest) = reliably payload rest
 sending_by (sendings.Plainly payload) = plainly payload
+
+abbrev pub outgoing_in : told.Outgoing → Outgoing
+outgoing_in o = record { message = record { header = o.header; payload = o.payload }; deadline = o.deadline }
 
 abbrev pub first_of : List Payload → Option Payload
 first_of [] = None

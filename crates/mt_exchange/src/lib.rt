@@ -9,11 +9,14 @@
 //! - `ordered`: exchanges in an order, in a slab;
 //! - `table`: the open exchanges, by rising key;
 //! - `exchanges`: the exchanges of a session;
-//! - `receiving`, `sending`, `resending`: its calls.
+//! - `receiving`, `sending`, `resending`: its calls;
+//! - `telling`: what would be sent, before it is sealed;
+//! - `laws`: what is shown of a run, and what that tells.
 #![tactic(auto)]
 
 mod exchange;
 mod exchanges;
+mod laws;
 mod lists;
 mod ordered;
 mod payloads;
@@ -21,10 +24,13 @@ mod receiving;
 mod resending;
 mod sending;
 mod table;
+mod telling;
 mod turn;
 
 pub use exchange::{Exchange, Key, Owed};
 pub use exchanges::Exchanges;
+pub use laws::{runs_are_retold, shown_runs, shown_tells_the_rest, taken_on_its_exchange};
 pub use lists::{Datagrams, EndTime, EndTimes, Ends};
 pub use receiving::key_of;
+pub use telling::Outgoing;
 pub use turn::Turn;

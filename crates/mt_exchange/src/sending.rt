@@ -149,7 +149,7 @@ impl Exchanges {
     }
 
     // The first id from the next one on that is not that of an open exchange that the node began.
-    fn free_id(&self) -> Option<u16>
+    pub(crate) fn free_id(&self) -> Option<u16>
         ensures { result ≡ first_free_id self.now.next_id self.now.table }
     {
         let mut id = self.next_id;
@@ -175,7 +175,7 @@ fn id_after(id: u16) -> u16
 }
 
 // The first payload, and the others.
-fn first_and_rest(payloads: Payloads) -> (Option<Payload>, Payloads)
+pub(crate) fn first_and_rest(payloads: Payloads) -> (Option<Payload>, Payloads)
     ensures first { result.0 ≡ first_of payloads }
     ensures rest { result.1 ≡ rest_of payloads }
 {
@@ -189,7 +189,11 @@ fn first_and_rest(payloads: Payloads) -> (Option<Payload>, Payloads)
 
 // What is sent on what there is of an exchange. The kept payloads are taken out of it where the first of
 // them is sent.
-fn chosen(x: Exchange, acknowledge: Option<u32>, payloads: Payloads) -> (Sending, Exchange)
+pub(crate) fn chosen(
+    x: Exchange,
+    acknowledge: Option<u32>,
+    payloads: Payloads,
+) -> (Sending, Exchange)
     ensures sending { sending_by result.0 ≡ sending_on x acknowledge payloads }
     ensures rest { (kept : List Payload) → record (result.1) { kept = kept } ≡ record x { kept = kept } }
     ensures kept { IsUntaken (sending_by result.0) → result.1 ≡ x }
@@ -285,7 +289,11 @@ fn sealed(
 }
 
 // The header of what is sent, if there is something.
-fn header_to(key: Key, acknowledge: Option<u32>, sending: &Sending) -> Option<ProtocolHeader>
+pub(crate) fn header_to(
+    key: Key,
+    acknowledge: Option<u32>,
+    sending: &Sending,
+) -> Option<ProtocolHeader>
     ensures { result ≡ header_to_send key acknowledge (sending_by sending.now) }
 {
     match sending {
@@ -297,7 +305,7 @@ fn header_to(key: Key, acknowledge: Option<u32>, sending: &Sending) -> Option<Pr
 }
 
 // The payload of what is sent.
-fn payload_of(sending: &Sending) -> &[u8]
+pub(crate) fn payload_of(sending: &Sending) -> &[u8]
     ensures { result.now ≡ payload_to_send (sending_by sending.now) }
 {
     match sending {
