@@ -1,1 +1,3 @@
+pub mod Awaited
+pub mod Retelling
 pub mod Standing

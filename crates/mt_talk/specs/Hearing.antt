@@ -15,8 +15,9 @@ use Rattle.mt_session.specs.Opening.{Arrival, arrival, received}
 use Rattle.mt_session.specs.Sessions.{counters}
 use Rattle.mt_exchange.specs.declared.exchange.Key.{Key}
 use Rattle.mt_exchange.specs.Receiving.{Taken, acknowledged, ask, busy, closed, confirmed, ended, key_of, next, taken}
-use Rattle.mt_exchange.specs.Runs.{arrived, run}
-use Rattle.mt_talk.specs.Talks.{Talk, open_in}
+use Rattle.mt_exchange.specs.Receiving as receiving
+use Rattle.mt_exchange.specs.Shown.{heard}
+use Rattle.mt_talk.specs.Talks.{Talk, open_in, run_in}
 use Rattle.mt_talk.specs.declared.hearing.Heard.{Heard}
 use Rattle.mt_talk.specs.declared.hearing.Heard.TheVariants as heards
 
@@ -44,7 +45,7 @@ acknowledging header counter = if header.reliable then Some counter else None
 
 -- what the session makes of a datagram
 abbrev pub received_in : SessionRow → Talk → List ℕ → Result Arrival Dropped
-received_in row t bytes = received row (counters (run row t.happenings).arrivals) bytes
+received_in row t bytes = received row (counters (run_in t).arrivals) bytes
 
 -- A fifth exchange is told that the node is busy.
 abbrev pub busy_payloads : List Payload
@@ -80,7 +81,7 @@ said row t live bytes = said_in row t live (received_in row t bytes)
 
 -- A talk behind a datagram from there. What is dropped leaves nothing.
 abbrev pub after_received : Bool → Peer → Result Arrival Dropped → Talk → Talk
-after_received live from (Ok a) t = record { happenings = t.happenings ++ arrived live a ∷ []; latest = Some from }
+after_received live from (Ok a) t = record t { shown = t.shown ++ heard live a ∷ []; open_ones = if live then receiving.received t.open_ones a else t.open_ones; latest = Some from }
 after_received live from (Err dropped) t = t
 
 abbrev pub after_datagram : SessionRow → Bool → Peer → List ℕ → Talk → Talk

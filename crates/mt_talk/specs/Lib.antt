@@ -1,2 +1,4 @@
+pub mod Awaiting
 pub mod Hearing
+pub mod Retold
 pub mod Talks

@@ -8,7 +8,7 @@ ghost use Rattle.mt_talk.specs.Hearing.{acknowledging, after_datagram, answers, 
 ghost use Rattle.mt_talk.specs.Talks.{IsTalkOf, Talk as Told};
 
 use crate::talk::Talk;
-use mt_exchange::{Key, Turn, key_of};
+use mt_exchange::{Key, Turn, key_of, shown_runs};
 use mt_frame::ProtocolHeader;
 use mt_im_out::chunks;
 use mt_model::{Payloads, Reply, Status};
@@ -76,6 +76,7 @@ impl Talk {
         ensures stands { (row : SessionRow) (t : Told) → IsTalkOf self.old row t
             → OnOk result (IsTalkOf self.new row (after_datagram row live from datagram.old t)) }
     {
+        shown_runs();
         match self.session.unseal(datagram) {
             Ok(opened) => {
                 self.latest = Some(from);

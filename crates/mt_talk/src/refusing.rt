@@ -5,7 +5,7 @@ ghost use Rattle.mt_model.specs.declared.texts.config.SessionRow.{SessionRow};
 ghost use Rattle.mt_talk.specs.Talks.{IsTalkOf, Talk as Told, answer_in, refusal_in, report_in};
 
 use crate::talk::Talk;
-use mt_exchange::Key;
+use mt_exchange::{Key, shown_runs};
 use mt_model::{ExactCopy, Payloads};
 use mt_session::SealFault;
 use std::alloc::AllocError;
@@ -21,6 +21,7 @@ impl Talk {
         ensures { (row : SessionRow) (t : Told) → IsTalkOf self.now row t
             → IfOk result (λ refusal. refusal ≡ refusal_in (answer_in row t key acknowledge payloads)) }
     {
+        shown_runs();
         let mut exchanges = self.exchanges.copy()?;
         let mut session = self.session.copy()?;
         match exchanges.answer(&mut session, key, acknowledge, payloads, 0) {
@@ -40,6 +41,7 @@ impl Talk {
         ensures { (row : SessionRow) (t : Told) → IsTalkOf self.now row t
             → IfOk result (λ refusal. refusal ≡ refusal_in (report_in row t payloads)) }
     {
+        shown_runs();
         let mut exchanges = self.exchanges.copy()?;
         let mut session = self.session.copy()?;
         match exchanges.report(&mut session, subscription, payloads, 0) {

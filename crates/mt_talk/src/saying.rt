@@ -6,7 +6,7 @@ ghost use Rattle.mt_exchange.specs.Resending.{end_times};
 ghost use Rattle.mt_talk.specs.Talks.{IsTalkOf, Talk as Told, after_answer, after_drop, after_report, after_resend, answer_in, ended_in, open_in, report_in, resent_in, sent_by};
 
 use crate::talk::Talk;
-use mt_exchange::{Datagrams, EndTimes, Ends, Key};
+use mt_exchange::{Datagrams, EndTimes, Ends, Key, shown_runs};
 use mt_model::Payloads;
 use mt_session::SealFault;
 use mt_tlv::Bytes;
@@ -29,6 +29,7 @@ impl Talk {
             → OnOk result (IsTalkOf self.new row (after_answer row key acknowledge payloads now t)) }
         ensures kept { OnErr result (self.new ≡ self.old) }
     {
+        shown_runs();
         match self
             .exchanges
             .answer(&mut self.session, key, acknowledge, payloads, now)
@@ -55,6 +56,7 @@ impl Talk {
             → OnOk result (IsTalkOf self.new row (after_report row subscription payloads now t)) }
         ensures kept { OnErr result (self.new ≡ self.old) }
     {
+        shown_runs();
         match self
             .exchanges
             .report(&mut self.session, subscription, payloads, now)
@@ -77,6 +79,7 @@ impl Talk {
             → OnOk result (IsTalkOf self.new row (after_resend now t)) }
         ensures kept { OnErr result (self.new ≡ self.old) }
     {
+        shown_runs();
         self.exchanges.resend(now)
     }
 
@@ -92,6 +95,7 @@ impl Talk {
     pub fn drop_all(&mut self)
         ensures { (row : SessionRow) (t : Told) → IsTalkOf self.old row t → IsTalkOf self.new row (after_drop t) }
     {
+        shown_runs();
         self.exchanges.drop_all();
     }
 }

@@ -1,21 +1,74 @@
-use Rattle.std.proofs.Common.{◌≡◌, false, true}
-use Rattle.mt_session.specs.Opening.{arrival}
+use Rattle.std.proofs.Common.{◌≡◌, false, true, List, Result, Ok, Err, ap, subst, sym, ◌∙◌}
+use Rattle.mt_session.specs.declared.kept.Session.{Session}
+use Rattle.mt_session.specs.declared.opening.Dropped.{Dropped}
+use Rattle.mt_session.specs.Opening.{Arrival, arrival}
+use Rattle.mt_exchange.specs.declared.exchange.Exchange.{Exchange}
+use Rattle.mt_exchange.specs.Receiving.{taken, taken_by}
 use Rattle.mt_exchange.specs.Runs.{run}
-use Rattle.mt_talk.specs.Hearing.{received_in}
-use Rattle.mt_talk.proofs.Standing.{heard_live, heard_waiting}
+use Rattle.mt_talk.specs.Hearing.{after_received, fresh_by, received_in, said_by}
+use Rattle.mt_talk.specs.Talks.{IsTalkOf}
+use Rattle.mt_talk.specs.declared.talk.Talk as code
+use Rattle.mt_talk.proofs.Standing.{again_is, heard_live, heard_waiting, received_is, said_is}
 use Rattle.mt_talk.proofs.talk.Talk.hear.Goals as goal
 
 pub returns-then-not-live-clause-stands : goal.returns-then-not-live-clause-stands
 returns-then-not-live-clause-stands c = λ row t s.
-    let r = run row t.happenings in
+    let law = c.shown_runs.ensures in
+    let r = run row s.happenings in
     let waits : c.args.live ≡ false = cc in
-    heard_waiting c.args.self.now c.unseal.new.self row t c.args.live c.args.from (arrival c.in-Ok.opened) (received_in row t c.args.datagram.now)
-    waits (c.in-Ok.ensures.answer row r.arrivals r.messages s.session) s (c.in-Ok.ensures.stands row r.arrivals r.messages s.session)
+    heard_waiting law.arrivals law.messages law.more law.run_more c.args.self.now c.unseal.new.self row t c.args.live c.args.from (arrival c.in-Ok.opened) (received_in row t c.args.datagram.now) s
+    waits (received_is law.arrivals law.messages c.args.self.now row t s c.args.datagram.now (Ok (arrival c.in-Ok.opened)) (c.in-Ok.ensures.answer row r.arrivals r.messages s.session))
+    (c.in-Ok.ensures.stands row r.arrivals r.messages s.session)
+
+pub returns-then-not-live-clause-fresh : goal.returns-then-not-live-clause-fresh
+returns-then-not-live-clause-fresh c = λ row t s.
+    let law = c.shown_runs.ensures in
+    let r = run row s.happenings in
+    ap fresh_by (received_is law.arrivals law.messages c.args.self.now row t s c.args.datagram.now (Ok (arrival c.in-Ok.opened)) (c.in-Ok.ensures.answer row r.arrivals r.messages s.session))
+
+pub returns-in_ok-heard-in-Ok-clause-heard : goal.returns-in_ok-heard-in-Ok-clause-heard
+returns-in_ok-heard-in-Ok-clause-heard c = λ row t s.
+    let law = c.shown_runs.ensures in
+    let r = run row s.happenings in
+    let lives : c.args.live ≡ true = cc in
+    said_is row t c.args.live (arrival c.in-Ok.opened) (received_in row t c.args.datagram.now) (said_by c.in_ok-heard-in-Ok.heard) (taken_by c.in_ok-turn-in-Ok.turn) lives
+    (received_is law.arrivals law.messages c.args.self.now row t s c.args.datagram.now (Ok (arrival c.in-Ok.opened)) (c.in-Ok.ensures.answer row r.arrivals r.messages s.session))
+    c.in_ok-heard-in-Ok.ensures
+    (c.in_ok-turn-in-Ok.ensures.turn row s.happenings s.exchanges ∙ ap (λ (xs : List Exchange). taken xs (arrival c.in-Ok.opened)) (sym s.open_ones))
+
+pub returns-in_ok-heard-in-Ok-clause-fresh : goal.returns-in_ok-heard-in-Ok-clause-fresh
+returns-in_ok-heard-in-Ok-clause-fresh c = λ row t s.
+    let law = c.shown_runs.ensures in
+    let r = run row s.happenings in
+    ap fresh_by (received_is law.arrivals law.messages c.args.self.now row t s c.args.datagram.now (Ok (arrival c.in-Ok.opened)) (c.in-Ok.ensures.answer row r.arrivals r.messages s.session))
+
+pub returns-in-Err-clause-heard : goal.returns-in-Err-clause-heard
+returns-in-Err-clause-heard c = λ row t s.
+    let law = c.shown_runs.ensures in
+    let r = run row s.happenings in
+    again_is row t c.args.live c.in-Err.dropped (received_in row t c.args.datagram.now) (said_by c.heard_again.result)
+    (received_is law.arrivals law.messages c.args.self.now row t s c.args.datagram.now (Err c.in-Err.dropped) (c.in-Err.ensures.answer row r.arrivals r.messages s.session)) c.heard_again.ensures
+
+pub returns-in-Err-clause-fresh : goal.returns-in-Err-clause-fresh
+returns-in-Err-clause-fresh c = λ row t s.
+    let law = c.shown_runs.ensures in
+    let r = run row s.happenings in
+    ap fresh_by (received_is law.arrivals law.messages c.args.self.now row t s c.args.datagram.now (Err c.in-Err.dropped) (c.in-Err.ensures.answer row r.arrivals r.messages s.session))
+
+pub returns-in-Err-clause-stands : goal.returns-in-Err-clause-stands
+returns-in-Err-clause-stands c = λ row t s.
+    let law = c.shown_runs.ensures in
+    let r = run row s.happenings in
+    let later : code.Talk = record c.args.self.now { session = c.unseal.new.self } in
+    subst (λ (x : Result Arrival Dropped). IsTalkOf later row (after_received c.args.live c.args.from x t))
+    (received_is law.arrivals law.messages c.args.self.now row t s c.args.datagram.now (Err c.in-Err.dropped) (c.in-Err.ensures.answer row r.arrivals r.messages s.session))
+    (subst (λ (x : Session). IsTalkOf (record c.args.self.now { session = x }) row t) (sym c.in-Err.ensures.dropped) s)
 
 pub returns-in_ok-heard-in-Ok-clause-stands : goal.returns-in_ok-heard-in-Ok-clause-stands
 returns-in_ok-heard-in-Ok-clause-stands c = λ row t s.
-    let r = run row t.happenings in
+    let law = c.shown_runs.ensures in
+    let r = run row s.happenings in
     let lives : c.args.live ≡ true = cc in
-    heard_live c.args.self.now c.unseal.new.self c.receive.new.self row t c.args.live c.args.from (arrival c.in-Ok.opened) (received_in row t c.args.datagram.now)
-    lives (c.in-Ok.ensures.answer row r.arrivals r.messages s.session) (c.in-Ok.ensures.stands row r.arrivals r.messages s.session)
-    (c.in_ok-turn-in-Ok.ensures.stands row t.happenings s.exchanges)
+    heard_live law.arrivals law.messages law.more law.run_more c.args.self.now c.unseal.new.self c.receive.new.self row t c.args.live c.args.from (arrival c.in-Ok.opened) (received_in row t c.args.datagram.now) s
+    lives (received_is law.arrivals law.messages c.args.self.now row t s c.args.datagram.now (Ok (arrival c.in-Ok.opened)) (c.in-Ok.ensures.answer row r.arrivals r.messages s.session))
+    (c.in-Ok.ensures.stands row r.arrivals r.messages s.session) (c.in_ok-turn-in-Ok.ensures.stands row s.happenings s.exchanges)
