@@ -17,7 +17,7 @@ use Rattle.mt_runs.specs.Replay.{held, if_there}
 use Rattle.mt_runs.proofs.Absent.{contradiction}
 
 -- Whether it is in the table, its own row of the table says.
-used_own : (fabric : ℕ) (fabrics : List Fabric) → is_used fabric (filter (has_index fabric) fabrics) ≡ is_used fabric fabrics
+pub used_own : (fabric : ℕ) (fabrics : List Fabric) → is_used fabric (filter (has_index fabric) fabrics) ≡ is_used fabric fabrics
 used_own fabric [] = refl
 used_own fabric (f ∷ fabrics) = elim (cases_Bool (has_index fabric f)) [
   | inl its ↦ rw (its, its) refl

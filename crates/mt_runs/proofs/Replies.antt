@@ -1,13 +1,9 @@
 -- What a line is answered, and that an expiry is a rollback.
-use Rattle.std.proofs.Common.{◌≡◌, ℕ, ◌++◌, not, Bool, true, false, List, [], ◌∷◌, Option, Some, None, Result, Ok, Err, append_assoc, append-nil, flat_map, refl, sym, ap, ◌∙◌, subst, is_some, map, if◌then◌else◌}
-use Rattle.std.specs.List.{list_any}
+use Rattle.std.proofs.Common.{◌≡◌, ℕ, ◌++◌, Bool, true, false, List, [], ◌∷◌, Option, Some, None, Result, Ok, Err, append_assoc, append-nil, refl, sym, ap, ◌∙◌, subst, is_some, if◌then◌else◌}
 use Rattle.mt_tlv.specs.declared.value.Value.{Value}
-use Rattle.mt_im.specs.Reading.{request_in}
-use Rattle.mt_im.specs.declared.fault.ImFault.{ImFault}
 use Rattle.mt_invoke.specs.Checking.{checked, has_form}
-use Rattle.mt_meta.specs.Places.{is_not_global}
 use Rattle.mt_meta.specs.declared.meta.CommandMeta.{CommandMeta}
-use Rattle.mt_model.specs.messages.Blocks.{names_item, place_named}
+use Rattle.mt_model.specs.messages.Blocks.{place_named}
 use Rattle.mt_model.specs.messages.Effects.{refused_at}
 use Rattle.mt_model.specs.rows.Seen.{Seen}
 use Rattle.mt_model.specs.declared.messages.message.Item.{Item}
@@ -21,10 +17,8 @@ use Rattle.mt_model.specs.declared.messages.status.Status.{Status}
 use Rattle.mt_model.specs.declared.messages.status.Status.TheVariants.{InvalidCommand}
 use Rattle.mt_model.specs.declared.node.action.NodeStep.{NodeStep}
 use Rattle.mt_model.specs.declared.node.state.NodeState.{NodeState}
-use Rattle.mt_model.specs.declared.node.state.Version.{Version}
 use Rattle.mt_model.specs.declared.rows.place.Place.{Place}
 use Rattle.mt_model.specs.declared.tables.access.Actor.{Actor}
-use Rattle.mt_model.specs.declared.texts.recording.Event.{Event}
 use Rattle.mt_model.specs.declared.texts.recording.Event.TheVariants as events
 use Rattle.mt_write.specs.Writing.{item_step, status_item, with_all, with_step}
 use Rattle.mt_write.specs.declared.writing.Written.{Written}
@@ -39,10 +33,8 @@ use Rattle.mt_ledger.specs.history.Asking.{events_for, with_events}
 use Rattle.mt_ledger.specs.Ledger.{Ledger}
 use Rattle.mt_ledger.specs.Subscribing.{Wish, response_to, wish_asked, wish_in_time, wish_of}
 use Rattle.mt_runs.specs.Expiries.{LinesExpireFirst, LinesRollBack, action_at, time_of}
-use Rattle.mt_runs.specs.Isolation.{IsValidWhole}
 use Rattle.mt_runs.specs.Lines.{sent_line}
 use Rattle.mt_runs.specs.Replies.{AnswersExactly, PlainLinesSendTheirReply, PlainRepliesAreExact, RepliesAreExact, SessionRepliesAreExact, command_reply, is_subscribe, seen_of, status_of, statuses_of, steps_behind}
-use Rattle.mt_runs.specs.Whole.{Whole}
 
 -- Writes: the statuses one by one.
 

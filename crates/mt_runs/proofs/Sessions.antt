@@ -1,8 +1,8 @@
 -- Sessions that are live for a fabric, on its veil and where a state follows another.
-use Rattle.std.proofs.Common.{◌≡◌, ◌≢◌, ℕ, ◌==◌, ◌&&◌, ◌||◌, not, inl, inr, Bool, true, false, List, [], ◌∷◌, Option, Some, None, arith, refl, sym, ap, ◌∙◌, subst, filter, is_some, map, unwrap_or, if◌then◌else◌}
-use Rattle.std.proofs.lemmas.Bool.{and_parts, cases_Bool, eqb-true}
+use Rattle.std.proofs.Common.{◌≡◌, ℕ, ◌==◌, ◌&&◌, ◌||◌, not, inl, inr, Bool, true, false, List, [], ◌∷◌, Option, Some, None, refl, sym, ap, ◌∙◌, subst, filter, is_some, if◌then◌else◌}
+use Rattle.std.proofs.lemmas.Bool.{cases_Bool}
 use Rattle.std.specs.List.{find, list_any}
-use Rattle.std.specs.Option.{option_and_then, option_map}
+use Rattle.std.specs.Option.{option_and_then}
 use Rattle.mt_model.specs.texts.Config.{none_alike}
 use Rattle.mt_model.specs.declared.node.state.NodeSession.{NodeSession}
 use Rattle.mt_model.specs.declared.node.state.NodeState.{NodeState}
@@ -13,7 +13,6 @@ use Rattle.mt_subs.specs.Leaving.{is_live_as}
 use Rattle.mt_machine.specs.Isolation.{own, veil}
 use Rattle.mt_machine.specs.Step.{closed_between, is_live, live_actor, session_actor}
 use Rattle.mt_runs.specs.Isolation.{have_one_id}
-use Rattle.mt_runs.specs.Whole.{fabric_live}
 use Rattle.mt_runs.proofs.Ids.{any_found, found_kept, ids_of, if_kept, is_in, is_named, named_is_in, none_kept, or_parts, rest_differ, split_first}
 
 abbrev pub is_mine : ℕ → NodeSession → Bool

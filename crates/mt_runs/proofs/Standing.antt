@@ -1,7 +1,6 @@
 -- Each session has its talk, and over one that is not live nothing is open.
-use Rattle.std.proofs.Common.{◌≡◌, ℕ, ◌==◌, ◌&&◌, ◌||◌, ◌++◌, not, inl, inr, Bool, true, false, List, [], ◌∷◌, Option, Some, None, Result, Ok, Err, refl, sym, ap, ◌∙◌, subst, filter, is_some, length, map, if◌then◌else◌}
-use Rattle.std.proofs.lemmas.Bool.{and_from, and_parts, cases_Bool, eq-eqb, eqb-true, or_cases, or_left, or_right}
-use Rattle.std.proofs.lemmas.List.Sums.{fold-append}
+use Rattle.std.proofs.Common.{◌≡◌, ℕ, ◌==◌, ◌&&◌, ◌||◌, not, inl, inr, Bool, true, false, List, [], ◌∷◌, Option, Some, None, Result, Ok, Err, refl, sym, ap, ◌∙◌, subst, is_some, length, map, if◌then◌else◌}
+use Rattle.std.proofs.lemmas.Bool.{and_from, and_parts, cases_Bool, eq-eqb, or_cases, or_left, or_right}
 use Rattle.std.specs.List.{find, list_all, list_any}
 use Rattle.std.specs.Option.{option_and_then}
 use Rattle.mt_model.specs.declared.messages.message.Reply.{Reply}
@@ -9,7 +8,6 @@ use Rattle.mt_model.specs.declared.node.state.NodeSession.{NodeSession}
 use Rattle.mt_model.specs.declared.node.state.NodeState.{NodeState}
 use Rattle.mt_model.specs.declared.node.state.Standing.{Standing}
 use Rattle.mt_model.specs.declared.node.state.Standing.TheVariants.{Waits, Live, Ended}
-use Rattle.mt_model.specs.declared.tables.access.Actor.{Actor}
 use Rattle.mt_model.specs.declared.tables.fabric.Fabric.{Fabric}
 use Rattle.mt_model.specs.declared.texts.config.SessionRow.{SessionRow}
 use Rattle.mt_model.specs.declared.texts.recording.Event.{Event}
@@ -18,7 +16,6 @@ use Rattle.mt_model.specs.texts.Config.{none_alike}
 use Rattle.mt_outside.specs.declared.network.Peer.{Peer}
 use Rattle.mt_session.specs.Opening.{Arrival}
 use Rattle.mt_session.specs.declared.opening.Dropped.{Dropped}
-use Rattle.mt_exchange.specs.Runs.{Happening, after, arrived, begun, dropped, run}
 use Rattle.mt_talk.specs.Hearing.{after_received, received_in, said}
 use Rattle.mt_talk.specs.Talks.{Talk, after_drop, after_resend, open_in}
 use Rattle.mt_machine.specs.Environment.{Environment}
@@ -92,15 +89,12 @@ pub begun_quiet : (s : NodeState) (rows : List SessionRow) → list_all (is_quie
 begun_quiet s [] = refl
 begun_quiet s (row ∷ rows) = and_from _ _ (or_right (is_live s row.session) true refl) (begun_quiet s rows)
 
-run_more : (row : SessionRow) (happenings : List Happening) (h : Happening) → run row (happenings ++ h ∷ []) ≡ after row (run row happenings) h
-run_more row happenings h = fold-append (after row) begun happenings (h ∷ [])
-
 dropped_open : (t : SessionTalk) → length (open_in t.row (after_drop t.talk)) ≡ 0
-dropped_open t = ap (λ r. length r.open_ones) (run_more t.row t.talk.happenings dropped)
+dropped_open t = refl
 
 -- what comes while the session is not live opens nothing
 received_open : (t : SessionTalk) (from : Peer) (answer : Result Arrival Dropped) → length (open_in t.row (after_received false from answer t.talk)) ≡ length (open_in t.row t.talk)
-received_open t from (Ok a) = ap (λ r. length r.open_ones) (run_more t.row t.talk.happenings (arrived false a))
+received_open t from (Ok a) = refl
 received_open t from (Err reason) = refl
 
 module _ (s : NodeState) where

@@ -51,7 +51,7 @@ stop_quiet given v (events.Report ms fabric subscription) stops = absurd (contra
 stop_quiet given v (events.Resend ms session) stops = absurd (contradiction stops)
 stop_quiet given v (events.Stop calls fate) stops = refl
 
-common_quiet : (given : Environment) (v : Whole) (e : Event) → (is_tick e || is_stop e) ≡ true → sent given v e ≡ []
+pub common_quiet : (given : Environment) (v : Whole) (e : Event) → (is_tick e || is_stop e) ≡ true → sent given v e ≡ []
 common_quiet given v (events.Ask ms fabric node cats opcode payload) is = absurd (contradiction (sym is))
 common_quiet given v (events.Datagram ms from bytes) is = absurd (contradiction (sym is))
 common_quiet given v (events.Tick ms) is = refl
@@ -74,7 +74,7 @@ module _ (given : Environment) (fabric : ℕ) (w : Whole) (valid : IsValidWhole 
 
   -- WHAT IS SENT.
 
-  quiet_seen : ((v : Whole) → sent given v e ≡ []) → (o : Option OwnPart) → sent_seen given fabric e public o ≡ []
+  pub quiet_seen : ((v : Whole) → sent given v e ≡ []) → (o : Option OwnPart) → sent_seen given fabric e public o ≡ []
   quiet_seen quiet None = refl
   quiet_seen quiet (Some own) = ap (map (message_to fabric)) (quiet (seen_whole fabric own public))
 
@@ -121,7 +121,7 @@ module _ (given : Environment) (fabric : ℕ) (w : Whole) (valid : IsValidWhole 
   -- WHAT IS LEFT.
 
   -- what it sees leaves it on its veil what it leaves on the whole
-  seen_leaves : laws.WholeLeavesTheOwnOnTheVeil → laws.WholeTicksOnTheVeil → KeepsRules given.judged → is_built e ≡ true → is_seen fabric w e ≡ true → own_part fabric (next given (veil fabric w) e) ≡ own_part fabric (next given w e)
+  pub seen_leaves : laws.WholeLeavesTheOwnOnTheVeil → laws.WholeTicksOnTheVeil → KeepsRules given.judged → is_built e ≡ true → is_seen fabric w e ≡ true → own_part fabric (next given (veil fabric w) e) ≡ own_part fabric (next given w e)
   seen_leaves leaves ticks rules built sees = elim (cases_Bool (is_of fabric w e)) [
     | inl its ↦
         let of_it : fabric_of w.state.node e ≡ fabric = eqb-true (fabric_of w.state.node e) fabric its in
@@ -130,7 +130,7 @@ module _ (given : Environment) (fabric : ℕ) (w : Whole) (valid : IsValidWhole 
   ]
 
   -- and what it does not see leaves it its own part, where it stays in the table
-  hidden_keeps : laws.WholeKeepsTheOwn → KeepsRules given.judged → is_seen fabric w e ≡ false → is_in fabric w ≡ true → is_in fabric (next given w e) ≡ true → own_part fabric (next given w e) ≡ own_part fabric w
+  pub hidden_keeps : laws.WholeKeepsTheOwn → KeepsRules given.judged → is_seen fabric w e ≡ false → is_in fabric w ≡ true → is_in fabric (next given w e) ≡ true → own_part fabric (next given w e) ≡ own_part fabric w
   hidden_keeps keeps rules hidden there still =
       let parts = or_parts (is_of fabric w e) (is_tick e || is_stop e) hidden in
       let no_tick : is_tick e ≡ false = (or_parts (is_tick e) (is_stop e) parts.1).0 in
@@ -138,25 +138,25 @@ module _ (given : Environment) (fabric : ℕ) (w : Whole) (valid : IsValidWhole 
       (λ same. contradiction (sym (same_number fabric) ∙ ap (λ (n : ℕ). n == fabric) same ∙ parts.0))
       (record { member = still ∙ sym there; nobody = λ is. absurd (some is) })
 
-  seen_held : (behind : Whole) → own_part fabric (next given (veil fabric w) e) ≡ own_part fabric behind → is_in fabric w ≡ true → is_seen fabric w e ≡ true → after_seen given fabric w behind e ≡ held fabric behind
+  pub seen_held : (behind : Whole) → own_part fabric (next given (veil fabric w) e) ≡ own_part fabric behind → is_in fabric w ≡ true → is_seen fabric w e ≡ true → after_seen given fabric w behind e ≡ held fabric behind
   seen_held behind leaves there sees =
       (λ i. held_after given fabric (held_in fabric w there i) (is_marked given fabric w behind e sees i))
       ∙ ap (if_there fabric) leaves
       ∙ as_held fabric behind
 
   -- whoever is not in the table holds nothing, but for a birth
-  out_held : (behind : Whole) → is_in fabric w ≡ false → after_born given fabric w behind e ≡ held fabric behind
+  pub out_held : (behind : Whole) → is_in fabric w ≡ false → after_born given fabric w behind e ≡ held fabric behind
   out_held behind out =
       ap (λ (o : Option OwnPart). held_after given fabric (held_after given fabric o (if_seen fabric w e)) (if_born fabric w behind)) (held_out fabric w out)
       ∙ ap (λ (o : Option OwnPart). held_after given fabric o (if_born fabric w behind)) (none_seen given fabric e public (is_seen fabric w e))
       ∙ birth_held given fabric w behind e out
 
   -- whoever is holds what it held behind what is seen, and nobody is born
-  in_held : (behind : Whole) → is_in fabric w ≡ true → after_seen given fabric w behind e ≡ held fabric behind → after_born given fabric w behind e ≡ held fabric behind
+  pub in_held : (behind : Whole) → is_in fabric w ≡ true → after_seen given fabric w behind e ≡ held fabric behind → after_born given fabric w behind e ≡ held fabric behind
   in_held behind there seen_as =
       ap (held_after given fabric (after_seen given fabric w behind e)) (no_birth given fabric w behind e there) ∙ seen_as
 
-  ends_held : (behind : Whole) → after_born given fabric w behind e ≡ held fabric behind → after_line given fabric w behind e ≡ held fabric behind
+  pub ends_held : (behind : Whole) → after_born given fabric w behind e ≡ held fabric behind → after_line given fabric w behind e ≡ held fabric behind
   ends_held behind born_as = ap (λ (o : Option OwnPart). held_after given fabric o (if_gone fabric w e behind)) born_as ∙ end_held given fabric w behind e
 
   -- it leaves by another's event

@@ -1,5 +1,5 @@
 -- The talks of a fabric's own sessions, and what a line does to talks.
-use Rattle.std.proofs.Common.{◌≡◌, ℕ, ◌==◌, ◌&&◌, ◌||◌, inl, inr, Bool, true, false, List, [], ◌∷◌, Option, Some, None, arith, refl, sym, ap, ◌∙◌, subst, filter, map, if◌then◌else◌}
+use Rattle.std.proofs.Common.{◌≡◌, ℕ, inl, inr, Bool, true, false, List, [], ◌∷◌, Option, Some, None, refl, sym, ap, ◌∙◌, subst, filter, map, if◌then◌else◌}
 use Rattle.std.proofs.lemmas.Bool.{cases_Bool, eqb-true}
 use Rattle.std.specs.List.{find, list_any}
 use Rattle.mt_model.specs.texts.Config.{none_alike}
@@ -7,7 +7,6 @@ use Rattle.mt_model.specs.declared.node.state.NodeSession.{NodeSession}
 use Rattle.mt_model.specs.declared.node.state.NodeState.{NodeState}
 use Rattle.mt_talk.specs.Talks.{Talk, after_drop}
 use Rattle.mt_machine.specs.Isolation.{own}
-use Rattle.mt_machine.specs.Step.{closed_between}
 use Rattle.mt_runs.specs.Isolation.{have_one_id, is_talk_among, talks_among}
 use Rattle.mt_runs.specs.Whole.{SessionTalk, has_closed, is_talk_of, let_go, with_talk}
 use Rattle.mt_runs.proofs.Ids.{ids_of, is_in, is_named, kept_differ, named_is_in, none_kept}

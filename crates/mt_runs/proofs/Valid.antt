@@ -1,5 +1,5 @@
 -- The whole that a configuration begins is valid, and lines leave it so.
-use Rattle.std.proofs.Common.{◌≡◌, ℕ, ◌^◌, ◌==◌, ◌&&◌, ◌-◌, not, inl, inr, Bool, true, false, nat_le, List, [], ◌∷◌, arith, refl, sym, ap, ◌∙◌, subst, filter, length, map, Option, Some, None, if◌then◌else◌}
+use Rattle.std.proofs.Common.{◌≡◌, ℕ, ◌^◌, ◌==◌, ◌&&◌, not, inl, inr, Bool, true, false, nat_le, List, [], ◌∷◌, arith, refl, sym, ap, ◌∙◌, subst, filter, length, map, Option, Some, None, if◌then◌else◌}
 use Rattle.std.proofs.lemmas.Bool.{and_from, and_parts, cases_Bool, eqb-true}
 use Rattle.std.specs.List.{list_all, list_any}
 use Rattle.mt_model.specs.texts.Config.{are_entries, are_fabrics, are_sessions, have_one_session, is_session, none_alike}
@@ -53,7 +53,7 @@ none_alike_row boot fabrics row (other ∷ others) first none =
       | inr later ↦ rw later rest
     ]
 
-rows_differ : (boot : ℕ) (fabrics : List Fabric) (rows : List SessionRow) → none_alike have_one_session rows ≡ true → none_alike have_one_id (map (session_of fabrics) (filter (is_of_boot boot) rows)) ≡ true
+pub rows_differ : (boot : ℕ) (fabrics : List Fabric) (rows : List SessionRow) → none_alike have_one_session rows ≡ true → none_alike have_one_id (map (session_of fabrics) (filter (is_of_boot boot) rows)) ≡ true
 rows_differ boot fabrics [] apart = refl
 rows_differ boot fabrics (row ∷ rows) apart =
     let both = and_parts (not (list_any (have_one_session row) rows)) (none_alike have_one_session rows) apart in
@@ -63,23 +63,24 @@ rows_differ boot fabrics (row ∷ rows) apart =
       | inr later ↦ rw later (rows_differ boot fabrics rows both.1)
     ]
 
+-- rows of sessions have different ids in one boot
+pub ids_differ : (sessions : List SessionRow) → are_sessions sessions ≡ true → none_alike have_one_session sessions ≡ true
+unfolding are_sessions
+ids_differ sessions fit =
+    let front = and_parts (nat_le (length sessions) SESSIONS && list_all is_session sessions && none_alike have_one_session sessions && _) _ fit in
+    let before = and_parts (nat_le (length sessions) SESSIONS && list_all is_session sessions && none_alike have_one_session sessions) _ front.0 in
+    (and_parts (nat_le (length sessions) SESSIONS && list_all is_session sessions) (none_alike have_one_session sessions) before.0).1
+
 pub opens : machine.OpensValid → ledger_laws.OpensLedger → (boot ceiling : ℕ) (fabrics : List Fabric) (entries : List AclEntry) (sessions : List SessionRow) → nat_le boot (2 ^ 31) ≡ true → are_fabrics fabrics ≡ true → are_entries fabrics entries ≡ true → are_sessions sessions ≡ true
     → IsValidWhole (whole_with boot ceiling fabrics entries sessions)
-unfolding are_sessions
 opens opens_valid opens_ledger boot ceiling fabrics entries sessions boots fabrics_fit entries_fit sessions_fit = record {
   node = opens_valid boot fabrics entries sessions boots fabrics_fit entries_fit;
   deadlines = record { few = λ fabric. refl; differ = refl; known = refl };
   ledger = opens_ledger (whole_with boot ceiling fabrics entries sessions).state.node ceiling;
-  sessions_differ = rows_differ boot fabrics sessions (third sessions_fit);
+  sessions_differ = rows_differ boot fabrics sessions (ids_differ sessions sessions_fit);
   talks_stand = begun_names fabrics (filter (is_of_boot boot) sessions);
   quiet = begun_quiet (whole_with boot ceiling fabrics entries sessions).state.node (filter (is_of_boot boot) sessions);
 }
-  where
-    third : are_sessions sessions ≡ true → none_alike have_one_session sessions ≡ true
-    third fit =
-        let front = and_parts (nat_le (length sessions) SESSIONS && list_all is_session sessions && none_alike have_one_session sessions && _) _ fit in
-        let before = and_parts (nat_le (length sessions) SESSIONS && list_all is_session sessions && none_alike have_one_session sessions) _ front.0 in
-        (and_parts (nat_le (length sessions) SESSIONS && list_all is_session sessions) (none_alike have_one_session sessions) before.0).1
 
 -- Sessions keep their ids.
 

@@ -6,6 +6,9 @@ pub mod LineLaws
 pub mod Lines
 pub mod Marks
 pub mod Messages
+pub mod Reopening
 pub mod Replay
 pub mod Replies
+pub mod Retold
 pub mod Whole
+pub mod stops

@@ -1,6 +1,5 @@
 -- Laws of every line.
 use Rattle.std.specs.Prelude.{◌≡◌, ◌≢◌, ℕ, ◌^◌, nat_le, List, false, true}
-use Rattle.mt_fabrics.specs.Table as table
 use Rattle.mt_failsafe.specs.Notes.{was_added, was_updated}
 use Rattle.mt_model.specs.texts.Config.{are_entries, are_fabrics, are_sessions}
 use Rattle.mt_model.specs.declared.tables.access.AclEntry.{AclEntry}

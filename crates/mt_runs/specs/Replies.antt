@@ -37,7 +37,6 @@ use Rattle.mt_machine.specs.Step.{asker, at_time, is_late, is_untimely, session_
 use Rattle.mt_ledger.specs.Asking.{full_line_reply}
 use Rattle.mt_ledger.specs.Ledger.{Ledger}
 use Rattle.mt_runs.specs.Datagrams.{reply_over}
-use Rattle.mt_runs.specs.Isolation.{IsValidWhole}
 use Rattle.mt_runs.specs.Lines.{sent}
 use Rattle.mt_runs.specs.Whole.{Whole}
 

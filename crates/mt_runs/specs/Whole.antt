@@ -1,6 +1,6 @@
 -- The whole as it is written: the node, the deadlines of plain actors, the events and subscriptions, and what is said over each session of
 -- this boot.
-use Rattle.std.specs.Prelude.{ℕ, ◌==◌, Bool, List, [], ◌∷◌, Option, Some, None, filter, is_some, map, unwrap_or, if◌then◌else◌}
+use Rattle.std.specs.Prelude.{ℕ, ◌==◌, Bool, List, [], ◌∷◌, Option, filter, is_some, map, unwrap_or, if◌then◌else◌}
 use Rattle.std.specs.List.{find, list_any}
 use Rattle.std.specs.Option.{option_and_then, option_map}
 use Rattle.mt_model.specs.declared.node.state.NodeState.{NodeState}

@@ -7,10 +7,14 @@
 //! - `Messages`: all that a run sends, each message with the fabric to which it is sent;
 //! - `Marks`: the marks of a fabric in a run;
 //! - `Replay`: what a fabric is sent, made of its own part and its marks and of nothing else;
-//! - `Laws`: the laws.
+//! - `Laws`: the laws;
+//! - `stops`: the laws of runs with stops; their chapters stand in `specs/stops/`, and that of one reopening in `Reopening`;
+//! - `telling`: what is shown of sessions tells the rest; its chapter is `Retold`.
 #![tactic(auto)]
 
 mod lines;
+mod stops;
+mod telling;
 
 ghost use Rattle.mt_runs.specs.Laws.{EqualMarksEqualMessages, EqualMarksEqualParts, LinesNameTheirFabric, RunsAreReplayed, RunsAreTheirMessages, RunsLeaveWhatIsReplayed, RunsNameTheirFabrics, RunsStayValid, StrangersAreSentNothing};
 
@@ -19,6 +23,11 @@ pub use lines::{
     whole_keeps_the_own, whole_leaves_the_own_on_the_veil, whole_sends_on_the_veil,
     wholes_are_valid,
 };
+pub use stops::{
+    equal_marks_have_equal_messages_through_stops, lines_make_calls_where_what_lasts_changes,
+    reopenings_see_the_own_part, runs_without_stops, stopped_runs_are_replayed,
+};
+pub use telling::{answers_await_their_confirmations, sessions_are_retold};
 
 /// What is written of a run is its messages in their order, each once; and a run leaves a valid whole.
 pub fn runs_are_their_messages()

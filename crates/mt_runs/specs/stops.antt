@@ -1,0 +1,5 @@
+pub mod Course
+pub mod Laws
+pub mod Marks
+pub mod Messages
+pub mod Replay
