@@ -1,14 +1,14 @@
--- The talks for which those of the code stand.
+-- What the code remembers.
 use Rattle.std.specs.Prelude.{ℕ, ◌==◌, Bool, List, map}
-use Rattle.mt_runs.specs.Whole.{SessionTalk}
-use Rattle.mt_marks.specs.Noted.{happening_in}
+use Rattle.mt_marks.specs.Noted.{shown_in}
+use Rattle.mt_marks.specs.Remembered.{ToldTalk}
 use Rattle.mt_marks.specs.declared.told.Told.{Told}
 
--- what was said over a session, with its row
-abbrev pub talk_in : Told → SessionTalk
-talk_in t = record { row = t.row; talk = record { happenings = map happening_in t.happenings.items; latest = t.latest } }
+-- what is shown of a session, with its row
+abbrev pub talk_in : Told → ToldTalk
+talk_in t = record { row = t.row; shown = map shown_in t.shown.items }
 
-abbrev pub talks_in : List Told → List SessionTalk
+abbrev pub talks_in : List Told → List ToldTalk
 talks_in ts = map talk_in ts
 
 -- that of the session of this id

@@ -1,6 +1,6 @@
-//! Whether two happenings are the same.
+//! Whether two things that are shown are the same.
 
-use crate::happening::{Arrived, Happening};
+use crate::shown::{Arrived, Shown};
 use mt_same::Same;
 
 impl Same for Arrived {
@@ -11,44 +11,32 @@ impl Same for Arrived {
     }
 }
 
-impl Same for Happening {
-    fn is_same(&self, other: &Happening) -> bool {
+impl Same for Shown {
+    fn is_same(&self, other: &Shown) -> bool {
         match (self, other) {
             (
-                Happening::Arrived { live, arrival },
-                Happening::Arrived {
+                Shown::Heard { live, arrival },
+                Shown::Heard {
                     live: other_live,
                     arrival: other_arrival,
                 },
             ) => *live == *other_live && arrival.is_same(other_arrival),
             (
-                Happening::Answered {
-                    key,
-                    acknowledge,
-                    payloads: answer,
-                    now,
-                },
-                Happening::Answered {
-                    key: other_key,
-                    acknowledge: other_acknowledge,
-                    payloads: other_answer,
+                Shown::Sent { outgoing, now },
+                Shown::Sent {
+                    outgoing: other_outgoing,
                     now: other_now,
                 },
-            ) => {
-                *key == *other_key
-                    && *acknowledge == *other_acknowledge
-                    && *now == *other_now
-                    && answer.is_same(other_answer)
-            },
+            ) => *now == *other_now && outgoing.is_same(other_outgoing),
             (
-                Happening::Reported {
+                Shown::Told {
                     subscription,
-                    payloads: report,
+                    outgoing: report,
                     now,
                 },
-                Happening::Reported {
+                Shown::Told {
                     subscription: other_subscription,
-                    payloads: other_report,
+                    outgoing: other_report,
                     now: other_now,
                 },
             ) => {
@@ -56,8 +44,8 @@ impl Same for Happening {
                     && *now == *other_now
                     && report.is_same(other_report)
             },
-            (Happening::Resent { now }, Happening::Resent { now: other_now }) => *now == *other_now,
-            (Happening::Dropped, Happening::Dropped) => true,
+            (Shown::Again { now }, Shown::Again { now: other_now }) => *now == *other_now,
+            (Shown::Closed, Shown::Closed) => true,
             _ => false,
         }
     }

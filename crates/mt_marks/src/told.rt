@@ -1,28 +1,26 @@
-//! All that was said, as it begins, grows and is compared.
+//! All that is shown of the sessions, as it begins, grows and is compared.
 
 ghost use Rattle.std.specs.Prelude.{◌≡◌, ◌↔◌, ◌<◌, ◌∷◌, [], map, length, position, IfOk, OnErr, OnOk, IsTrue, MatchOption};
-ghost use Rattle.mt_runs.specs.Isolation.{is_talk_among, talks_among};
-ghost use Rattle.mt_runs.specs.Whole.{begun, begun_in, without_ended};
+ghost use Rattle.mt_runs.specs.Whole.{begun, begun_in};
 ghost use Rattle.mt_marks.specs.Noted.{noted, noted_if, noted_talk};
+ghost use Rattle.mt_marks.specs.Remembered.{is_told_among, remembered, told_among, told_without_ended};
 ghost use Rattle.mt_marks.specs.Told.{is_told_of, talk_in, talks_in};
 
-use crate::happening::{Happening, Note};
+use crate::shown::{Note, Shown};
 use mt_model::{ExactCopy, NodeSession, SessionRow};
-use mt_outside::Peer;
 use mt_same::{Same, are_items_same};
 use std::alloc::{AllocError, Global};
 use std::marker::Model;
 
-/// What was said over the session of a row.
+/// What is shown of the session of a row.
 #[derive(Drop)]
 pub(crate) struct Told {
     pub(crate) row: SessionRow,
-    pub(crate) happenings: Vec<Happening>,
-    pub(crate) latest: Option<Peer>,
+    pub(crate) shown: Vec<Shown>,
 }
 
-/// What was said over the sessions of a boot, in the order of their rows. Contracts see the talks of the written
-/// whole.
+/// What is shown of the sessions of a boot, in the order of their rows. Contracts see what is remembered of the talks of
+/// the written whole.
 pub struct ToldTalks {
     talks: Vec<Told>,
 }
@@ -35,9 +33,9 @@ impl Drop for ToldTalks {
 
 impl Model for ToldTalks {
     ghost use Rattle.std.specs.Prelude.{List};
-    ghost use Rattle.mt_runs.specs.Whole.{SessionTalk};
+    ghost use Rattle.mt_marks.specs.Remembered.{ToldTalk};
 
-    ghost Value = { List SessionTalk };
+    ghost Value = { List ToldTalk };
 
     ghost use Rattle.mt_marks.specs.Told.{talks_in};
 
@@ -45,15 +43,15 @@ impl Model for ToldTalks {
 }
 
 impl ToldTalks {
-    /// Nothing has been said over the sessions of a boot. It takes memory, also for copies of the rows.
+    /// Nothing is shown yet of the sessions of a boot. It takes memory, also for copies of the rows.
     pub fn begun(alloc: Global, boot: u32, rows: &[SessionRow]) -> Result<ToldTalks, AllocError>
-        ensures { IfOk result (λ talks. talks ≡ begun_in boot rows.now) }
+        ensures { IfOk result (λ talks. talks ≡ map remembered (begun_in boot rows.now)) }
     {
         let talks = begun_talks(alloc, boot, rows)?;
         Ok(ToldTalks { talks })
     }
 
-    /// What a line adds to what was said over the session that the note names, where there is a note and such a session.
+    /// What a line adds to what is shown of the session that the note names, where there is a note and such a session.
     /// It takes memory; nothing is copied. Where memory is wanting all stays.
     pub fn note(&mut self, note: Option<Note>) -> Result<(), AllocError>
         ensures noted { OnOk result (self.new ≡ noted_if note self.old) }
@@ -65,29 +63,29 @@ impl ToldTalks {
         }
     }
 
-    /// The sessions of these ids let go of all their exchanges. It takes memory.
+    /// The exchanges of the sessions of these ids are dropped. It takes memory.
     pub fn let_go(&mut self, closed: &[u16]) -> Result<(), AllocError>
-        ensures { OnOk result (self.new ≡ map (without_ended closed.now) self.old) }
+        ensures { OnOk result (self.new ≡ map (told_without_ended closed.now) self.old) }
     {
         let_go(&mut self.talks, closed)
     }
 
-    /// Whether what was said over the sessions `mine` is what was said in the other over the sessions `theirs`, row by
-    /// row. It takes no memory.
+    /// Whether what is shown of the sessions `mine` is what is shown in the other of the sessions `theirs`, row by row. It
+    /// takes no memory.
     pub fn are_same_among(
         &self,
         mine: &[NodeSession],
         other: &ToldTalks,
         theirs: &[NodeSession],
     ) -> bool
-        ensures { IsTrue result ↔ (talks_among mine.now self.now ≡ talks_among theirs.now other.now) }
+        ensures { IsTrue result ↔ (told_among mine.now self.now ≡ told_among theirs.now other.now) }
     {
         are_same_among(mine, &self.talks, theirs, &other.talks)
     }
 }
 
 fn begun_talks(alloc: Global, boot: u32, rows: &[SessionRow]) -> Result<Vec<Told>, AllocError>
-    ensures { IfOk result (λ talks. talks_in talks.items ≡ begun_in boot rows.now) }
+    ensures { IfOk result (λ talks. talks_in talks.items ≡ map remembered (begun_in boot rows.now)) }
 {
     let mut talks = Vec::new(alloc);
     for row in rows {
@@ -99,12 +97,11 @@ fn begun_talks(alloc: Global, boot: u32, rows: &[SessionRow]) -> Result<Vec<Told
 }
 
 fn begun_with(alloc: Global, row: &SessionRow) -> Result<Told, AllocError>
-    ensures { IfOk result (λ told. talk_in told ≡ begun row.now) }
+    ensures { IfOk result (λ told. talk_in told ≡ remembered (begun row.now)) }
 {
     Ok(Told {
         row: row.copy()?,
-        happenings: Vec::new(alloc),
-        latest: None,
+        shown: Vec::new(alloc),
     })
 }
 
@@ -125,17 +122,16 @@ fn add_note(talks: &mut [Told], note: Note) -> Result<(), AllocError>
 }
 
 fn add_to(told: &mut Told, note: Note) -> Result<(), AllocError>
-    ensures noted { OnOk result (talk_in told.new ≡ record (talk_in told.old) { talk = noted_talk note (talk_in told.old) }) }
+    ensures noted { OnOk result (talk_in told.new ≡ noted_talk note (talk_in told.old)) }
     ensures kept { OnErr result (talk_in told.new ≡ talk_in told.old) }
 {
-    let mut happenings = note.happenings.into_vec();
-    told.happenings.append(&mut happenings)?;
-    told.latest = note.latest;
+    let mut shown = note.shown.into_vec();
+    told.shown.append(&mut shown)?;
     Ok(())
 }
 
 fn let_go(talks: &mut [Told], closed: &[u16]) -> Result<(), AllocError>
-    ensures { OnOk result (talks_in talks.new ≡ map (without_ended closed.now) (talks_in talks.old)) }
+    ensures { OnOk result (talks_in talks.new ≡ map (told_without_ended closed.now) (talks_in talks.old)) }
 {
     for told in talks.iter_mut() {
         let_go_if_ended(told, closed)?;
@@ -144,10 +140,10 @@ fn let_go(talks: &mut [Told], closed: &[u16]) -> Result<(), AllocError>
 }
 
 fn let_go_if_ended(told: &mut Told, closed: &[u16]) -> Result<(), AllocError>
-    ensures { OnOk result (talk_in told.new ≡ without_ended closed.now (talk_in told.old)) }
+    ensures { OnOk result (talk_in told.new ≡ told_without_ended closed.now (talk_in told.old)) }
 {
     if closed.contains(&told.row.session) {
-        told.happenings.push(Happening::Dropped)?;
+        told.shown.push(Shown::Closed)?;
     }
     Ok(())
 }
@@ -158,7 +154,7 @@ fn are_same_among(
     theirs: &[NodeSession],
     others: &[Told],
 ) -> bool
-    ensures { IsTrue result ↔ (talks_among mine.now (talks_in talks.now) ≡ talks_among theirs.now (talks_in others.now)) }
+    ensures { IsTrue result ↔ (told_among mine.now (talks_in talks.now) ≡ told_among theirs.now (talks_in others.now)) }
 {
     let mut rest = talks;
     let mut other_rest = others;
@@ -177,10 +173,10 @@ fn are_same_among(
     }
 }
 
-// What was said over the first that is among the sessions, and the talks behind it.
+// What is shown of the first that is among the sessions, and of those behind it.
 #[tactic(auto, using(crate::proofs::Among::first_among, crate::proofs::Among::rest_among))]
 fn next_among<'a>(sessions: &[NodeSession], talks: &'a [Told]) -> Option<(&'a Told, &'a [Told])>
-    ensures among { MatchOption result (talks_among sessions.now (talks_in talks.now) ≡ []) (λ next. talks_among sessions.now (talks_in talks.now) ≡ talk_in next.0.now ∷ talks_among sessions.now (talks_in next.1.now)) }
+    ensures among { MatchOption result (told_among sessions.now (talks_in talks.now) ≡ []) (λ next. told_among sessions.now (talks_in talks.now) ≡ talk_in next.0.now ∷ told_among sessions.now (talks_in next.1.now)) }
     ensures shorter { MatchOption result (Unit {0}) (λ next. length next.1.now < length talks.now) }
 {
     let mut rest = talks;
@@ -194,7 +190,7 @@ fn next_among<'a>(sessions: &[NodeSession], talks: &'a [Told]) -> Option<(&'a To
 }
 
 fn is_among(sessions: &[NodeSession], told: &Told) -> bool
-    ensures { result ≡ is_talk_among sessions.now (talk_in told.now) }
+    ensures { result ≡ is_told_among sessions.now (talk_in told.now) }
 {
     sessions
         .iter()
@@ -208,9 +204,7 @@ fn is_told_same(told: &Told, other: &Told) -> bool
 }
 
 fn are_parts_same(told: &Told, other: &Told) -> bool
-    ensures { IsTrue result ↔ ((told.now.row ≡ other.now.row) × (told.now.happenings.items ≡ other.now.happenings.items) × (told.now.latest ≡ other.now.latest)) }
+    ensures { IsTrue result ↔ ((told.now.row ≡ other.now.row) × (told.now.shown.items ≡ other.now.shown.items)) }
 {
-    told.row.is_same(&other.row)
-        && are_items_same(&told.happenings, &other.happenings)
-        && told.latest == other.latest
+    told.row.is_same(&other.row) && are_items_same(&told.shown, &other.shown)
 }

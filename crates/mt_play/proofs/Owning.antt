@@ -1,14 +1,13 @@
--- A fabric's own part, by what the code has of it.
-use Rattle.std.proofs.Common.{◌≡◌, ℕ, List, sym, ◌∙◌, filter}
+-- What is remembered of the live sessions of a fabric, by what the code has of it.
+use Rattle.std.proofs.Common.{◌≡◌, ℕ, inl, inr, List, [], ◌∷◌, refl, ap, ◌∙◌, filter, map}
+use Rattle.std.proofs.lemmas.Bool.{cases_Bool}
 use Rattle.mt_model.specs.declared.node.state.NodeSession.{NodeSession}
 use Rattle.mt_subs.specs.Leaving.{is_live_as}
 use Rattle.mt_machine.specs.Environment.{Environment}
-use Rattle.mt_machine.specs.Isolation.{own_of_whole}
 use Rattle.mt_machine.specs.State.{State}
-use Rattle.mt_ledger.specs.Isolation.{own_ledger}
-use Rattle.mt_runs.specs.Isolation.{OwnPart, own_part, talks_among}
-use Rattle.mt_runs.specs.Whole.{Whole}
-use Rattle.mt_whole.specs.declared.whole.Whole as code
+use Rattle.mt_marks.specs.Remembered.{ToldTalk, remembered, told_among}
+use Rattle.mt_runs.specs.Isolation.{is_talk_among, own_part, talks_among}
+use Rattle.mt_runs.specs.Whole.{SessionTalk, Whole}
 use Rattle.mt_play.specs.Remembers.{IsRemembering}
 use Rattle.mt_play.specs.declared.remembering.Remembering.{Remembering}
 
@@ -16,22 +15,15 @@ use Rattle.mt_play.specs.declared.remembering.Remembering.{Remembering}
 abbrev pub live : ℕ → State → List NodeSession
 live fabric s = filter (λ (session : NodeSession). is_live_as fabric session.standing) s.node.sessions
 
--- what the code has of a fabric's own part
-abbrev pub own_in : ℕ → Remembering → OwnPart
-own_in fabric one =
-    let whole : code.Whole = one.playing.whole in
-    record { whole = own_of_whole fabric whole.interactions.state; ledger = own_ledger fabric whole.interactions.ledger; talks = talks_among (live fabric whole.interactions.state) one.told }
+-- what is remembered of some is what is remembered of their talks
+among_remembered : (sessions : List NodeSession) (ts : List SessionTalk) → told_among sessions (map remembered ts) ≡ map remembered (talks_among sessions ts)
+among_remembered sessions [] = refl
+among_remembered sessions (t ∷ ts) = elim (cases_Bool (is_talk_among sessions t)) [
+  | inl among ↦ rw among (ap (λ (rest : List ToldTalk). remembered t ∷ rest) (among_remembered sessions ts))
+  | inr other ↦ rw other (among_remembered sessions ts)
+]
 
-own_stands : (fabric : ℕ) (one : Remembering) (given : Environment) (w : Whole) → IsRemembering one given w → own_in fabric one ≡ own_part fabric w
-own_stands fabric one given w is = λ i. record {
-  whole = own_of_whole fabric (is.playing.whole.state i);
-  ledger = own_ledger fabric (is.playing.whole.ledger i);
-  talks = talks_among (live fabric (is.playing.whole.state i)) (is.told i);
-}
-
-module _ (fabric : ℕ) (one other : Remembering) (given to_other : Environment) (w v : Whole) (is : IsRemembering one given w) (its : IsRemembering other to_other v) where
-  pub stands_same : own_in fabric one ≡ own_in fabric other → own_part fabric w ≡ own_part fabric v
-  stands_same same = sym (own_stands fabric one given w is) ∙ same ∙ own_stands fabric other to_other v its
-
-  pub same_stands : own_part fabric w ≡ own_part fabric v → own_in fabric one ≡ own_in fabric other
-  same_stands same = own_stands fabric one given w is ∙ same ∙ sym (own_stands fabric other to_other v its)
+pub own_told : (fabric : ℕ) (one : Remembering) (given : Environment) (w : Whole) → IsRemembering one given w → told_among (live fabric one.playing.whole.interactions.state) one.told ≡ map remembered (own_part fabric w).talks
+own_told fabric one given w is =
+    let written : told_among (live fabric one.playing.whole.interactions.state) one.told ≡ told_among (live fabric w.state) (map remembered w.talks) = λ i. told_among (live fabric (is.playing.whole.state i)) (is.told i) in
+    written ∙ among_remembered (live fabric w.state) w.talks

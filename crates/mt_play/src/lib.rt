@@ -2,7 +2,7 @@
 //!
 //! - `playing`: the node with the verdicts by which it plays, how it starts, and a step;
 //! - `looking`: what a looker-on may ask of it;
-//! - `remembering`: such a node, and all that was said over its sessions.
+//! - `remembering`: such a node, and all that is shown of its sessions.
 #![tactic(auto)]
 
 mod looking;

@@ -59,8 +59,8 @@ impl Playing {
         self.whole.armed()
     }
 
-    /// Whether the fabric's own part is the same in two nodes, all that was said over its sessions left aside but for what
-    /// stands over them. It takes no memory.
+    /// Whether the fabric's own part is the same in two nodes, with what stands over its sessions, and without what is shown
+    /// of them. It takes no memory.
     pub fn alike(&self, other: &Playing, fabric: u8) -> bool
         ensures { (given to_other : Environment) (w v : Told) → IsPlaying self.now given w → IsPlaying other.now to_other v → IsTrue result ↔ (own_standing fabric w ≡ own_standing fabric v) }
     {

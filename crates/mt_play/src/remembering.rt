@@ -1,4 +1,4 @@
-//! A node that plays, and all that was said over its sessions.
+//! A node that plays, and all that is shown of its sessions.
 
 ghost use Rattle.std.specs.Prelude.{◌≡◌, ◌↔◌, IfNone, IfOk, IfSome, IsTrue, OnErr, filter, is_some};
 ghost use Rattle.mt_model.specs.declared.node.state.NodeSession.{NodeSession as Row};
@@ -14,10 +14,10 @@ use crate::playing::{FIRST_BOOT, Playing};
 use mt_marks::ToldTalks;
 use mt_model::{Config, Event, ExactCopy, NodeSession, SentList};
 use mt_subs::is_live_as;
-use mt_whole::closed_sessions_are_those_that_end;
+use mt_whole::{closed_sessions_are_those_that_end, own_parts_are_standings_and_talks};
 use std::alloc::{AllocError, Global};
 
-/// A node that plays, and all that was said over its sessions, which no node stores. It grows with the recording.
+/// A node that plays, and all that is shown of its sessions, which no node stores. It grows with the recording.
 pub struct Remembering {
     playing: Playing,
     told: ToldTalks,
@@ -33,7 +33,7 @@ impl Drop for Remembering {
 }
 
 impl Remembering {
-    /// A new node with this configuration, in its first boot, over whose sessions nothing was said.
+    /// A new node with this configuration, in its first boot, of whose sessions nothing is shown yet.
     pub fn start(alloc: Global, config: &Config) -> Result<Remembering, AllocError>
         ensures { IfOk result (λ remembering. IsRemembering remembering (given_by (contents_of config.now)) (opened config.now)) }
     {
@@ -50,7 +50,7 @@ impl Remembering {
         &self.playing
     }
 
-    /// Makes of the node what an event of a recording makes of it, remembers what is said, and gives what is sent, None exactly
+    /// Makes of the node what an event of a recording makes of it, remembers what is shown, and gives what is sent, None exactly
     /// where the event is not built; then all stays. Where memory is wanting the node stays as it is, but what is remembered may
     /// be of no use any more.
     pub fn step(&mut self, event: &Event) -> Result<Option<SentList>, AllocError>
@@ -69,17 +69,14 @@ impl Remembering {
         Ok(Some(self.playing.apply(outcome)))
     }
 
-    /// Whether the fabric's own part is the same in both, all that was said over its live sessions with it. It takes memory for
-    /// copies of the rows of these sessions.
+    /// Whether the fabric's own part is the same in both, with what stands over its live sessions and all that is shown of them.
+    /// It takes memory for copies of the rows of these sessions.
     pub fn has_same_own(&self, other: &Remembering, fabric: u8) -> Result<bool, AllocError>
         ensures { (given to_other : Environment) (w v : Told) → IsRemembering self.now given w → IsRemembering other.now to_other v
             → IfOk result (λ same. IsTrue same ↔ (own_part fabric w ≡ own_part fabric v)) }
     {
-        if !self
-            .playing
-            .whole
-            .has_same_own(&other.playing.whole, fabric)
-        {
+        own_parts_are_standings_and_talks();
+        if !self.playing.alike(&other.playing, fabric) {
             return Ok(false);
         }
         let alloc = self.playing.alloc;

@@ -4,7 +4,7 @@
 //! - `same`: the trait; lists, options and plain types;
 //! - `model`: the types of mt_model;
 //! - `event`: the events of a recording;
-//! - `said`: subscriptions, and exchanges of sessions.
+//! - `said`: subscriptions, exchanges of sessions, and what is sent over one.
 #![tactic(auto)]
 
 mod event;

@@ -1,7 +1,8 @@
-//! What is said: subscriptions, and exchanges of sessions.
+//! What is said: subscriptions, exchanges of sessions, and what is sent over one.
 
 use crate::same::Same;
-use mt_exchange::{Exchange, Key, Owed};
+use mt_exchange::{Exchange, Key, Outgoing, Owed};
+use mt_frame::ProtocolHeader;
 use mt_subs::{Kept, Sub, Subscription};
 
 impl Same for Sub {
@@ -56,5 +57,19 @@ impl Same for Exchange {
             && self.confirmation == other.confirmation
             && self.deadline == other.deadline
             && self.subscription == other.subscription
+    }
+}
+
+impl Same for ProtocolHeader {
+    fn is_same(&self, other: &ProtocolHeader) -> bool {
+        *self == *other
+    }
+}
+
+impl Same for Outgoing {
+    fn is_same(&self, other: &Outgoing) -> bool {
+        self.header.is_same(&other.header)
+            && self.deadline == other.deadline
+            && self.payload.equals(&other.payload)
     }
 }

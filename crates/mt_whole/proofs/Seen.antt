@@ -12,6 +12,7 @@ use Rattle.mt_ledger.specs.Isolation.{OwnLedger, own_ledger}
 use Rattle.mt_ledger.specs.Ledger.{Ledger}
 use Rattle.mt_runs.specs.Isolation.{OwnPart, is_talk_among, own_part, talks_among}
 use Rattle.mt_runs.specs.Whole.{SessionTalk, Whole}
+use Rattle.mt_marks.specs.Remembered.{remembered}
 use Rattle.mt_whole.specs.declared.talks.SessionTalk as code
 use Rattle.mt_whole.specs.declared.whole.Whole as whole
 use Rattle.mt_whole.specs.Seeing.{OwnStanding, Standing, is_live_for, own_standing, standing, standing_in, standings_in, standings_of}
@@ -22,16 +23,40 @@ use Rattle.mt_whole.specs.Talks.{AreTalks, IsTalkAt, IsWholeOf}
 abbrev pub stands_of : OwnPart → OwnStanding
 stands_of o = record { whole = o.whole; ledger = o.ledger; standings = map standing o.talks }
 
-pub parts_stand : (fabric : ℕ) (w v : Whole) → own_part fabric w ≡ own_part fabric v → (own_standing fabric w ≡ own_standing fabric v) × ((own_part fabric w).talks ≡ (own_part fabric v).talks)
-parts_stand fabric w v same = (ap stands_of same, ap (λ (o : OwnPart). o.talks) same)
+pub parts_stand : (fabric : ℕ) (w v : Whole) → own_part fabric w ≡ own_part fabric v → (own_standing fabric w ≡ own_standing fabric v) × (map remembered (own_part fabric w).talks ≡ map remembered (own_part fabric v).talks)
+parts_stand fabric w v same = (ap stands_of same, ap (λ (o : OwnPart). map remembered o.talks) same)
 
-pub parts_same : (fabric : ℕ) (w v : Whole) → (own_standing fabric w ≡ own_standing fabric v) × ((own_part fabric w).talks ≡ (own_part fabric v).talks) → own_part fabric w ≡ own_part fabric v
-parts_same fabric w v both = λ i. record { whole = (both.0 i).whole; ledger = (both.0 i).ledger; talks = both.1 i }
+-- a talk is what stands over its session and what is shown of that
+one_same : (x y : SessionTalk) → standing x ≡ standing y → remembered x ≡ remembered y → x ≡ y
+one_same x y stand told = λ i. record { row = (told i).row; talk = record { shown = (told i).shown; open_ones = (stand i).open_ones; next_id = (stand i).next_id; latest = (stand i).latest } }
+
+heads_same : {A : Type 0} (x y : A) (xs ys : List A) → x ∷ xs ≡ y ∷ ys → (x ≡ y) × (xs ≡ ys)
+heads_same x y xs ys same = (cc, cc)
+
+-- and so are talks
+talks_same : (xs ys : List SessionTalk) → map standing xs ≡ map standing ys → map remembered xs ≡ map remembered ys → xs ≡ ys
+talks_same [] [] stand told = refl
+talks_same [] (y ∷ ys) stand told = absurd (cc)
+talks_same (x ∷ xs) [] stand told = absurd (cc)
+talks_same (x ∷ xs) (y ∷ ys) stand told =
+    let stands = heads_same (standing x) (standing y) (map standing xs) (map standing ys) stand in
+    let tells = heads_same (remembered x) (remembered y) (map remembered xs) (map remembered ys) told in
+    let first = one_same x y stands.0 tells.0 in
+    let rest = talks_same xs ys stands.1 tells.1 in
+    λ i. first i ∷ rest i
+
+pub parts_same : (fabric : ℕ) (w v : Whole) → (own_standing fabric w ≡ own_standing fabric v) × (map remembered (own_part fabric w).talks ≡ map remembered (own_part fabric v).talks) → own_part fabric w ≡ own_part fabric v
+parts_same fabric w v both =
+    let talks = talks_same (own_part fabric w).talks (own_part fabric v).talks (ap (λ (o : OwnStanding). o.standings) both.0) both.1 in
+    λ i. record { whole = (both.0 i).whole; ledger = (both.0 i).ledger; talks = talks i }
 
 -- The talks of the live sessions.
 
 stands_as : (talk : code.SessionTalk) (t : SessionTalk) → IsTalkAt talk t → standing_in talk ≡ standing t
-stands_as talk t at = λ i. record { session = at.id i; latest = at.talk.latest i; open_ones = at.talk.exchanges.open_ones i; next_id = at.talk.exchanges.next_id i }
+stands_as talk t at =
+    let open_ones = at.talk.exchanges.open_ones ∙ sym at.talk.open_ones in
+    let next_id = at.talk.exchanges.next_id ∙ sym at.talk.next_id in
+    λ i. record { session = at.id i; latest = at.talk.latest i; open_ones = open_ones i; next_id = next_id i }
 
 abbrev pub live_for : ℕ → List NodeSession → List NodeSession
 live_for fabric sessions = filter (λ (session : NodeSession). is_live_as fabric session.standing) sessions

@@ -6,6 +6,7 @@ use Rattle.mt_machine.specs.Step.{closed_between}
 use Rattle.mt_runs.specs.Isolation.{own_part}
 use Rattle.mt_runs.specs.Lines.{next, talks_behind}
 use Rattle.mt_runs.specs.Whole.{Whole, without_ended}
+use Rattle.mt_marks.specs.Remembered.{remembered}
 use Rattle.mt_whole.specs.Plan.{Brings, IsPlanned}
 use Rattle.mt_whole.specs.Seeing.{own_standing}
 use Rattle.mt_whole.specs.declared.outcome.WholeOutcome.{WholeOutcome}
@@ -20,7 +21,7 @@ abbrev pub TalksLetGoWhatCloses : Type 0
 TalksLetGoWhatCloses = (given : Environment) (w : Whole) (event : Event) (outcome : WholeOutcome) → IsPlanned w.state w.ledger outcome → Brings given w event outcome
     → (next given w event).talks ≡ map (without_ended outcome.interactions.node.closed) (talks_behind given w event)
 
--- Own parts are the same exactly where what stands is, and all that was said over the live sessions.
+-- Own parts are the same exactly where what stands is, and all that is shown of the live sessions.
 abbrev pub OwnPartsAreStandingsAndTalks : Type 0
 OwnPartsAreStandingsAndTalks = (fabric : ℕ) (w v : Whole)
-    → (own_part fabric w ≡ own_part fabric v) ↔ ((own_standing fabric w ≡ own_standing fabric v) × ((own_part fabric w).talks ≡ (own_part fabric v).talks))
+    → (own_part fabric w ≡ own_part fabric v) ↔ ((own_standing fabric w ≡ own_standing fabric v) × (map remembered (own_part fabric w).talks ≡ map remembered (own_part fabric v).talks))

@@ -1,30 +1,32 @@
--- What a line adds to what is said over a session.
-use Rattle.std.specs.Prelude.{◌≡◌, Bool, true, false, List, [], ◌∷◌, Option, Some, None}
-use Rattle.mt_session.specs.declared.fault.SealFault.{SealFault}
-use Rattle.mt_session.specs.declared.fault.SealFault.TheVariants.{TooLong}
+-- What a line adds to what is shown of a session.
+use Rattle.std.specs.Prelude.{◌≡◌, ℕ, List, [], ◌∷◌, ◌++◌, Option, Some, None, map}
+use Rattle.mt_exchange.specs.declared.telling.Outgoing.{Outgoing}
 use Rattle.mt_runs.specs.Whole.{SessionTalk}
-use Rattle.mt_talk.specs.Talks.{Talk, behind}
-use Rattle.mt_marks.specs.Noted.{happening_in, noted_talk}
-use Rattle.mt_marks.specs.declared.happening.Happening.{Happening}
-use Rattle.mt_marks.specs.declared.happening.Note.{Note}
+use Rattle.mt_talk.specs.Talks.{Talk}
+use Rattle.mt_marks.specs.Noted.{shown_in}
+use Rattle.mt_marks.specs.declared.shown.Note.{Note}
+use Rattle.mt_marks.specs.declared.shown.Shown.{Shown}
+use Rattle.mt_marks.specs.declared.shown.Shown.TheVariants as codes
 
--- the talk of a session becomes this one, by what is noted; where nothing is, it stays
+-- of this session, whose talk becomes this one, what is noted is shown; where nothing is, nothing more is shown
 abbrev pub IsNoteOf : Option Note → SessionTalk → Talk → Type 0
-IsNoteOf None t talk = talk ≡ t.talk
-IsNoteOf (Some note) t talk = (note.session ≡ t.row.session) × (noted_talk note t ≡ talk)
+IsNoteOf None t talk = talk.shown ≡ t.talk.shown
+IsNoteOf (Some note) t talk = (note.session ≡ t.row.session) × (t.talk.shown ++ map shown_in note.shown ≡ talk.shown)
 
--- a talk behind what happens, where something does
-abbrev pub behind_said : Option Happening → Talk → Talk
-behind_said None t = t
-behind_said (Some happening) t = behind (happening_in happening) t
-
--- what happens, where something does
-abbrev pub listed : Option Happening → List Happening
+-- what is shown, where something is
+abbrev pub listed : Option Shown → List Shown
 listed None = []
-listed (Some happening) = happening ∷ []
+listed (Some one) = one ∷ []
 
--- a message is refused since it is too long
-abbrev pub is_too_long : Option SealFault → Bool
-is_too_long None = false
-is_too_long (Some TooLong) = true
-is_too_long (Some fault) = false
+-- of a talk that becomes this one, this is shown
+abbrev pub IsShownBehind : Option Shown → Talk → Talk → Type 0
+IsShownBehind more t talk = t.shown ++ map shown_in (listed more) ≡ talk.shown
+
+-- what is sent as an answer, where something is, and what is reported
+abbrev pub sent_if : Option Outgoing → ℕ → Option Shown
+sent_if None now = None
+sent_if (Some outgoing) now = Some (codes.Sent outgoing now)
+
+abbrev pub told_if : ℕ → Option Outgoing → ℕ → Option Shown
+told_if subscription None now = None
+told_if subscription (Some outgoing) now = Some (codes.Told subscription outgoing now)

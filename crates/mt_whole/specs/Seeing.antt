@@ -4,7 +4,6 @@ use Rattle.std.specs.List.{list_any}
 use Rattle.mt_model.specs.declared.node.state.NodeSession.{NodeSession}
 use Rattle.mt_model.specs.declared.texts.recording.Event.{Event}
 use Rattle.mt_outside.specs.declared.network.Peer.{Peer}
-use Rattle.mt_exchange.specs.Runs.{run}
 use Rattle.mt_exchange.specs.declared.exchange.Exchange.{Exchange}
 use Rattle.mt_subs.specs.Leaving.{is_live_as}
 use Rattle.mt_machine.specs.Isolation.{OwnOfWhole, own_of_whole}
@@ -27,9 +26,9 @@ pub record Standing : Type 0 where
   pub next_id : ℕ
 
 abbrev pub standing : SessionTalk → Standing
-standing t = record { session = t.row.session; latest = t.talk.latest; open_ones = (run t.row t.talk.happenings).open_ones; next_id = (run t.row t.talk.happenings).next_id }
+standing t = record { session = t.row.session; latest = t.talk.latest; open_ones = t.talk.open_ones; next_id = t.talk.next_id }
 
--- A fabric's own part, with what stands over its live sessions in the place of all that was said over them.
+-- A fabric's own part, with what stands over its live sessions, and without what is shown of them.
 pub record OwnStanding : Type 0 where
   pub whole : OwnOfWhole
   pub ledger : OwnLedger

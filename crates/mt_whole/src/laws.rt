@@ -9,7 +9,7 @@ pub fn closed_sessions_are_those_that_end()
     ensures talks { TalksLetGoWhatCloses }
 {}
 
-/// A fabric's own part is the same in two wholes exactly where `Whole::alike` finds it so and all that was said over its live
+/// A fabric's own part is the same in two wholes exactly where `Whole::alike` finds it so and all that is shown of its live
 /// sessions is the same.
 pub fn own_parts_are_standings_and_talks()
     ensures { OwnPartsAreStandingsAndTalks }

@@ -10,7 +10,7 @@
 //! - `sending`: what is sent to the peer of a session;
 //! - `seeing`: what a fabric sees of a whole, and whether its own part is the same in two;
 //! - `standing`: what stands over the sessions of a fabric;
-//! - `noting`: what a line adds to what is said over a session;
+//! - `noting`: what a line adds to what is shown of a session;
 //! - `laws`: what follows from a plan, and what a fabric's own part is made of.
 #![tactic(auto)]
 

@@ -1,38 +1,39 @@
-//! What a line adds to what is said over a session, for whoever keeps that beside a run.
+//! What a line adds to what is shown of a session, for whoever keeps that beside a run.
 
-ghost use Rattle.std.specs.Prelude.{◌≡◌, ◌<◌, ◌++◌, ◌^◌, IfOk, OnOk, Some, length};
+ghost use Rattle.std.specs.Prelude.{◌≡◌, ◌<◌, ◌++◌, ◌∷◌, ◌^◌, [], IfOk, OnOk, Some, length, map};
 ghost use Rattle.std.specs.Option.{option_map};
 ghost use Rattle.mt_model.specs.declared.texts.recording.Event.TheVariants.{Datagram, Report, Resend};
 ghost use Rattle.mt_model.specs.declared.texts.config.SessionRow.{SessionRow};
 ghost use Rattle.mt_runs.specs.Datagrams.{behind_answer, resent_talk, talked};
 ghost use Rattle.mt_runs.specs.Lines.{talks_behind};
 ghost use Rattle.mt_runs.specs.Whole.{SessionTalk as ToldTalk, Whole as Told};
-ghost use Rattle.mt_exchange.specs.Runs.{arrived};
+ghost use Rattle.mt_exchange.specs.Shown.{heard as heard_as};
 ghost use Rattle.mt_talk.specs.Hearing.{fresh_as};
 ghost use Rattle.mt_talk.specs.Talks.{IsTalkOf, Talk as Written, after_report};
 ghost use Rattle.mt_machine.specs.Environment.{Environment};
-ghost use Rattle.mt_marks.specs.Noted.{happening_in, noted_if};
-ghost use Rattle.mt_whole.specs.Noting.{IsNoteOf, behind_said, is_too_long, listed};
+ghost use Rattle.mt_marks.specs.Noted.{noted_if, shown_in};
+ghost use Rattle.mt_marks.specs.Remembered.{remembered};
+ghost use Rattle.mt_whole.specs.Noting.{IsNoteOf, IsShownBehind, listed, sent_if, told_if};
 ghost use Rattle.mt_whole.specs.Plan.{answer_as, given_to};
 ghost use Rattle.mt_whole.specs.Talks.{IsTalkAt, IsWholeOf};
 
 use crate::datagrams::{Answering, answered, session_named};
 use crate::talks::{SessionTalk, talk_of};
 use crate::whole::Whole;
-use mt_marks::{Arrived, Happening, Happenings, Note};
+use mt_marks::{Arrived, Note, Shown, ShownList};
 use mt_model::{Event, ExactCopy, Payloads, Verdicts};
 use mt_outside::Peer;
 use mt_session::Opened;
-use mt_talk::{SealFault, Talk};
+use mt_talk::{Outgoing, Talk};
 use mt_tlv::Bytes;
 use std::alloc::{AllocError, Global};
 
 impl Whole {
-    /// What an event adds to what is said over a session, None where it adds nothing. It changes nothing, and finds anew what
-    /// `plan` finds, which keeps none of it. Sessions that end with the event let go of their exchanges besides.
+    /// What an event adds to what is shown of a session, None where it adds nothing. It changes nothing, and finds anew what
+    /// `plan` finds, which keeps none of it. The exchanges of sessions that end with the event are dropped besides.
     pub fn note<V: Verdicts>(&self, event: &Event, verdicts: &V) -> Result<Option<Note>, AllocError>
         ensures { let given = given_to self.now (V.roots verdicts.now) (V.csrs verdicts.now) (V.joins verdicts.now) in
-            (w : Told) → IsWholeOf self.now w → IfOk result (λ note. noted_if note w.talks ≡ talks_behind given w event.now) }
+            (w : Told) → IsWholeOf self.now w → IfOk result (λ note. noted_if note (map remembered w.talks) ≡ map remembered (talks_behind given w event.now)) }
     {
         match event {
             Event::Datagram { ms, peer, bytes } => noted_datagram(
@@ -58,7 +59,7 @@ fn noted_datagram<V: Verdicts>(
     verdicts: &V,
 ) -> Result<Option<Note>, AllocError>
     ensures { let given = given_to whole.now (V.roots verdicts.now) (V.csrs verdicts.now) (V.joins verdicts.now) in
-        (w : Told) → IsWholeOf whole.now w → IfOk result (λ note. noted_if note w.talks ≡ talks_behind given w (Datagram ms from bytes.now)) }
+        (w : Told) → IsWholeOf whole.now w → IfOk result (λ note. noted_if note (map remembered w.talks) ≡ map remembered (talks_behind given w (Datagram ms from bytes.now))) }
 {
     let Some(id) = session_named(bytes.as_slice()) else {
         return Ok(None);
@@ -69,7 +70,7 @@ fn noted_datagram<V: Verdicts>(
     }
 }
 
-// What it adds to this talk: the message, where it is let in, and the answer.
+// What it adds to this talk: the message, where it is let in, and what is sent as an answer.
 fn noted_heard<V: Verdicts>(
     whole: &Whole,
     ms: u64,
@@ -86,48 +87,49 @@ fn noted_heard<V: Verdicts>(
     let mut heard = talk.talk.copy()?;
     let mut datagram = bytes.copy()?.into_vec();
     let hearing = heard.hear(live, from, &mut datagram)?;
-    let arrived = arrived_if_any(whole.alloc, live, &hearing.fresh)?;
+    let came = heard_if_any(whole.alloc, live, &hearing.fresh)?;
     let (answer, _) = answered(whole, talk.id, hearing.heard, ms, verdicts)?;
-    let said = said_with(&heard, answer, ms)?;
+    let went = sent_with(&heard, answer, ms)?;
     Ok(Note {
         session: talk.id,
-        happenings: all_listed(whole.alloc, arrived, said)?,
-        latest: heard.latest(),
+        shown: all_listed(whole.alloc, came, went)?,
     })
 }
 
-// The answer, as what happens; with one that is too long nothing does.
-fn said_with(
-    talk: &Talk,
-    answer: Option<Answering>,
-    ms: u64,
-) -> Result<Option<Happening>, AllocError>
-    ensures { (row : SessionRow) (t : Written) → IsTalkOf talk.now row t → IfOk result (λ said. behind_said said t ≡ behind_answer row ms t (answer_as answer)) }
+// What is sent as an answer, where something is.
+fn sent_with(talk: &Talk, answer: Option<Answering>, ms: u64) -> Result<Option<Shown>, AllocError>
+    ensures { (row : SessionRow) (t : Written) → IsTalkOf talk.now row t → IfOk result (λ went. IsShownBehind went t (behind_answer row ms t (answer_as answer))) }
 {
-    let Some(answer) = answer else {
-        return Ok(None);
-    };
+    match answer {
+        Some(answer) => answer_sent(talk, answer, ms),
+        None => Ok(None),
+    }
+}
+
+// An answer that the session refuses sends nothing.
+fn answer_sent(talk: &Talk, answer: Answering, ms: u64) -> Result<Option<Shown>, AllocError>
+    ensures { (row : SessionRow) (t : Written) → IsTalkOf talk.now row t → IfOk result (λ went. IsShownBehind went t (behind_answer row ms t (answer_as (Some answer)))) }
+{
     let Answering {
         key,
         acknowledge,
         payloads,
     } = answer;
     let refusal = talk.answer_refusal(key, acknowledge, payloads.copy()?)?;
-    if is_too_long(refusal) {
+    if refusal.is_some() {
         return Ok(None);
     }
-    Ok(Some(Happening::Answered {
-        key,
-        acknowledge,
-        payloads,
-        now: ms,
-    }))
+    let outgoing = talk.answer_outgoing(key, acknowledge, payloads)?;
+    Ok(sent_if_any(outgoing, ms))
 }
 
-fn is_too_long(refusal: Option<SealFault>) -> bool
-    ensures { result ≡ is_too_long refusal }
+fn sent_if_any(outgoing: Option<Outgoing>, now: u64) -> Option<Shown>
+    ensures { result ≡ sent_if outgoing now }
 {
-    matches!(refusal, Some(SealFault::TooLong))
+    match outgoing {
+        Some(outgoing) => Some(Shown::Sent { outgoing, now }),
+        None => None,
+    }
 }
 
 // What a report step adds.
@@ -139,7 +141,7 @@ fn noted_report<V: Verdicts>(
     verdicts: &V,
 ) -> Result<Option<Note>, AllocError>
     ensures { let given = given_to whole.now (V.roots verdicts.now) (V.csrs verdicts.now) (V.joins verdicts.now) in
-        (w : Told) → IsWholeOf whole.now w → IfOk result (λ note. noted_if note w.talks ≡ talks_behind given w (Report ms fabric subscription)) }
+        (w : Told) → IsWholeOf whole.now w → IfOk result (λ note. noted_if note (map remembered w.talks) ≡ map remembered (talks_behind given w (Report ms fabric subscription))) }
 {
     let (over, _, _) = whole
         .interactions
@@ -153,7 +155,7 @@ fn noted_report<V: Verdicts>(
     }
 }
 
-// What a report adds to this talk. With one that is refused nothing happens.
+// What a report adds to this talk.
 fn noted_over(
     alloc: Global,
     ms: u64,
@@ -163,24 +165,46 @@ fn noted_over(
 ) -> Result<Option<Note>, AllocError>
     ensures { (t : ToldTalk) → IsTalkAt talk.now t → IfOk result (λ note. IsNoteOf note t (after_report t.row subscription payloads ms t.talk)) }
 {
-    if talk
-        .talk
-        .report_refusal(subscription, payloads.copy()?)?
-        .is_some()
-    {
+    let went = report_sent(&talk.talk, subscription, payloads, ms)?;
+    match went {
+        Some(one) => Ok(Some(note_of(alloc, talk.id, one)?)),
+        None => Ok(None),
+    }
+}
+
+// A report that the session refuses sends nothing.
+fn report_sent(
+    talk: &Talk,
+    subscription: u32,
+    payloads: Payloads,
+    ms: u64,
+) -> Result<Option<Shown>, AllocError>
+    ensures { (row : SessionRow) (t : Written) → IsTalkOf talk.now row t → IfOk result (λ went. IsShownBehind went t (after_report row subscription payloads ms t)) }
+{
+    let refusal = talk.report_refusal(subscription, payloads.copy()?)?;
+    if refusal.is_some() {
         return Ok(None);
     }
-    let reported = Happening::Reported {
-        subscription,
-        payloads,
-        now: ms,
-    };
-    Ok(Some(note_of(alloc, talk, reported)?))
+    let outgoing = talk.report_outgoing(payloads)?;
+    Ok(told_if_any(subscription, outgoing, ms))
+}
+
+fn told_if_any(subscription: u32, outgoing: Option<Outgoing>, now: u64) -> Option<Shown>
+    ensures { result ≡ told_if subscription outgoing now }
+{
+    match outgoing {
+        Some(outgoing) => Some(Shown::Told {
+            subscription,
+            outgoing,
+            now,
+        }),
+        None => None,
+    }
 }
 
 // What a resend step adds, where the session is live.
 fn noted_resend(whole: &Whole, ms: u64, session: u16) -> Result<Option<Note>, AllocError>
-    ensures { (given : Environment) (w : Told) → IsWholeOf whole.now w → IfOk result (λ note. noted_if note w.talks ≡ talks_behind given w (Resend ms session)) }
+    ensures { (given : Environment) (w : Told) → IsWholeOf whole.now w → IfOk result (λ note. noted_if note (map remembered w.talks) ≡ map remembered (talks_behind given w (Resend ms session))) }
 {
     match talk_of(&whole.talks, session) {
         Some(talk) => noted_again(whole, ms, talk),
@@ -194,27 +218,27 @@ fn noted_again(whole: &Whole, ms: u64, talk: &SessionTalk) -> Result<Option<Note
     if whole.interactions.actor(talk.id).is_none() {
         return Ok(None);
     }
-    Ok(Some(note_of(whole.alloc, talk, Happening::Resent { now: ms })?))
+    Ok(Some(note_of(whole.alloc, talk.id, Shown::Again { now: ms })?))
 }
 
-// One thing more has happened on a session, and its peer stays where it was last heard.
-fn note_of(alloc: Global, talk: &SessionTalk, happening: Happening) -> Result<Note, AllocError>
-    ensures { (t : ToldTalk) → IsTalkAt talk.now t → IfOk result (λ note. IsNoteOf (Some note) t (behind_said (Some happening) t.talk)) }
+// One thing more is shown of a session.
+fn note_of(alloc: Global, session: u16, one: Shown) -> Result<Note, AllocError>
+    ensures session { IfOk result (λ note. note.session ≡ session) }
+    ensures shown { IfOk result (λ note. note.shown ≡ one ∷ []) }
 {
     Ok(Note {
-        session: talk.id,
-        happenings: Happenings::from_vec(vec![in alloc; happening]?),
-        latest: talk.talk.latest(),
+        session,
+        shown: ShownList::from_vec(vec![in alloc; one]?),
     })
 }
 
-// The message that is let in, as what happens.
-fn arrived_if_any(
+// The message that is let in, where one is.
+fn heard_if_any(
     alloc: Global,
     live: bool,
     fresh: &Option<Opened>,
-) -> Result<Option<Happening>, AllocError>
-    ensures { IfOk result (λ happening. option_map happening_in happening ≡ option_map (arrived live) (fresh_as fresh.now)) }
+) -> Result<Option<Shown>, AllocError>
+    ensures { IfOk result (λ came. option_map shown_in came ≡ option_map (heard_as live) (fresh_as fresh.now)) }
 {
     let Some(opened) = fresh else {
         return Ok(None);
@@ -225,28 +249,28 @@ fn arrived_if_any(
         header: opened.header,
         payload,
     };
-    Ok(Some(Happening::Arrived { live, arrival }))
+    Ok(Some(Shown::Heard { live, arrival }))
 }
 
-// What happens first, and what happens then.
+// What is shown first, and what is shown then.
 fn all_listed(
     alloc: Global,
-    first: Option<Happening>,
-    then: Option<Happening>,
-) -> Result<Happenings, AllocError>
-    ensures { IfOk result (λ happenings. happenings ≡ listed first ++ listed then) }
+    first: Option<Shown>,
+    then: Option<Shown>,
+) -> Result<ShownList, AllocError>
+    ensures { IfOk result (λ all. all ≡ listed first ++ listed then) }
 {
-    let mut happenings = Vec::new(alloc);
-    push_if_any(&mut happenings, first)?;
-    push_if_any(&mut happenings, then)?;
-    Ok(Happenings::from_vec(happenings))
+    let mut all = Vec::new(alloc);
+    push_if_any(&mut all, first)?;
+    push_if_any(&mut all, then)?;
+    Ok(ShownList::from_vec(all))
 }
 
-fn push_if_any(happenings: &mut Vec<Happening>, more: Option<Happening>) -> Result<(), AllocError>
-    ensures { OnOk result (happenings.new.items ≡ happenings.old.items ++ listed more) }
+fn push_if_any(all: &mut Vec<Shown>, more: Option<Shown>) -> Result<(), AllocError>
+    ensures { OnOk result (all.new.items ≡ all.old.items ++ listed more) }
 {
-    if let Some(happening) = more {
-        happenings.push(happening)?;
+    if let Some(one) = more {
+        all.push(one)?;
     }
     Ok(())
 }

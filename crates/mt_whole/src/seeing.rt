@@ -97,15 +97,8 @@ impl Whole {
         self.interactions.state().sessions.as_slice()
     }
 
-    /// Whether the fabric's own part is the same in two wholes, all that is said over its sessions left aside. It takes no memory.
-    pub fn has_same_own(&self, other: &Whole, fabric: u8) -> bool
-        ensures { IsTrue result ↔ ((own_of_whole fabric self.now.interactions.state ≡ own_of_whole fabric other.now.interactions.state) × (own_ledger fabric self.now.interactions.ledger ≡ own_ledger fabric other.now.interactions.ledger)) }
-    {
-        is_plain_same(fabric, &self.interactions, &other.interactions)
-    }
-
-    /// Whether the fabric's own part is the same in two wholes, all that was said over its sessions left aside but for what
-    /// stands over them. It takes no memory.
+    /// Whether the fabric's own part is the same in two wholes, with what stands over its sessions, and without what is shown
+    /// of them. It takes no memory.
     pub fn alike(&self, other: &Whole, fabric: u8) -> bool
         ensures { (w v : Told) → IsWholeOf self.now w → IsWholeOf other.now v → IsTrue result ↔ (own_standing fabric w ≡ own_standing fabric v) }
     {

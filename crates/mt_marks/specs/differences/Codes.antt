@@ -7,7 +7,6 @@ use Rattle.mt_outside.specs.declared.network.Peer.{Peer}
 use Rattle.mt_frame.specs.contracts.header.ProtocolHeader as headers
 use Rattle.mt_frame.specs.declared.header.ProtocolHeader.{ProtocolHeader}
 use Rattle.mt_model.specs.contracts.messages.message.Happened as happened
-use Rattle.mt_model.specs.contracts.messages.message.Payload as payloads
 use Rattle.mt_model.specs.contracts.node.action.PlainDeadline as deadlines
 use Rattle.mt_model.specs.contracts.node.state.ChangeNumber as changes
 use Rattle.mt_model.specs.contracts.node.state.NodeSession as sessions
@@ -21,7 +20,6 @@ use Rattle.mt_model.specs.contracts.tables.network.Network as networks
 use Rattle.mt_model.specs.contracts.texts.config.SessionRow as session_rows
 use Rattle.mt_model.specs.contracts.texts.recording.Event as events
 use Rattle.mt_model.specs.declared.messages.message.Happened.{Happened}
-use Rattle.mt_model.specs.declared.messages.message.Payload.{Payload}
 use Rattle.mt_model.specs.declared.node.action.PlainDeadline.{PlainDeadline}
 use Rattle.mt_model.specs.declared.node.state.ChangeNumber.{ChangeNumber}
 use Rattle.mt_model.specs.declared.node.state.NodeSession.{NodeSession}
@@ -38,9 +36,10 @@ use Rattle.mt_model.specs.rows.Same.{are_same_codes}
 use Rattle.mt_subs.specs.contracts.subscription.Subscription as subscriptions
 use Rattle.mt_subs.specs.declared.subscription.Subscription.{Subscription}
 use Rattle.mt_session.specs.Opening.{Arrival}
-use Rattle.mt_exchange.specs.Runs.{Happening, answered, arrived, dropped, reported, resend_step}
-use Rattle.mt_exchange.specs.contracts.exchange.Key as keys
-use Rattle.mt_exchange.specs.declared.exchange.Key.{Key}
+use Rattle.mt_session.specs.Sessions.{Message}
+use Rattle.mt_exchange.specs.Shown.{Outgoing, Shown, again, closed, heard, sent, told}
+use Rattle.mt_exchange.specs.contracts.exchange.Exchange as exchanges
+use Rattle.mt_exchange.specs.declared.exchange.Exchange.{Exchange}
 use Rattle.mt_machine.specs.Isolation.{Descriptor, Own, OwnOfWhole}
 use Rattle.mt_ledger.specs.Isolation.{OwnLedger}
 use Rattle.mt_runs.specs.Isolation.{OwnPart}
@@ -112,42 +111,49 @@ abbrev pub of_arrival : Coded Arrival
 of_arrival = code_by (ℕ × (ProtocolHeader × List ℕ)) (coded× coded_ℕ (coded× headers.the_row.coded of_owners))
     (λ (a : Arrival). (a.counter, (a.header, a.payload))) (λ t. record { counter = t.0; header = t.1.0; payload = t.1.1 }) (λ _. refl)
 
-abbrev pub of_payloads : Coded (List Payload)
-of_payloads = coded_list payloads.the_row.coded
+abbrev pub of_message : Coded Message
+of_message = code_by (ProtocolHeader × List ℕ) (coded× headers.the_row.coded of_owners) (λ (m : Message). (m.header, m.payload)) (λ t. record { header = t.0; payload = t.1 }) (λ _. refl)
 
--- a happening is one of these four, or a drop, which is an arrival that is none
-abbrev pub Told : Type 0
-Told = (Option (Bool × Arrival)) ⊎ ((Key × (Option ℕ × (List Payload × ℕ))) ⊎ ((ℕ × (List Payload × ℕ)) ⊎ ℕ))
+abbrev pub of_outgoing : Coded Outgoing
+of_outgoing = code_by (Message × Option ℕ) (coded× of_message (coded_option coded_ℕ)) (λ (o : Outgoing). (o.message, o.deadline)) (λ t. record { message = t.0; deadline = t.1 }) (λ _. refl)
 
-abbrev pub told_as : Happening → Told
-told_as (arrived live arrival) = inl (Some (live, arrival))
-told_as (answered key acknowledge payloads now) = inr (inl (key, (acknowledge, (payloads, now))))
-told_as (reported subscription payloads now) = inr (inr (inl (subscription, (payloads, now))))
-told_as (resend_step now) = inr (inr (inr now))
-told_as dropped = inl None
+-- what is shown is one of these four, or a drop, which is an arrival that is none
+abbrev pub ShownAs : Type 0
+ShownAs = (Option (Bool × Arrival)) ⊎ ((Outgoing × ℕ) ⊎ ((ℕ × (Outgoing × ℕ)) ⊎ ℕ))
 
-abbrev pub happening_as : Told → Happening
-happening_as (inl (Some t)) = arrived t.0 t.1
-happening_as (inl None) = dropped
-happening_as (inr (inl t)) = answered t.0 t.1.0 t.1.1.0 t.1.1.1
-happening_as (inr (inr (inl t))) = reported t.0 t.1.0 t.1.1
-happening_as (inr (inr (inr now))) = resend_step now
+abbrev pub as_shown : Shown → ShownAs
+as_shown (heard live arrival) = inl (Some (live, arrival))
+as_shown (sent message now) = inr (inl (message, now))
+as_shown (told subscription message now) = inr (inr (inl (subscription, (message, now))))
+as_shown (again now) = inr (inr (inr now))
+as_shown closed = inl None
 
-pub told_again : (h : Happening) → happening_as (told_as h) ≡ h
-told_again (arrived live arrival) = refl
-told_again (answered key acknowledge payloads now) = refl
-told_again (reported subscription payloads now) = refl
-told_again (resend_step now) = refl
-told_again dropped = refl
+abbrev pub of_parts : ShownAs → Shown
+of_parts (inl (Some t)) = heard t.0 t.1
+of_parts (inl None) = closed
+of_parts (inr (inl t)) = sent t.0 t.1
+of_parts (inr (inr (inl t))) = told t.0 t.1.0 t.1.1
+of_parts (inr (inr (inr now))) = again now
 
-abbrev pub of_happening : Coded Happening
-of_happening = code_by Told (coded⊎ (coded_option (coded× coded_bool of_arrival))
-    (coded⊎ (coded× keys.the_row.coded (coded× (coded_option coded_ℕ) (coded× of_payloads coded_ℕ))) (coded⊎ (coded× coded_ℕ (coded× of_payloads coded_ℕ)) coded_ℕ)))
-    told_as happening_as told_again
+pub shown_again : (s : Shown) → of_parts (as_shown s) ≡ s
+shown_again (heard live arrival) = refl
+shown_again (sent message now) = refl
+shown_again (told subscription message now) = refl
+shown_again (again now) = refl
+shown_again closed = refl
+
+abbrev pub of_shown : Coded Shown
+of_shown = code_by ShownAs (coded⊎ (coded_option (coded× coded_bool of_arrival)) (coded⊎ (coded× of_outgoing coded_ℕ) (coded⊎ (coded× coded_ℕ (coded× of_outgoing coded_ℕ)) coded_ℕ))) as_shown of_parts shown_again
+
+abbrev pub of_exchanges : Coded (List Exchange)
+of_exchanges = coded_list exchanges.the_row.coded
 
 abbrev pub of_talk : Coded SessionTalk
-of_talk = code_by (SessionRow × (List Happening × Option Peer)) (coded× session_rows.the_row.coded (coded× (coded_list of_happening) (coded_option peers.the_row.coded)))
-    (λ (t : SessionTalk). (t.row, (t.talk.happenings, t.talk.latest))) (λ t. record { row = t.0; talk = record { happenings = t.1.0; latest = t.1.1 } }) (λ _. refl)
+of_talk = code_by (SessionRow × (List Shown × (List Exchange × (ℕ × Option Peer))))
+    (coded× session_rows.the_row.coded (coded× (coded_list of_shown) (coded× of_exchanges (coded× coded_ℕ (coded_option peers.the_row.coded)))))
+    (λ (t : SessionTalk). (t.row, (t.talk.shown, (t.talk.open_ones, (t.talk.next_id, t.talk.latest)))))
+    (λ t. record { row = t.0; talk = record { shown = t.1.0; open_ones = t.1.1.0; next_id = t.1.1.1.0; latest = t.1.1.1.1 } })
+    (λ _. refl)
 
 abbrev pub of_own : Coded OwnPart
 of_own = code_by (OwnOfWhole × (OwnLedger × List SessionTalk)) (coded× of_own_whole (coded× of_own_ledger (coded_list of_talk)))

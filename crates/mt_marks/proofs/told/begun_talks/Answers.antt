@@ -1,5 +1,6 @@
-use Rattle.std.proofs.Common.{◌≡◌, ◌++◌, ◌+◌, List, sym, ap, subst, drop, ◌∙◌}
+use Rattle.std.proofs.Common.{◌≡◌, ◌++◌, ◌+◌, List, sym, ap, subst, drop, map, ◌∙◌}
 use Rattle.std.proofs.lemmas.Bool.{eq-eqb, ne_eqb}
+use Rattle.mt_marks.specs.Remembered.{remembered}
 use Rattle.mt_marks.specs.Told.{talks_in}
 use Rattle.mt_marks.specs.declared.told.Told.{Told}
 use Rattle.mt_runs.specs.Whole.{begun_in}
@@ -13,7 +14,7 @@ loop-row-preserved c =
     let boot = c.args.boot in
     let at = c.loop-row in
     let row = c.row-item.result in
-    let Are : List Told → Type 0 = λ talks. talks_in talks ++ begun_in boot (drop (at.row-index + 1) rows) ≡ begun_in boot rows in
+    let Are : List Told → Type 0 = λ talks. talks_in talks ++ map remembered (begun_in boot (drop (at.row-index + 1) rows)) ≡ map remembered (begun_in boot rows) in
     elim c.if-row-boot.branch [
       | then-row-boot+in_ok-begun_with+in_ok-push w ↦
           subst Are (sym (ap (λ v. v.items) w.talks-is ∙ w.in_ok-push.ensures.items))

@@ -1,4 +1,4 @@
-use Rattle.std.proofs.Common.{◌≡◌, ℕ, Option, Some, None, sym, ap, subst, ◌∙◌}
+use Rattle.std.proofs.Common.{◌≡◌, ℕ, Option, Some, None, map, sym, ap, subst, ◌∙◌}
 use Rattle.std.specs.List.{find}
 use Rattle.std.specs.Option.{option_copied}
 use Rattle.mt_machine.specs.State.{State}
@@ -6,6 +6,7 @@ use Rattle.mt_ledger.specs.Ledger.{Ledger}
 use Rattle.mt_runs.specs.Datagrams.{session_named, talked}
 use Rattle.mt_runs.specs.Lines.{with_next}
 use Rattle.mt_runs.specs.Whole.{SessionTalk, talk_of}
+use Rattle.mt_marks.specs.Remembered.{remembered}
 use Rattle.mt_whole.specs.Noting.{IsNoteOf}
 use Rattle.mt_whole.specs.Plan.{given_to}
 use Rattle.mt_whole.specs.Talks.{is_code_of}
@@ -20,7 +21,7 @@ returns-in_default g c w is =
     let given = given_to whole (g.V.Verdicts.roots verdicts) (g.V.Verdicts.csrs verdicts) (g.V.Verdicts.joins verdicts) in
     let bytes = c.args.bytes.now in
     let none : talk_of (session_named bytes) w.talks ≡ None = ap (λ (n : Option ℕ). talk_of n w.talks) (ap session_named (sym c.as_slice.ensures) ∙ sym c.session_named.ensures.exact ∙ c.in_default.is) in
-    sym (ap (λ (o : Option SessionTalk). with_next (talked given w.state.node w.ledger c.args.ms c.args.from bytes) o w.talks) none)
+    sym (ap (λ (o : Option SessionTalk). map remembered (with_next (talked given w.state.node w.ledger c.args.ms c.args.from bytes) o w.talks)) none)
 
 pub returns-in_ok-noted_heard-in-Some-talk_of : goal.returns-in_ok-noted_heard-in-Some-talk_of
 returns-in_ok-noted_heard-in-Some-talk_of g c w is =
@@ -38,7 +39,7 @@ returns-in_ok-noted_heard-in-Some-talk_of g c w is =
     let noted : IsNoteOf note found.0 (talked given w.state.node w.ledger ms from bytes found.0) =
     subst (λ (x : State × Ledger). IsNoteOf note found.0 (talked given x.0.node x.1 ms from bytes found.0)) (λ i. (is.state i, is.ledger i)) (c.in_ok-noted_heard-in-Some-talk_of.ensures found.0 found.2) in
     noted_over id found.0 w.talks note (talked given w.state.node w.ledger ms from bytes) found.1 noted
-    ∙ ap (λ (n : Option ℕ). with_next (talked given w.state.node w.ledger ms from bytes) (talk_of n w.talks) w.talks) (sym named)
+    ∙ ap (λ (n : Option ℕ). map remembered (with_next (talked given w.state.node w.ledger ms from bytes) (talk_of n w.talks) w.talks)) (sym named)
 
 pub returns-in-None : goal.returns-in-None
 returns-in-None g c w is =
@@ -50,4 +51,4 @@ returns-in-None g c w is =
     let looked : None ≡ find (is_code_of id) whole.talks.items = ap option_copied (sym c.in-None.is) ∙ c.talk_of.ensures ∙ ap (find (is_code_of id)) c.deref.ensures.value in
     let none : talk_of (session_named bytes) w.talks ≡ None =
     ap (λ (n : Option ℕ). talk_of n w.talks) (ap session_named (sym c.as_slice.ensures) ∙ sym c.session_named.ensures.exact ∙ c.in-Some.is) ∙ one_found id None whole.talks.items w.talks looked is.talks in
-    sym (ap (λ (o : Option SessionTalk). with_next (talked given w.state.node w.ledger c.args.ms c.args.from bytes) o w.talks) none)
+    sym (ap (λ (o : Option SessionTalk). map remembered (with_next (talked given w.state.node w.ledger c.args.ms c.args.from bytes) o w.talks)) none)

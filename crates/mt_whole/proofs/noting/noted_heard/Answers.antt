@@ -1,17 +1,14 @@
 use Rattle.std.proofs.Common.{◌≡◌, ℕ, Bool, List, Option, is_some, option_map, sym, ap, subst, ◌∙◌}
-use Rattle.mt_exchange.specs.Runs.{arrived}
-use Rattle.mt_session.specs.Opening.{Arrival}
+use Rattle.mt_exchange.specs.Shown as showing
 use Rattle.mt_talk.specs.Hearing.{Said, after_datagram, fresh_as, fresh_by, received_in, said, said_by}
 use Rattle.mt_talk.specs.Talks.{IsTalkOf}
 use Rattle.mt_talk.specs.declared.talk.Talk as code
 use Rattle.mt_machine.specs.Step.{session_actor}
 use Rattle.mt_runs.specs.Datagrams.{Answer, behind_answer, heard, its_answer, said_to}
 use Rattle.mt_runs.specs.Whole.{is_live}
-use Rattle.mt_marks.specs.Noted.{happening_in}
-use Rattle.mt_marks.specs.declared.happening.Happening.{Happening}
-use Rattle.mt_marks.specs.declared.happening.Note.{Note}
+use Rattle.mt_marks.specs.Noted.{shown_in}
 use Rattle.mt_whole.specs.Plan.{IsAnswered, answer_as, given_to}
-use Rattle.mt_whole.proofs.Noted.{heard_noted, received_list}
+use Rattle.mt_whole.proofs.Noted.{both_shown, heard_list}
 use Rattle.mt_whole.proofs.noting.noted_heard.Goals as goal
 
 pub returns : goal.returns
@@ -40,13 +37,13 @@ returns g c t at =
     subst (λ (n : ℕ). IsAnswered given s l n ms (said_to s.node bytes t) (c.in_ok-answer.answer, c.in_ok-answer.field-0-1)) at.id
     (subst (λ (x : Said). IsAnswered given s l c.args.talk.now.id ms x (c.in_ok-answer.answer, c.in_ok-answer.field-0-1)) says c.in_ok-answer.ensures) in
     let answer : answer_as c.in_ok-answer.answer ≡ its_answer given s.node l ms bytes t = answers.answer in
-    let fresh : option_map happening_in c.in_ok-arrived.arrived ≡ option_map (arrived (is_live s.node row.session)) (fresh_by (received_in row t.talk bytes)) =
-    c.in_ok-arrived.ensures
-    ∙ ap (λ (b : Bool). option_map (arrived b) (fresh_as hearing.fresh)) live
-    ∙ ap (option_map (arrived (is_live s.node row.session))) (c.in_ok-hearing.ensures.fresh row t.talk copied ∙ ap (λ (d : List ℕ). fresh_by (received_in row t.talk d)) read_as) in
-    let note : Note = record { session = c.args.talk.now.id; happenings = c.in_ok-all_listed.field-0; latest = c.latest.result } in (
+    let fresh : option_map shown_in c.in_ok-came.came ≡ option_map (showing.heard (is_live s.node row.session)) (fresh_by (received_in row t.talk bytes)) =
+    c.in_ok-came.ensures
+    ∙ ap (λ (b : Bool). option_map (showing.heard b) (fresh_as hearing.fresh)) live
+    ∙ ap (option_map (showing.heard (is_live s.node row.session))) (c.in_ok-hearing.ensures.fresh row t.talk copied ∙ ap (λ (d : List ℕ). fresh_by (received_in row t.talk d)) read_as) in
+    let talk = heard s.node from bytes t in (
       at.id,
-      heard_noted note t c.in_ok-arrived.arrived c.in_ok-said.said (heard s.node from bytes t) (behind_answer row ms (heard s.node from bytes t) (its_answer given s.node l ms bytes t)) c.in_ok-all_listed.ensures (c.latest.ensures ∙ stands.latest)
-          (received_list (is_live s.node row.session) from (received_in row t.talk bytes) t.talk c.in_ok-arrived.arrived fresh)
-          (c.in_ok-said.ensures row (heard s.node from bytes t) stands ∙ ap (behind_answer row ms (heard s.node from bytes t)) answer),
+      both_shown t.talk talk (behind_answer row ms talk (its_answer given s.node l ms bytes t)) c.in_ok-came.came c.in_ok-went.went c.in_ok-all_listed.field-0 c.in_ok-all_listed.ensures
+          (heard_list (is_live s.node row.session) from (received_in row t.talk bytes) t.talk c.in_ok-came.came fresh)
+          (c.in_ok-went.ensures row talk stands ∙ ap (λ (a : Option Answer). (behind_answer row ms talk a).shown) answer),
     )

@@ -1,21 +1,17 @@
-use Rattle.std.proofs.Common.{◌≡◌, List, is_some, false, true, sym, ap, ◌∙◌, rules}
-use Rattle.mt_model.specs.declared.messages.message.Payload.{Payload}
-use Rattle.mt_exchange.specs.Runs.{reported}
-use Rattle.mt_talk.specs.Talks.{refusal_in, report_in}
-use Rattle.mt_whole.proofs.Noted.{adds_report, stays_refused}
+use Rattle.std.proofs.Common.{Option, subst, ◌∙◌}
+use Rattle.mt_talk.specs.Talks.{after_report}
+use Rattle.mt_marks.specs.declared.shown.Shown.{Shown}
+use Rattle.mt_whole.specs.Noting.{IsShownBehind}
+use Rattle.mt_whole.proofs.Noted.{none_noted, one_noted}
 use Rattle.mt_whole.proofs.noting.noted_over.Goals as goal
 
-pub returns-then-is_some : goal.returns-then-is_some
-returns-then-is_some c t at =
-    let payloads = c.args.payloads in
-    let copied : c.in_ok-copy.field-0 ≡ payloads = search rules in
-    let refusal = c.in_ok-report_refusal.ensures t.row t.talk at.talk ∙ ap (λ (x : List Payload). refusal_in (report_in t.row t.talk x)) copied in
-    stays_refused (report_in t.row t.talk payloads) (reported c.args.subscription payloads c.args.ms) t.talk (ap is_some (sym refusal) ∙ sym c.is_some.ensures ∙ c.if-is_some.true)
+pub returns-in_ok-note_of-in-Some : goal.returns-in_ok-note_of-in-Some
+returns-in_ok-note_of-in-Some c t at =
+    let next = after_report t.row c.args.subscription c.args.payloads c.args.ms t.talk in
+    let shows = subst (λ (went : Option Shown). IsShownBehind went t.talk next) c.in-Some.is (c.in_ok-went.ensures t.row t.talk at.talk) in
+    one_noted c.in_ok-note_of-in-Some.field-0 t next c.in-Some.one (c.in_ok-note_of-in-Some.ensures.session ∙ at.id) c.in_ok-note_of-in-Some.ensures.shown shows
 
-pub returns : goal.returns
-returns c t at =
-    let payloads = c.args.payloads in
-    let copied : c.in_ok-copy.field-0 ≡ payloads = search rules in
-    let refusal = c.in_ok-report_refusal.ensures t.row t.talk at.talk ∙ ap (λ (x : List Payload). refusal_in (report_in t.row t.talk x)) copied in
-    let noted = c.in_ok-note_of.ensures t at in
-    (noted.0, noted.1 ∙ adds_report (report_in t.row t.talk payloads) (reported c.args.subscription payloads c.args.ms) t.talk (ap is_some (sym refusal) ∙ sym c.is_some.ensures ∙ c.if-is_some.false))
+pub returns-in-None : goal.returns-in-None
+returns-in-None c t at =
+    let next = after_report t.row c.args.subscription c.args.payloads c.args.ms t.talk in
+    none_noted t next (subst (λ (went : Option Shown). IsShownBehind went t.talk next) c.in-None.is (c.in_ok-went.ensures t.row t.talk at.talk))

@@ -1,4 +1,4 @@
-use Rattle.std.proofs.Common.{◌≡◌, ℕ, List, Option, Some, None, sym, ap, subst, ◌∙◌}
+use Rattle.std.proofs.Common.{◌≡◌, ℕ, List, Option, Some, None, map, sym, ap, subst, ◌∙◌}
 use Rattle.std.specs.List.{find}
 use Rattle.std.specs.Option.{option_copied}
 use Rattle.mt_machine.specs.State.{State}
@@ -10,7 +10,8 @@ use Rattle.mt_model.specs.declared.messages.message.Payload.{Payload}
 use Rattle.mt_model.specs.declared.texts.recording.Event.TheVariants.{Report}
 use Rattle.mt_interactions.specs.Reporting.{reported_over}
 use Rattle.mt_marks.specs.Noted.{noted_if}
-use Rattle.mt_marks.specs.declared.happening.Note.{Note}
+use Rattle.mt_marks.specs.Remembered.{remembered}
+use Rattle.mt_marks.specs.declared.shown.Note.{Note}
 use Rattle.mt_whole.specs.Noting.{IsNoteOf}
 use Rattle.mt_whole.specs.Plan.{given_to}
 use Rattle.mt_whole.specs.Talks.{is_code_of}
@@ -46,7 +47,7 @@ returns-in-Some-talk_of g c w is =
     let talk = c.in-Some-talk_of.talk.now in
     let looked : Some talk ≡ find (is_code_of session) whole.talks.items = ap option_copied (sym c.in-Some-talk_of.is) ∙ c.talk_of.ensures ∙ ap (find (is_code_of session)) c.deref.ensures.value in
     let found = one_found session (Some talk) whole.talks.items w.talks looked is.talks in
-    if_ok c.noted_over.result (λ (note : Option Note). IsNoteOf note found.0 (after_report found.0.row id payloads ms found.0.talk)) (λ (note : Option Note). noted_if note w.talks ≡ talks_behind given w (Report ms fabric id))
+    if_ok c.noted_over.result (λ (note : Option Note). IsNoteOf note found.0 (after_report found.0.row id payloads ms found.0.talk)) (λ (note : Option Note). noted_if note (map remembered w.talks) ≡ map remembered (talks_behind given w (Report ms fabric id)))
     (λ note noted. told_noted given w ms fabric id session payloads found.0 note due found.1 noted) (c.noted_over.ensures found.0 found.2)
 
 pub returns-in-None : goal.returns-in-None

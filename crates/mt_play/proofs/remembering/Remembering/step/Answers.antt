@@ -1,10 +1,11 @@
-use Rattle.std.proofs.Common.{◌≡◌, Option, ap, subst, sym, ◌∙◌}
+use Rattle.std.proofs.Common.{◌≡◌, Option, ap, map, subst, sym, ◌∙◌}
 use Rattle.std.specs.Prelude.{IfSome, is_some}
 use Rattle.mt_machine.specs.Environment.{Environment}
 use Rattle.mt_machine.specs.State.{State}
 use Rattle.mt_ledger.specs.Ledger.{Ledger}
 use Rattle.mt_runs.specs.Lines.{talks_behind}
 use Rattle.mt_marks.specs.Noted.{noted_if}
+use Rattle.mt_marks.specs.Remembered.{remembered}
 use Rattle.mt_whole.specs.Plan.{IsPlan, IsPlanned}
 use Rattle.mt_whole.specs.declared.outcome.WholeOutcome.{WholeOutcome}
 use Rattle.mt_play.proofs.Stepping.{told_behind}
@@ -24,8 +25,8 @@ returns-clause-steps c given w is =
     let here = subst (λ (o : Option WholeOutcome). IfSome o (IsPlanned whole.interactions.state whole.interactions.ledger)) c.in-Some.is c.in_ok-outcome.ensures.planned in
     let planned : IsPlanned w.state w.ledger outcome =
     subst (λ (l : Ledger). IsPlanned w.state l outcome) at.ledger (subst (λ (s : State). IsPlanned s whole.interactions.ledger outcome) at.state here) in
-    let adds : noted_if c.in_ok-note.note w.talks ≡ talks_behind given w event =
-    subst (λ (g : Environment). noted_if c.in_ok-note.note w.talks ≡ talks_behind g w event) is.playing.by (c.in_ok-note.ensures w at) in
+    let adds : noted_if c.in_ok-note.note (map remembered w.talks) ≡ map remembered (talks_behind given w event) =
+    subst (λ (g : Environment). noted_if c.in_ok-note.note (map remembered w.talks) ≡ map remembered (talks_behind g w event)) is.playing.by (c.in_ok-note.ensures w at) in
     let steps = c.apply.ensures given w event is.playing plan in
     record {
       sent = steps.sent;
