@@ -1,0 +1,7 @@
+pub mod Askings
+pub mod Cuts
+pub mod Ends
+pub mod Readings
+pub mod Recordings
+pub mod Showings
+pub mod Tests
