@@ -8,7 +8,7 @@ are named, in growing lengths, and tells the lines, the status and the seconds; 
 fabric 1 sees. It takes crates/matter_node as `rt run` builds it, or the program that PROGRAM names.
 
 A row of the table is `NAME CONFIGURATION RECORDING SESSIONS`: the files of the configuration and of a recording whose lines, all at time 0,
-are said again and again, each a millisecond behind the one before. Where there are sessions, so many ask by turns what its last line asks,
+are said again and again, each a millisecond behind the one before; a line that stops the disk has no time. Where there are sessions, so many ask by turns what its last line asks,
 in datagrams that are sealed here, apart from the program."""
 import functools
 import itertools
@@ -132,8 +132,7 @@ def lines_of(name):
     yield HEADER
     if sessions == '0':
         for ms, line in enumerate(itertools.cycle(repeated)):
-            letter, rest = line.split(' 0', 1)
-            yield f'{letter} {ms}{rest}'
+            yield line if line.startswith('X') else line.replace(' 0', f' {ms}', 1)
     payload = bytes.fromhex(repeated[-1].split(' ')[-1])
     for ms in itertools.count():
         before, index = divmod(ms, int(sessions))

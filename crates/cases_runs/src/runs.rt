@@ -29,8 +29,8 @@ impl Source for Endless {
 /// Tells what a run answers and writes; `..` stands behind an output that was cut off in a line. A case is
 /// `NAME|WORDS|CONFIGURATION|RECORDING|FAILS|FAILS|FAILS|BYTES`: the numbers of the calls that fail, of the
 /// configuration's source, of the recording's, of the output, and how many bytes the output takes a call. The
-/// configuration is the name of a file; in the recording `/` ends a line. Either can be `endless`. Where the
-/// words are `in hand` there are none, and the configuration is in hand.
+/// configuration is the name of a file; in the recording `/` ends a line, and `3*` in front of a line says how many times it
+/// stands there. Either can be `endless`. Where the words are `in hand` there are none, and the configuration is in hand.
 pub(crate) fn tell(rt: &HostRuntime, page: &mut Page, case: &str) -> io::Result<()> {
     let alloc = rt.alloc();
     let words: Vec<&str> = case.split('|').collect(alloc)?;
@@ -136,9 +136,18 @@ pub(crate) fn source(alloc: Global, bytes: &[u8], fails: &str) -> Result<MemSour
     MemSource::new(alloc, bytes, &fails)
 }
 
-/// The source of a recording, in which `/` ends a line.
+/// The source of a recording as it is spelled in a case.
 pub(crate) fn recording(alloc: Global, text: &str, fails: &str) -> Result<MemSource, AllocError> {
-    let text = text.replace(alloc, '/', "\n")?;
+    let mut lines = String::new(alloc);
+    for line in text.split('/') {
+        let (times, line) = line.split_once('*').unwrap_or(("1", line));
+        for _ in 0..times.parse::<usize>().unwrap_or(1) {
+            lines.push_str(line)?;
+            lines.push_str("\n")?;
+        }
+    }
+    // What stands behind the last `/` has no end.
+    let text = lines.as_str().strip_suffix("\n").unwrap_or("");
     source(alloc, text.as_bytes(), fails)
 }
 

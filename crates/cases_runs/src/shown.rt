@@ -1,20 +1,23 @@
 //! Runs as they are shown to people.
 
+ghost use Rattle.std.specs.Prelude.{OnOk};
+ghost use Rattle.mt_play.specs.Plays.{IsOnJournal};
+
 use cases_page::{Page, byte, word};
 use mt_files::{LineFault, config as configuration, events};
-use mt_lens::{Line, Teller, show_faulty_line, show_words};
-use mt_model::{Config, Event, Sent};
-use mt_play::Playing;
+use mt_lens::{Came, DiskStop, Line, Teller, show_faulty_line, show_words};
+use mt_model::{Config, Event};
+use mt_play::{Course, Planned, Playing};
 use std::alloc::{AllocError, Global};
 use std::{fs, io};
 
 /// The run that is shown: the node, and who tells of it.
-struct Show {
-    node: Playing,
+struct Show<'a> {
+    node: Playing<'a>,
     teller: Teller,
 }
 
-impl Drop for Show {
+impl<'a> Drop for Show<'a> {
     fn drop(self) {
         let Show { node: _, teller: _ } = self;
     }
@@ -75,7 +78,6 @@ fn spelled(alloc: Global, recording: &str) -> Result<String, AllocError> {
     text.as_str().replace(alloc, '^', "\x1b")
 }
 
-// The lines up to the first that is not built.
 fn played(
     alloc: Global,
     config: &Config,
@@ -89,57 +91,68 @@ fn played(
     let mut page = mt_lens::Page::new(alloc, false);
     let mut number = 2u64;
     for event in events {
-        if !show.has_played(&mut page, number, event)? {
-            break;
-        }
+        show.play(&mut page, number, event)?;
         number = number.saturating_add(1);
     }
     Ok(page)
 }
 
-impl Show {
-    // Whether the line is built; then it has happened, and what is to be shown of it is on the page.
-    fn has_played(
+impl<'a> Show<'a> {
+    // Plays a line; what is to be shown of it is on the page.
+    fn play(
         &mut self,
         page: &mut mt_lens::Page,
         number: u64,
         event: &Event,
-    ) -> Result<bool, AllocError> {
-        let Some(outcome) = self.node.plan(event)? else {
-            return Ok(false);
-        };
-        let sent = outcome.sent.as_slice();
-        tell_line(
-            &self.node,
-            &mut self.teller,
-            page,
-            number,
-            event,
-            Some(sent),
-        )?;
-        self.node.apply(outcome);
-        Ok(true)
+    ) -> Result<(), AllocError>
+        requires { IsOnJournal self.old.node }
+        ensures { OnOk result (IsOnJournal self.new.node) }
+    {
+        let planned = self.node.plan(event)?;
+        let came = came_of(&planned);
+        tell_line(&self.node, &mut self.teller, page, number, event, came)?;
+        self.node.carry_out(planned)?;
+        Ok(())
     }
 }
 
 // Tells of a line that the node is about to play, where it is to be shown.
 fn tell_line(
-    node: &Playing,
+    node: &Playing<'_>,
     teller: &mut Teller,
     page: &mut mt_lens::Page,
     number: u64,
     event: &Event,
-    sent: Option<&[Sent]>,
+    came: Came<'_>,
 ) -> Result<(), AllocError> {
     let line = Line {
         number,
         event,
         sessions: node.sessions(),
         armed: node.armed(),
-        sent,
+        came,
     };
     if let Some(told) = teller.told(&line)? {
         show_words(page, &told);
     }
     Ok(())
+}
+
+// What is to come of a planned line.
+fn came_of(planned: &Planned) -> Came<'_> {
+    match planned.course() {
+        Course::Goes(_) => Came::Sent(match planned.outcome() {
+            Some(outcome) => outcome.sent.as_slice(),
+            None => &[],
+        }),
+        Course::Stops { by, survives } => Came::Stopped(DiskStop {
+            calls: by.asked,
+            fate: by.fate,
+            change: match planned.outcome() {
+                Some(outcome) => outcome.change(),
+                None => &[],
+            },
+            survives,
+        }),
+    }
 }

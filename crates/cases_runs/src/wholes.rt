@@ -21,7 +21,7 @@ pub(crate) fn tell(rt: &HostRuntime, page: &mut Page, case: &str) -> io::Result<
     Ok(())
 }
 
-// A recording that can't be read, or a line of which is not built, is none.
+// A recording that can't be read is none.
 fn told(alloc: Global, config: &Config, words: &[&str]) -> Result<&'static str, AllocError> {
     let fabric = byte(words, 1);
     let one = behind(alloc, config, word(words, 3))?;
@@ -34,20 +34,26 @@ fn told(alloc: Global, config: &Config, words: &[&str]) -> Result<&'static str, 
 }
 
 // The node behind a recording.
-fn behind(alloc: Global, config: &Config, recording: &str) -> Result<Option<Playing>, AllocError> {
+fn behind<'a>(
+    alloc: Global,
+    config: &'a Config,
+    recording: &str,
+) -> Result<Option<Playing<'a>>, AllocError> {
     let text = recording.replace(alloc, '/', "\n")?;
     match events(alloc, text.as_bytes()) {
-        Ok(events) => played(alloc, config, events.as_slice()),
+        Ok(events) => Ok(Some(played(alloc, config, events.as_slice())?)),
         Err(_) => Ok(None),
     }
 }
 
-fn played(alloc: Global, config: &Config, events: &[Event]) -> Result<Option<Playing>, AllocError> {
+fn played<'a>(
+    alloc: Global,
+    config: &'a Config,
+    events: &[Event],
+) -> Result<Playing<'a>, AllocError> {
     let mut node = Playing::start(alloc, config)?;
     for event in events {
-        let Some(_) = node.step(event)? else {
-            return Ok(None);
-        };
+        node.step(event)?;
     }
-    Ok(Some(node))
+    Ok(node)
 }

@@ -39,8 +39,6 @@ pub(crate) enum Fault {
     Disk,
     /// The journal is none from this place of its file on.
     NotAJournal(u64),
-    /// The first line that the node does not support yet.
-    Unbuilt(u64),
 }
 
 impl From<AllocError> for Fault {
@@ -67,7 +65,6 @@ impl Fault {
             Fault::Disk => 8,
             Fault::NotAJournal(_) => 9,
             Fault::TooLong(_) => 10,
-            Fault::Unbuilt(_) => 14,
         }
     }
 
@@ -107,11 +104,6 @@ impl Fault {
             Fault::Disk => eprintln!(rt; "The disk failed as the journal {journal} was read."),
             Fault::NotAJournal(place) => {
                 eprintln!(rt; "{journal} is no journal from byte {place} on.")
-            }
-            Fault::Unbuilt(line) => {
-                eprintln!(rt;
-                    "Line {line} is of a kind that the node does not support yet: the run ends before it."
-                )
             }
         }
     }

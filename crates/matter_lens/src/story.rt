@@ -1,10 +1,13 @@
 //! The recording, line by line, with what came of each.
 
+ghost use Rattle.std.specs.Prelude.{OnOk};
+ghost use Rattle.mt_play.specs.Plays.{IsOnJournal};
+
 use crate::faults::Fault;
 use crate::options::Options;
-use mt_lens::{Line, Page, Teller, show_object, show_words};
-use mt_model::{Config, Event, Events, Sent};
-use mt_play::Playing;
+use mt_lens::{Came, DiskStop, Line, Page, Teller, show_object, show_words};
+use mt_model::{Config, Event, Events};
+use mt_play::{Course, Planned, Playing};
 use std::alloc::AllocError;
 use std::io::{self, IsTerminal, Write};
 
@@ -38,20 +41,18 @@ pub(crate) fn tell(
 }
 
 impl Story<'_> {
-    // Plays the lines up to the first that the node does not support yet.
+    // Plays the lines.
     fn play(
         &mut self,
         rt: &HostRuntime,
-        node: &mut Playing,
+        node: &mut Playing<'_>,
         events: &[Event],
-    ) -> Result<(), Fault> {
+    ) -> Result<(), Fault>
+        requires { IsOnJournal node.old }
+    {
         let mut line = 2u64;
         for event in events {
-            let is_built = self.step(node, line, event)?;
-            if !is_built {
-                self.write(rt)?;
-                return Err(Fault::Unbuilt(line));
-            }
+            self.step(node, line, event)?;
             self.write_part(rt)?;
             line = line.saturating_add(1);
         }
@@ -66,31 +67,31 @@ impl Story<'_> {
         self.write(rt)
     }
 
-    // Plays a line and tells of it. False where the node does not support it yet.
-    fn step(&mut self, node: &mut Playing, line: u64, event: &Event) -> Result<bool, AllocError> {
-        let Some(outcome) = node.plan(event)? else {
-            self.tell(node, line, event, None)?;
-            return Ok(false);
-        };
-        self.tell(node, line, event, Some(outcome.sent.as_slice()))?;
-        node.apply(outcome);
-        Ok(true)
+    // Plays a line and tells of it.
+    fn step(&mut self, node: &mut Playing<'_>, line: u64, event: &Event) -> Result<(), AllocError>
+        requires { IsOnJournal node.old }
+        ensures { OnOk result (IsOnJournal node.new) }
+    {
+        let planned = node.plan(event)?;
+        self.tell(node, line, event, came_of(&planned))?;
+        node.carry_out(planned)?;
+        Ok(())
     }
 
     // Tells of a line that the node is about to play, where it is to be shown.
     fn tell(
         &mut self,
-        node: &Playing,
+        node: &Playing<'_>,
         number: u64,
         event: &Event,
-        sent: Option<&[Sent]>,
+        came: Came<'_>,
     ) -> Result<(), AllocError> {
         let line = Line {
             number,
             event,
             sessions: node.sessions(),
             armed: node.armed(),
-            sent,
+            came,
         };
         let Some(told) = self.teller.told(&line)? else {
             return Ok(());
@@ -114,5 +115,24 @@ impl Story<'_> {
             }
             Err(_) => Err(Fault::Unwritten),
         }
+    }
+}
+
+// What is to come of a planned line.
+fn came_of(planned: &Planned) -> Came<'_> {
+    match planned.course() {
+        Course::Goes(_) => Came::Sent(match planned.outcome() {
+            Some(outcome) => outcome.sent.as_slice(),
+            None => &[],
+        }),
+        Course::Stops { by, survives } => Came::Stopped(DiskStop {
+            calls: by.asked,
+            fate: by.fate,
+            change: match planned.outcome() {
+                Some(outcome) => outcome.change(),
+                None => &[],
+            },
+            survives,
+        }),
     }
 }

@@ -1,17 +1,20 @@
--- What an event makes of a fabric's place in the table, by whether it was and is there.
+-- What a line that is carried out makes of a fabric's place in the table, by whether it was and is there.
 use Rattle.std.proofs.Common.{◌≡◌, ℕ, ◌==◌, ◌&&◌, not, Bool, true, false, List, [], ◌∷◌, ◌++◌, refl, sym, ap, subst, ◌∙◌, if◌then◌else◌}
+use Rattle.mt_model.specs.declared.texts.config.SessionRow.{SessionRow}
 use Rattle.mt_model.specs.declared.texts.recording.Event.{Event}
 use Rattle.mt_machine.specs.Environment.{Environment}
 use Rattle.mt_machine.specs.State.{is_member}
+use Rattle.mt_runs.specs.Course.{Course, Going, behind_course, course, stepped}
 use Rattle.mt_runs.specs.Isolation.{own_part}
-use Rattle.mt_runs.specs.Lines.{fabric_of, is_built, next}
+use Rattle.mt_runs.specs.Lines.{fabric_of}
 use Rattle.mt_runs.specs.Whole.{Whole}
 use Rattle.mt_runs.specs.Marks.{Mark, born, gone, is_in, is_of}
-use Rattle.mt_marks.specs.differences.Marked.{if_changed}
-use Rattle.mt_play.specs.Remembers.{IsRemembering}
-use Rattle.mt_compare.specs.Passing.{PassesBuilt, PassesTo, marks_of_change, passed_by}
+use Rattle.mt_marks.specs.differences.Marked.{all_at, if_changed, marked_behind}
+use Rattle.mt_play.specs.Courses.{IsGoing, course_in}
+use Rattle.mt_play.specs.declared.course.Course as code
+use Rattle.mt_play.specs.declared.course.Course.TheVariants as codes
+use Rattle.mt_compare.specs.Passing.{marks_of_change, passed_by}
 use Rattle.mt_compare.specs.declared.passing.Passed.{Passed}
-use Rattle.mt_play.specs.declared.remembering.Remembering.{Remembering}
 
 module _ (fabric : ℕ) (behind : Whole) where
   abbrev change : Bool → Bool → Bool → List Mark
@@ -31,21 +34,23 @@ module _ (fabric : ℕ) (behind : Whole) where
       → if_changed fabric w event behind ≡ marks_of_change fabric behind (passed_by was own is)
   changed_by w event was own is before of after = (λ i. change (before i) (of i) (after i)) ∙ by_place was own is
 
-module _ (given : Environment) (fabric : ℕ) (w : Whole) (event : Event) (new : Remembering) where
-  passes : (was own is : Bool) → PassesBuilt given fabric w event new (passed_by was own is) → PassesTo given fabric w event new (passed_by was own is)
-  passes true true true p = p
-  passes true true false p = p
-  passes true false true p = p
-  passes true false false p = p
-  passes false true true p = p
-  passes false true false p = p
-  passes false false true p = p
-  passes false false false p = p
+module _ (given : Environment) (sessions : List SessionRow) (fabric : ℕ) (g : Going) (event : Event) where
+  abbrev behind_it : Whole
+  behind_it = (stepped given sessions g event).whole
 
-  pub passes_to : (was is : Bool) (acting : ℕ) (passed : Passed) → is_built event ≡ true → IsRemembering new given (next given w event)
-      → was ≡ is_member fabric w.state.node → acting ≡ fabric_of w.state.node event → is ≡ is_member fabric (next given w event).state.node
-      → passed ≡ passed_by was (acting == fabric) is → PassesTo given fabric w event new passed
-  passes_to was is acting passed built now had acts has told =
-      let of : is_of fabric w event ≡ (acting == fabric) = sym (ap (λ (n : ℕ). n == fabric) acts) in
-      subst (PassesTo given fabric w event new) (sym told)
-      (passes was (acting == fabric) is (record { built = built; stands = now; changed = changed_by fabric (next given w event) w event was (acting == fabric) is (sym had) of (sym has) }))
+  -- behind what is seen of the line it marks what changes for the fabric, where this becomes of it
+  abbrev MarksAChange : Course → Type 0
+  MarksAChange c = marked_behind given sessions fabric g.whole event c ≡ all_at event (if_changed fabric g.whole event (behind_course given sessions g.whole event c).whole)
+
+  carried_out : (planned : code.Course) → IsGoing planned → course_in planned ≡ course given g event → MarksAChange (course given g event)
+  carried_out (codes.Goes stop) goes is = subst MarksAChange is refl
+  carried_out (codes.Stops by survives) goes is = absurd goes
+
+  pub changes : (planned : code.Course) → IsGoing planned → course_in planned ≡ course given g event → (was is : Bool) (acting : ℕ) (passed : Passed)
+      → was ≡ is_member fabric g.whole.state.node → acting ≡ fabric_of g.whole.state.node event → is ≡ is_member fabric behind_it.state.node → passed ≡ passed_by was (acting == fabric) is
+      → marked_behind given sessions fabric g.whole event (course given g event) ≡ all_at event (marks_of_change fabric behind_it passed)
+  changes planned goes becomes was is acting passed had acts has told =
+      let of : is_of fabric g.whole event ≡ (acting == fabric) = sym (ap (λ (n : ℕ). n == fabric) acts) in
+      carried_out planned goes becomes
+      ∙ ap (all_at event) (changed_by fabric behind_it g.whole event was (acting == fabric) is (sym had) of (sym has))
+      ∙ ap (λ (p : Passed). all_at event (marks_of_change fabric behind_it p)) (sym told)

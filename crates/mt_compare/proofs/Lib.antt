@@ -3,3 +3,4 @@ pub mod Changing
 pub mod Going
 pub mod Looking
 pub mod Parting
+pub mod Reopening

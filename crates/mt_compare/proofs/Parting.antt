@@ -1,20 +1,23 @@
 -- The first part in which two marks differ that the code has.
 use Rattle.std.proofs.Common.{◌≡◌, ◌↔◌, ◌<◌, Bool, true, false, List, [], ◌∷◌, Option, Some, None, refl, sym, ap, ◌∙◌, map, if◌then◌else◌}
+use Rattle.std.proofs.lemmas.Bool.{false_from_ne_true}
+use Rattle.std.specs.Option.{option_map}
 use Rattle.std.specs.Prelude.{IfSome}
+use Rattle.mt_model.specs.declared.texts.recording.Event.{Event}
 use Rattle.mt_machine.specs.Isolation as machine
-use Rattle.mt_runs.specs.Marks.{seen}
+use Rattle.mt_runs.specs.Isolation.{OwnPart, PublicPart}
+use Rattle.mt_runs.specs.Marks.{Unanswered, reopened, seen}
 use Rattle.mt_marks.specs.Parts.{IsSame, place_of}
-use Rattle.mt_marks.specs.Seen.{descriptor_in}
+use Rattle.mt_marks.specs.Seen.{descriptor_in, public_in, unanswered_in}
 use Rattle.mt_marks.specs.declared.difference.Part.{Part}
 use Rattle.mt_marks.specs.declared.difference.Part.TheVariants as parts
 use Rattle.mt_marks.specs.declared.mark.Descriptor.{Descriptor}
 use Rattle.mt_marks.specs.declared.mark.Mark.{Mark}
-use Rattle.mt_runs.specs.Isolation.{OwnPart}
-use Rattle.mt_marks.specs.differences.Codes.{are_same, of_own}
-use Rattle.mt_marks.specs.differences.Difference.{born_part}
+use Rattle.mt_marks.specs.declared.mark.Unanswered as code
+use Rattle.mt_marks.specs.differences.Codes.{are_same, of_own, of_unanswered}
+use Rattle.mt_marks.specs.differences.Difference.{born_part, reopened_part}
 use Rattle.mt_marks.specs.differences.Laws.{OwnPartsDiffer, PartsComeInOrder, SameMarksHaveNoPart}
 use Rattle.mt_marks.specs.differences.Parts.{IsSameSeen, seen_part}
-use Rattle.mt_compare.specs.Seen.{public_in}
 
 -- A descriptor says all that one as data does.
 
@@ -57,6 +60,55 @@ module _ (in_order : PartsComeInOrder) (no_part : SameMarksHaveNoPart) (one othe
         differs = λ h. differs ((same_in part one other).1 h);
         first = λ b lt. (same_in b one other).0 (before b lt);
       }))
+
+-- Which event was left unanswered, as data, says all that one as written does.
+
+abbrev back_left : Unanswered → code.Unanswered
+back_left left = record { event = left.event; survived = left.survived }
+
+left_again : (left : Option code.Unanswered) → option_map back_left (option_map unanswered_in left) ≡ left
+left_again None = refl
+left_again (Some left) = refl
+
+left_same : (left left_too : Option code.Unanswered) → option_map unanswered_in left ≡ option_map unanswered_in left_too → left ≡ left_too
+left_same left left_too same = sym (left_again left) ∙ ap (option_map back_left) same ∙ left_again left_too
+
+same_left : (line : Event) (p : PublicPart) (left left_too : Option Unanswered) → reopened line p left ≡ reopened line p left_too → left ≡ left_too
+same_left line p left left_too same = cc
+
+-- Two reopenings by one line, with the same public part, have no part in which they differ exactly where the same event was left unanswered.
+module _ (no_part : SameMarksHaveNoPart) (line : Event) (p : PublicPart) where
+  abbrev by_left : Bool → Option Part
+  by_left same = if same then seen_part line p line p else Some parts.Event
+
+  no_part_of_one : by_left true ≡ None
+  no_part_of_one = (no_part (seen line p) (seen line p)).1 refl
+
+  told_alike : (same : Bool) → by_left same ≡ None → same ≡ true
+  told_alike true none = refl
+  told_alike false none = absurd (let clash : Some parts.Event ≡ None = none in cc)
+
+  alike_where_same : (left left_too : Option Unanswered) → left ≡ left_too → are_same of_unanswered left left_too ≡ true
+  alike_where_same left left_too same = told_alike (are_same of_unanswered left left_too) ((no_part (reopened line p left) (reopened line p left_too)).1 (ap (reopened line p) same))
+
+  other_where_not : (left left_too : Option Unanswered) → (left ≡ left_too → ⊥) → are_same of_unanswered left left_too ≡ false
+  other_where_not left left_too differ =
+      false_from_ne_true (are_same of_unanswered left left_too)
+      (λ alike. differ (same_left line p left left_too ((no_part (reopened line p left) (reopened line p left_too)).0 (ap by_left alike ∙ no_part_of_one))))
+
+module _ (no_part : SameMarksHaveNoPart) (one other : Mark) (left left_too : Option code.Unanswered) where
+  abbrev part_of : Bool → Option Part
+  part_of same = if same then seen_part one.event (public_in one) other.event (public_in other) else Some parts.Event
+
+  abbrev part_found : Option Part
+  part_found = reopened_part one.event (public_in one) (option_map unanswered_in left) other.event (public_in other) (option_map unanswered_in left_too)
+
+  pub reopened_alike : left ≡ left_too → part_of true ≡ part_found
+  reopened_alike same = sym (ap part_of (alike_where_same no_part one.event (public_in one) (option_map unanswered_in left) (option_map unanswered_in left_too) (ap (option_map unanswered_in) same)))
+
+  pub reopened_other : (left ≡ left_too → ⊥) → part_of false ≡ part_found
+  reopened_other differ =
+      sym (ap part_of (other_where_not no_part one.event (public_in one) (option_map unanswered_in left) (option_map unanswered_in left_too) (λ same. differ (left_same left left_too same))))
 
 -- Own parts that are not the same.
 by_same : (b : Bool) → ((if b then None else Some parts.Born) ≡ None → ⊥) → (if b then None else Some parts.Born) ≡ Some parts.Born

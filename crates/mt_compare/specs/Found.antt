@@ -1,7 +1,8 @@
 -- For which difference one that the code has stands.
-use Rattle.std.specs.Option.{option_copied}
+use Rattle.std.specs.Option.{option_map}
 use Rattle.mt_marks.specs.differences.Difference.{Difference}
+use Rattle.mt_compare.specs.Sides.{line_in}
 use Rattle.mt_compare.specs.declared.comparing.Difference as code
 
 abbrev pub difference_in : code.Difference → Difference
-difference_in d = record { number = d.number; part = d.part; first = option_copied d.first; second = option_copied d.second }
+difference_in d = record { number = d.number; part = d.part; first = option_map line_in d.first; second = option_map line_in d.second }

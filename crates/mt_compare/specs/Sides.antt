@@ -1,90 +1,108 @@
 -- For which marks a side stands, and how it goes on.
-use Rattle.std.specs.Prelude.{◌≡◌, ◌⊎◌, ℕ, Bool, true, false, List, [], ◌∷◌, ◌++◌, Option, Some, if◌then◌else◌}
+use Rattle.std.specs.Prelude.{◌≡◌, ◌&&◌, not, ℕ, Bool, true, false, List, [], ◌∷◌, ◌++◌, Option, Some, None, if◌then◌else◌}
 use Rattle.std.specs.Borrow.{Bor}
-use Rattle.std.specs.Option.{option_copied}
+use Rattle.std.specs.Option.{option_map}
+use Rattle.mt_model.specs.declared.texts.config.SessionRow.{SessionRow}
 use Rattle.mt_model.specs.declared.texts.recording.Event.{Event}
+use Rattle.mt_model.specs.declared.texts.recording.Event.TheVariants as events
 use Rattle.mt_machine.specs.Environment.{Environment}
+use Rattle.mt_runs.specs.Course.{Going, course, stepped}
 use Rattle.mt_runs.specs.Isolation.{own_part, public_part}
-use Rattle.mt_runs.specs.Lines.{is_built, next}
-use Rattle.mt_runs.specs.Whole.{Whole}
 use Rattle.mt_runs.specs.Marks.{Mark, born, gone, is_seen, seen}
-use Rattle.mt_marks.specs.Seen.{seen_in}
-use Rattle.mt_marks.specs.differences.Marked.{Marked, all_at, if_changed, marked}
+use Rattle.mt_marks.specs.Seen.{reopened_in, seen_in}
+use Rattle.mt_marks.specs.differences.Marked.{Marked, all_at, marked, marked_behind}
 use Rattle.mt_play.specs.Remembers.{IsRemembering}
+use Rattle.mt_play.specs.declared.course.ComingStop.{ComingStop}
+use Rattle.mt_play.specs.declared.course.Course as code
+use Rattle.mt_play.specs.declared.course.Course.TheVariants as codes
 use Rattle.mt_compare.specs.declared.side.Here.{Here}
 use Rattle.mt_compare.specs.declared.side.Here.TheVariants as heres
+use Rattle.mt_compare.specs.declared.side.LineOf.{LineOf}
+use Rattle.mt_compare.specs.declared.side.LineOf.TheVariants as lines
 use Rattle.mt_compare.specs.declared.side.Side.{Side}
 
+-- the line at which a mark stands
+abbrev pub line_in : LineOf → Event
+line_in (lines.Event event) = event.now
+line_in (lines.Stop calls fate) = events.Stop calls fate
+
+abbrev pub IsAt : Event → Option LineOf → Type 0
+IsAt event line = option_map line_in line ≡ Some event
+
+-- the course of a line in which the disk stops
+abbrev pub stops_by : ComingStop → Bool → code.Course
+stops_by by survives = codes.Stops by survives
+
 -- the marks of events of which the first was told already, as far as the fabric sees it
-abbrev pub unseen : Environment → ℕ → Whole → List Event → List Marked
-unseen given fabric w [] = []
-unseen given fabric w (event ∷ events) =
-    if is_built event then all_at event (if_changed fabric w event (next given w event)) ++ marked given fabric (next given w event) events else []
+abbrev pub unseen : Environment → List SessionRow → ℕ → Going → List Event → List Marked
+unseen given sessions fabric g [] = []
+unseen given sessions fabric g (event ∷ events) =
+    marked_behind given sessions fabric g.whole event (course given g event) ++ marked given sessions fabric (stepped given sessions g event) events
 
 -- the marks that are left
-abbrev pub left : Environment → ℕ → Whole → Bool → List Event → List Marked
-left given fabric w true events = unseen given fabric w events
-left given fabric w false events = marked given fabric w events
+abbrev pub left : Environment → List SessionRow → ℕ → Going → Bool → List Event → List Marked
+left given sessions fabric g true events = unseen given sessions fabric g events
+left given sessions fabric g false events = marked given sessions fabric g events
+
+-- the line of a reopening, where the fabric was in the table before it, and is not behind it
+abbrev pub lost_by : Bool → Bool → LineOf → Option LineOf
+lost_by was is line = if was && not is then Some line else None
+
+-- the end by a reopening that is still to be told, at the line that stopped the disk
+abbrev pub if_lost_at : Option LineOf → List Marked
+if_lost_at (Some line) = all_at (line_in line) (gone ∷ [])
+if_lost_at None = []
 
 -- those of a side
-abbrev pub left_of : Environment → ℕ → Whole → Side → List Marked
-left_of given fabric w side = left given fabric w side.is_seen side.rest.now
+abbrev pub left_of : Environment → List SessionRow → ℕ → Going → Side → List Marked
+left_of given sessions fabric g side = if_lost_at side.lost ++ left given sessions fabric g side.is_seen side.rest.now
 
--- the mark that stands here, in a node that stands for this whole
-abbrev pub mark_in : ℕ → Whole → Here → Mark
-mark_in fabric w (heres.Seen mark) = seen_in mark
-mark_in fabric w heres.Enters = born (own_part fabric w)
-mark_in fabric w heres.Leaves = gone
-
-abbrev pub IsAt : Event → Option (Bor Event) → Type 0
-IsAt event at = option_copied at ≡ Some event
+-- the mark that stands here, in a node that stands for this run
+abbrev pub mark_in : ℕ → Going → Here → Mark
+mark_in fabric g (heres.Seen mark) = seen_in mark
+mark_in fabric g (heres.Reopened mark unanswered) = reopened_in mark unanswered
+mark_in fabric g heres.Enters = born (own_part fabric g.whole)
+mark_in fabric g heres.Leaves = gone
 
 -- behind a look at an event
 pub record Looks (old new : Side) : Type 0 where
   pub node : new.node ≡ old.node
   pub rest : new.rest ≡ old.rest
   pub told : new.is_seen ≡ true
+  pub lost : new.lost ≡ old.lost
 
-abbrev pub HasSeen : ℕ → Whole → Bor Event → Side → Side → Bool → Type 0
-HasSeen fabric w event old new false = (is_seen fabric w event.now ≡ false) × Looks old new
-HasSeen fabric w event old new true = (is_seen fabric w event.now ≡ true) × Looks old new × (mark_in fabric w new.here ≡ seen event.now (public_part fabric w)) × IsAt event.now new.event
+abbrev pub HasSeen : ℕ → Going → Bor Event → Side → Side → Bool → Type 0
+HasSeen fabric g event old new false = (is_seen fabric g.whole event.now ≡ false) × Looks old new
+HasSeen fabric g event old new true = (is_seen fabric g.whole event.now ≡ true) × Looks old new × (mark_in fabric g new.here ≡ seen event.now (public_part fabric g.whole)) × IsAt event.now new.line
 
 -- the same where that was not told yet
-abbrev pub HasLooked : ℕ → Whole → Bor Event → Side → Side → Bool → Type 0
-HasLooked fabric w event old new false = Looks old new × (old.is_seen ≡ false → is_seen fabric w event.now ≡ false)
-HasLooked fabric w event old new true = (old.is_seen ≡ false) × HasSeen fabric w event old new true
+abbrev pub HasLooked : ℕ → Going → Bor Event → Side → Side → Bool → Type 0
+HasLooked fabric g event old new false = Looks old new × (old.is_seen ≡ false → is_seen fabric g.whole event.now ≡ false)
+HasLooked fabric g event old new true = (old.is_seen ≡ false) × HasSeen fabric g event old new true
 
--- behind an event: what it marks, if anything, and what is left
-abbrev pub MarksHere : ℕ → Whole → Event → Side → Bool → List Mark → Type 0
-MarksHere fabric now event new false marks = marks ≡ []
-MarksHere fabric now event new true marks = (marks ≡ mark_in fabric now new.here ∷ []) × IsAt event new.event
+-- behind an event: the marks that it makes behind what is seen of it: none, or the one that stands here and an end that is still to be told
+abbrev pub MarksHere : ℕ → Going → Side → Bool → List Marked → Type 0
+MarksHere fabric now new false marks = (marks ≡ []) × (new.lost ≡ None)
+MarksHere fabric now new true marks = (line : Event) × IsAt line new.line × (marks ≡ record { event = line; mark = mark_in fabric now new.here } ∷ if_lost_at new.lost)
 
-pub record Passes (given : Environment) (fabric : ℕ) (w : Whole) (event : Event) (behind : List Event) (new : Side) (is_marked : Bool) : Type 0 where
-  pub built : is_built event ≡ true
-  pub stands : IsRemembering new.node given (next given w event)
+pub record Passes (given : Environment) (sessions : List SessionRow) (fabric : ℕ) (g : Going) (event : Event) (behind : List Event) (new : Side) (is_marked : Bool) : Type 0 where
+  pub stands : IsRemembering new.node given sessions (stepped given sessions g event)
   pub unseen : new.is_seen ≡ false
   pub rest : new.rest.now ≡ behind
-  pub marks : MarksHere fabric (next given w event) event new is_marked (if_changed fabric w event (next given w event))
+  pub marks : MarksHere fabric (stepped given sessions g event) new is_marked (marked_behind given sessions fabric g.whole event (course given g event))
 
--- an event that is not built ends the run
-pub record Stops (given : Environment) (w : Whole) (event : Event) (new : Side) (is_marked : Bool) : Type 0 where
-  pub not_built : is_built event ≡ false
-  pub stands : IsRemembering new.node given w
-  pub unmarked : is_marked ≡ false
-  pub none : new.rest.now ≡ []
-
-abbrev pub HasPassed : Environment → ℕ → Whole → Bor Event → Bor (List Event) → Side → Bool → Type 0
-HasPassed given fabric w event behind new is_marked = Passes given fabric w event.now behind.now new is_marked ⊎ Stops given w event.now new is_marked
+abbrev pub HasPassed : Environment → List SessionRow → ℕ → Going → Bor Event → Bor (List Event) → Side → Bool → Type 0
+HasPassed given sessions fabric g event behind new is_marked = Passes given sessions fabric g event.now behind.now new is_marked
 
 -- A side goes on: to its next mark, or there is none.
 
-pub record GoesTo (given : Environment) (fabric : ℕ) (w : Whole) (old new : Side) : Type 0 where
-  pub now : Whole
-  pub event : Event
-  pub stands : IsRemembering new.node given now
-  pub at : IsAt event new.event
-  pub left : left_of given fabric w old ≡ record { event = event; mark = mark_in fabric now new.here } ∷ left_of given fabric now new
+pub record GoesTo (given : Environment) (sessions : List SessionRow) (fabric : ℕ) (g : Going) (old new : Side) : Type 0 where
+  pub now : Going
+  pub line : Event
+  pub stands : IsRemembering new.node given sessions now
+  pub at : IsAt line new.line
+  pub left : left_of given sessions fabric g old ≡ record { event = line; mark = mark_in fabric now new.here } ∷ left_of given sessions fabric now new
 
-abbrev pub GoesOn : Environment → ℕ → Whole → Side → Side → Bool → Type 0
-GoesOn given fabric w old new false = left_of given fabric w old ≡ []
-GoesOn given fabric w old new true = GoesTo given fabric w old new
+abbrev pub GoesOn : Environment → List SessionRow → ℕ → Going → Side → Side → Bool → Type 0
+GoesOn given sessions fabric g old new false = left_of given sessions fabric g old ≡ []
+GoesOn given sessions fabric g old new true = GoesTo given sessions fabric g old new

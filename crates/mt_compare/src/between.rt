@@ -1,18 +1,21 @@
 //! The first part in which two marks differ.
 
-ghost use Rattle.std.specs.Prelude.{◌≡◌, IfOk};
+ghost use Rattle.std.specs.Prelude.{◌≡◌, IfOk, List};
+ghost use Rattle.std.specs.Option.{option_map};
+ghost use Rattle.mt_model.specs.declared.texts.config.SessionRow.{SessionRow};
 ghost use Rattle.mt_machine.specs.Environment.{Environment};
+ghost use Rattle.mt_runs.specs.Course.{Going};
 ghost use Rattle.mt_runs.specs.Isolation.{own_part};
-ghost use Rattle.mt_runs.specs.Whole.{Whole as Told};
-ghost use Rattle.mt_marks.specs.differences.Difference.{born_part, part_between as part_of_marks};
+ghost use Rattle.mt_marks.specs.Seen.{public_in, unanswered_in};
+ghost use Rattle.mt_marks.specs.differences.Difference.{born_part, part_between as part_of_marks, reopened_part};
 ghost use Rattle.mt_marks.specs.differences.Parts.{seen_part};
 ghost use Rattle.mt_play.specs.Remembers.{IsRemembering};
 ghost use Rattle.mt_compare.specs.Sides.{mark_in};
-ghost use Rattle.mt_compare.specs.Seen.{public_in};
 
 use crate::side::{Here, Side};
-use mt_marks::{Mark, Part, first_difference, parts_come_in_order};
+use mt_marks::{Mark, Part, Unanswered, first_difference, parts_come_in_order};
 use mt_play::Remembering;
+use mt_same::Same;
 use std::alloc::AllocError;
 
 /// The first part in which the marks at which two sides stand differ, None where they don't.
@@ -21,11 +24,14 @@ pub(crate) fn part_between(
     mine: &Side,
     theirs: &Side,
 ) -> Result<Option<Part>, AllocError>
-    ensures { (given : Environment) (w v : Told) → IsRemembering mine.now.node given w → IsRemembering theirs.now.node given v
-        → IfOk result (λ part. part ≡ part_of_marks (mark_in fabric w mine.now.here) (mark_in fabric v theirs.now.here)) }
+    ensures { (given : Environment) (sessions : List SessionRow) (g h : Going) → IsRemembering mine.now.node given sessions g → IsRemembering theirs.now.node given sessions h
+        → IfOk result (λ part. part ≡ part_of_marks (mark_in fabric g mine.now.here) (mark_in fabric h theirs.now.here)) }
 {
     match (&mine.here, &theirs.here) {
         (Here::Seen(mark), Here::Seen(other)) => Ok(seen_between(mark, other)),
+        (Here::Reopened(mark, left), Here::Reopened(other, left_too)) => {
+            Ok(reopened_between(mark, left, other, left_too))
+        }
         (Here::Enters, Here::Enters) => born_between(fabric, &mine.node, &theirs.node),
         (Here::Leaves, Here::Leaves) => Ok(None),
         _ => Ok(Some(Part::Event)),
@@ -40,14 +46,30 @@ fn seen_between(mark: &Mark, other: &Mark) -> Option<Part>
     first_difference(mark, other)
 }
 
+// The same of two reopenings.
+fn reopened_between(
+    mark: &Mark,
+    left: &Option<Unanswered>,
+    other: &Mark,
+    left_too: &Option<Unanswered>,
+) -> Option<Part>
+    ensures { result ≡ reopened_part mark.entry.now.event (public_in mark.entry.now) (option_map unanswered_in left.now) other.entry.now.event (public_in other.entry.now) (option_map unanswered_in left_too.now) }
+{
+    parts_come_in_order();
+    if !left.is_same(left_too) {
+        return Some(Part::Event);
+    }
+    seen_between(mark, other)
+}
+
 // The same of the own parts that a fabric has as it enters the table.
 fn born_between(
     fabric: u8,
     mine: &Remembering,
     theirs: &Remembering,
 ) -> Result<Option<Part>, AllocError>
-    ensures { (given : Environment) (w v : Told) → IsRemembering mine.now given w → IsRemembering theirs.now given v
-        → IfOk result (λ part. part ≡ born_part (own_part fabric w) (own_part fabric v)) }
+    ensures { (given : Environment) (sessions : List SessionRow) (g h : Going) → IsRemembering mine.now given sessions g → IsRemembering theirs.now given sessions h
+        → IfOk result (λ part. part ≡ born_part (own_part fabric g.whole) (own_part fabric h.whole)) }
 {
     parts_come_in_order();
     if mine.has_same_own(theirs, fabric)? {

@@ -1,18 +1,21 @@
 //! The first mark that differs.
 
-ghost use Rattle.std.specs.Prelude.{◌≡◌, IfOk, None, Some};
+ghost use Rattle.std.specs.Prelude.{◌≡◌, IfOk, List, None, Some};
 ghost use Rattle.std.specs.Option.{option_map};
+ghost use Rattle.mt_model.specs.declared.texts.config.SessionRow.{SessionRow};
 ghost use Rattle.mt_model.specs.texts.Contents.{contents_of};
 ghost use Rattle.mt_machine.specs.Environment.{Environment, given_by};
-ghost use Rattle.mt_runs.specs.Whole.{Whole as Told, opened};
+ghost use Rattle.mt_runs.specs.Course.{Going, going_on};
+ghost use Rattle.mt_runs.specs.Whole.{opened};
 ghost use Rattle.mt_marks.specs.differences.Difference.{difference, difference_from};
 ghost use Rattle.mt_marks.specs.differences.Marked.{marked};
 ghost use Rattle.mt_compare.specs.Found.{difference_in};
+ghost use Rattle.mt_play.specs.Plays.{IsOnJournal};
 ghost use Rattle.mt_play.specs.Remembers.{IsRemembering};
 ghost use Rattle.mt_compare.specs.Sides.{left_of};
 
 use crate::between::part_between;
-use crate::side::Side;
+use crate::side::{LineOf, Side};
 use mt_marks::Part;
 use mt_model::{Config, Event};
 use std::alloc::{AllocError, Global};
@@ -24,23 +27,23 @@ pub struct Difference<'a> {
     pub number: u64,
     /// The first part in which it does.
     pub part: Part,
-    /// The event at whose line it stands in the first run, None where that has no further mark.
-    pub first: Option<&'a Event>,
+    /// The line at which it stands in the first run, None where that has no further mark.
+    pub first: Option<LineOf<'a>>,
     /// The same in the second run.
-    pub second: Option<&'a Event>,
+    pub second: Option<LineOf<'a>>,
 }
 
-/// Plays the events of two recordings, each on a new node with this configuration, and tells where they first differ by the
+/// Plays the events of two recordings, each on a new node with this configuration and through every stop of its disk, and tells where they first differ by the
 /// marks of a fabric; None exactly where its marks are equal. Of each run one mark is held at a time.
 pub fn compare<'a>(
     alloc: Global,
     fabric: u8,
-    config: &Config,
+    config: &'a Config,
     first: &'a [Event],
     second: &'a [Event],
 ) -> Result<Option<Difference<'a>>, AllocError>
     ensures { IfOk result (λ found. option_map difference_in found
-        ≡ difference (given_by (contents_of config.now)) fabric (opened config.now) first.entry.now second.entry.now) }
+        ≡ difference (given_by (contents_of config.now)) config.now.sessions fabric (going_on (opened config.now)) first.entry.now second.entry.now) }
 {
     let mut mine = Side::start(alloc, config, first)?;
     compare_with(alloc, fabric, config, &mut mine, second)
@@ -51,12 +54,13 @@ pub fn compare<'a>(
 fn compare_with<'a>(
     alloc: Global,
     fabric: u8,
-    config: &Config,
+    config: &'a Config,
     mine: &mut Side<'a>,
     second: &'a [Event],
 ) -> Result<Option<Difference<'a>>, AllocError>
-    ensures { (w : Told) → IsRemembering mine.old.node (given_by (contents_of config.now)) w
-        → IfOk result (λ found. option_map difference_in found ≡ difference_from 1 (left_of (given_by (contents_of config.now)) fabric w mine.old) (marked (given_by (contents_of config.now)) fabric (opened config.now) second.entry.now)) }
+    requires { IsOnJournal mine.old.node.playing }
+    ensures { (g : Going) → IsRemembering mine.old.node (given_by (contents_of config.now)) config.now.sessions g
+        → IfOk result (λ found. option_map difference_in found ≡ difference_from 1 (left_of (given_by (contents_of config.now)) config.now.sessions fabric g mine.old) (marked (given_by (contents_of config.now)) config.now.sessions fabric (going_on (opened config.now)) second.entry.now)) }
 {
     let mut theirs = Side::start(alloc, config, second)?;
     first_between(fabric, mine, &mut theirs)
@@ -68,18 +72,20 @@ fn first_between<'a>(
     mine: &mut Side<'a>,
     theirs: &mut Side<'a>,
 ) -> Result<Option<Difference<'a>>, AllocError>
-    ensures { (given : Environment) (w v : Told) → IsRemembering mine.old.node given w → IsRemembering theirs.old.node given v
-        → IfOk result (λ found. option_map difference_in found ≡ difference_from 1 (left_of given fabric w mine.old) (left_of given fabric v theirs.old)) }
+    requires mine { IsOnJournal mine.old.node.playing }
+    requires theirs { IsOnJournal theirs.old.node.playing }
+    ensures { (given : Environment) (sessions : List SessionRow) (g h : Going) → IsRemembering mine.old.node given sessions g → IsRemembering theirs.old.node given sessions h
+        → IfOk result (λ found. option_map difference_in found ≡ difference_from 1 (left_of given sessions fabric g mine.old) (left_of given sessions fabric h theirs.old)) }
 {
     for number in 1..u64::MAX {
         match (mine.next(fabric)?, theirs.next(fabric)?) {
             (true, true) => {
                 if let Some(part) = part_between(fabric, mine, theirs)? {
-                    return Ok(Some(differs(number, part, mine.event, theirs.event)));
+                    return Ok(Some(differs(number, part, mine.line, theirs.line)));
                 }
             }
-            (true, false) => return Ok(Some(differs(number, Part::Event, mine.event, None))),
-            (false, true) => return Ok(Some(differs(number, Part::Event, None, theirs.event))),
+            (true, false) => return Ok(Some(differs(number, Part::Event, mine.line, None))),
+            (false, true) => return Ok(Some(differs(number, Part::Event, None, theirs.line))),
             (false, false) => return Ok(None),
         }
     }
@@ -89,8 +95,8 @@ fn first_between<'a>(
 fn differs<'a>(
     number: u64,
     part: Part,
-    first: Option<&'a Event>,
-    second: Option<&'a Event>,
+    first: Option<LineOf<'a>>,
+    second: Option<LineOf<'a>>,
 ) -> Difference<'a>
     ensures { result ≡ record { number = number; part = part; first = first.entry; second = second.entry } }
 {

@@ -1,6 +1,6 @@
 //! Two recordings, played over one configuration and compared by what a fabric sees of each: its marks, one after the other.
 //!
-//! - `passing`: what an event makes of a fabric's place in the table;
+//! - `passing`: what a line makes of a fabric's place in the table, and what it leaves unanswered;
 //! - `side`: one of the two runs, which goes on from mark to mark;
 //! - `between`: the first part in which two marks differ;
 //! - `comparing`: the first mark that differs;
@@ -14,4 +14,5 @@ mod side;
 mod text;
 
 pub use comparing::{Difference, compare};
+pub use side::LineOf;
 pub use text::comparison_text;

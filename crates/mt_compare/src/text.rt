@@ -1,12 +1,14 @@
 //! How it is told where two runs differ.
 
 ghost use Rattle.std.specs.Prelude.{◌≡◌, ◌++◌, IfOk, OnOk, Some};
-ghost use Rattle.std.specs.Option.{option_copied, option_map};
+ghost use Rattle.std.specs.Option.{option_map};
 ghost use Rattle.mt_files.specs.Lines.{ended, text_of};
 ghost use Rattle.mt_compare.specs.Found.{difference_in};
+ghost use Rattle.mt_compare.specs.Sides.{line_in};
 ghost use Rattle.mt_compare.specs.Text.{comparison_lines, head_line, line_at};
 
 use crate::comparing::Difference;
+use crate::side::LineOf;
 use mt_files::write_event;
 use mt_model::Event;
 use std::alloc::{AllocError, Global};
@@ -44,12 +46,13 @@ fn push_head(alloc: Global, difference: &Difference, text: &mut Vec<u8>) -> Resu
     text.extend_from_slice(head.as_bytes())
 }
 
-fn push_line(front: &[u8], event: Option<&Event>, text: &mut Vec<u8>) -> Result<(), AllocError>
-    ensures { OnOk result (text.new.items ≡ text.old.items ++ ended (front.now ++ line_at (option_copied event.entry))) }
+fn push_line(front: &[u8], line: Option<LineOf>, text: &mut Vec<u8>) -> Result<(), AllocError>
+    ensures { OnOk result (text.new.items ≡ text.old.items ++ ended (front.now ++ line_at (option_map line_in line.entry))) }
 {
     text.extend_from_slice(front)?;
-    match event {
-        Some(event) => write_event(event, text),
+    match line {
+        Some(LineOf::Event(event)) => write_event(event, text),
+        Some(LineOf::Stop { calls, fate }) => write_event(&Event::Stop { calls, fate }, text),
         None => text.extend_from_slice(b"end\n"),
     }
 }

@@ -16,7 +16,7 @@ use Rattle.mt_config.specs.declared.configuration.ConfigField.TheVariants.{Size}
 use Rattle.mt_files.specs.declared.line_fault.LineFault.{LineFault}
 use Rattle.mt_files.specs.declared.line_fault.LineFault.TheVariants as lines
 use Rattle.mt_endings.specs.declared.fault.Fault.{Fault}
-use Rattle.mt_endings.specs.declared.fault.Fault.TheVariants.{BadWords, BadConfig, BadRecord, ReadFault, WriteFault, Memory, DiskFault, NotAJournal, TooLong, Differ, Unbuilt}
+use Rattle.mt_endings.specs.declared.fault.Fault.TheVariants.{BadWords, BadConfig, BadRecord, ReadFault, WriteFault, Memory, DiskFault, NotAJournal, TooLong, Differ}
 use Rattle.mt_endings.specs.Faults.{fault_line, fault_of, status_of}
 use Rattle.mt_endings.specs.Endings.{Ending, Played, Recordings, all_text, configured, exit_status, in_hand_of, last_line, nothing_but, of_files, of_none, of_recording, of_recordings, recorded, recorded_both, recorded_second, without_recording}
 use Rattle.mt_endings.specs.Moments.{Input, in_hand, Moment, moment, AreCalm, AreSourcesCalm, HasSinkFailed, IsLeft, IsSinkCalm, HasRead, to_end, too_many, HasReadIf, Reads}
@@ -247,7 +247,6 @@ module _ (laws : StreamLaws) where
   calm_of (NotAJournal place) old mid wants h = h
   calm_of TooLong old mid wants h = h
   calm_of Differ old mid wants h = h
-  calm_of (Unbuilt line) old mid wants h = h
 
   sink_of : (fault : Fault) (old mid : Moment) → fault ≢ WriteFault → StopsCalmly fault old mid → IsSinkCalm old mid
   sink_of BadWords old mid not h = h.sink
@@ -260,7 +259,6 @@ module _ (laws : StreamLaws) where
   sink_of (NotAJournal place) old mid not h = h.sink
   sink_of TooLong old mid not h = h.sink
   sink_of Differ old mid not h = h.sink
-  sink_of (Unbuilt line) old mid not h = h.sink
 
   pub stops_calmly : (fault : Fault) (old mid : Moment) → (is_read_fault fault ≡ false → AreSourcesCalm old mid) → (is_write_fault fault ≡ false → IsSinkCalm old mid) → StopsCalmly fault old mid
   stops_calmly BadWords old mid sources sink = record { sources = sources refl; sink = sink refl }
@@ -273,7 +271,6 @@ module _ (laws : StreamLaws) where
   stops_calmly (NotAJournal place) old mid sources sink = record { sources = sources refl; sink = sink refl }
   stops_calmly TooLong old mid sources sink = record { sources = sources refl; sink = sink refl }
   stops_calmly Differ old mid sources sink = record { sources = sources refl; sink = sink refl }
-  stops_calmly (Unbuilt line) old mid sources sink = record { sources = sources refl; sink = sink refl }
 
   -- the files were read, and all is written but the last line
   record Stopped (fault : Fault) (ending : List ℕ → Recordings → Ending) (old mid : Moment) : Type 0 where
@@ -357,7 +354,6 @@ module _ (laws : StreamLaws) where
     fronts (NotAJournal place) not h = front_of (NotAJournal place) ending old mid (stopped_by (NotAJournal place) h)
     fronts TooLong not h = front_of TooLong ending old mid (stopped_by TooLong h)
     fronts Differ not h = front_of Differ ending old mid (stopped_by Differ h)
-    fronts (Unbuilt line) not h = front_of (Unbuilt line) ending old mid (stopped_by (Unbuilt line) h)
 
     row_told : (fault : Fault) → fault ≢ WriteFault → fault ≢ DiskFault → is_memory fault ≡ false → Stops fault ending old mid → StopsCalmly fault old mid → faults ≡ mid.write_faults → Took mid.written after (fault_line fault) → Ends (status_of fault) (Some ending) old new
     row_told BadWords not kept other h calm same t = absurd h
@@ -370,7 +366,6 @@ module _ (laws : StreamLaws) where
     row_told (NotAJournal place) not kept other h calm same t = stopped_told (NotAJournal place) refl refl (stopped_by (NotAJournal place) h) calm same t
     row_told TooLong not kept other h calm same t = stopped_told TooLong refl refl (stopped_by TooLong h) calm same t
     row_told Differ not kept other h calm same t = stopped_told Differ refl refl (stopped_by Differ h) calm same t
-    row_told (Unbuilt line) not kept other h calm same t = stopped_told (Unbuilt line) refl refl (stopped_by (Unbuilt line) h) calm same t
 
     row_cut : (fault : Fault) → fault ≢ WriteFault → is_memory fault ≡ false → Stops fault ending old mid → StopsCalmly fault old mid → TookLess mid.written after (fault_line fault) → Cut ending old new
     row_cut BadWords not other h calm t = absurd h
@@ -383,7 +378,6 @@ module _ (laws : StreamLaws) where
     row_cut (NotAJournal place) not other h calm t = stopped_cut (NotAJournal place) (stopped_by (NotAJournal place) h) calm t
     row_cut TooLong not other h calm t = stopped_cut TooLong (stopped_by TooLong h) calm t
     row_cut Differ not other h calm t = stopped_cut Differ (stopped_by Differ h) calm t
-    row_cut (Unbuilt line) not other h calm t = stopped_cut (Unbuilt line) (stopped_by (Unbuilt line) h) calm t
 
     -- nothing had failed before
     fails_once : (fault : Fault) → fault ≢ WriteFault → StopsCalmly fault old mid → RoseByOne mid.write_faults faults → HasSinkFailed old new
@@ -429,7 +423,6 @@ module _ (laws : StreamLaws) where
   configuring_stops comes_to (NotAJournal place) old now first second written faults h = absurd h
   configuring_stops comes_to TooLong old now first second written faults h = absurd h
   configuring_stops comes_to Differ old now first second written faults h = absurd h
-  configuring_stops comes_to (Unbuilt line) old now first second written faults h = absurd h
 
   pub unconfigured : (comes_to : Contents → Recordings → Ending) (fault : Fault) (status : ℕ) (old now first second : Input) (before after : Option (List ℕ)) (old_faults new_faults : ℕ)
       → StopsConfiguring fault old now → (is_read_fault fault ≡ false → now.faults ≡ old.faults) → Finishes fault status before after old_faults new_faults
@@ -570,7 +563,6 @@ module _ (laws : StreamLaws) where
       stops_in_hand (NotAJournal place) p = whole_in_hand (NotAJournal place) p
       stops_in_hand TooLong p = absurd p
       stops_in_hand Differ p = whole_in_hand Differ p
-      stops_in_hand (Unbuilt line) p = whole_in_hand (Unbuilt line) p
 
     abbrev mid_hand : Moment
     mid_hand = to_hand before old_faults
@@ -609,7 +601,6 @@ module _ (laws : StreamLaws) where
       stops_recording (NotAJournal place) h = stops_by_refusal (NotAJournal place) h
       stops_recording TooLong h = stops_by_refusal TooLong h
       stops_recording Differ h = stops_by_refusal Differ h
-      stops_recording (Unbuilt line) h = stops_by_refusal (Unbuilt line) h
 
       ends_unrecorded : (fault : Fault) (status : ℕ) (after : Option (List ℕ)) (new_faults : ℕ) → StopsRecording fault source_old source_new → (is_read_fault fault ≡ false → AreSourcesCalm from_hand mid_hand) → Finishes fault status before after old_faults new_faults
           → Ends status (Some of_hand) from_hand (to_hand after new_faults)

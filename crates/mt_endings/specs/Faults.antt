@@ -6,7 +6,7 @@ use Rattle.mt_files.specs.Kinds.{kind_name}
 use Rattle.mt_files.specs.declared.line_fault.LineFault.{LineFault}
 use Rattle.mt_files.specs.declared.line_fault.LineFault.TheVariants as lines
 use Rattle.mt_endings.specs.declared.fault.Fault.{Fault}
-use Rattle.mt_endings.specs.declared.fault.Fault.TheVariants.{BadWords, BadConfig, BadRecord, ReadFault, WriteFault, Memory, DiskFault, NotAJournal, TooLong, Differ, Unbuilt}
+use Rattle.mt_endings.specs.declared.fault.Fault.TheVariants.{BadWords, BadConfig, BadRecord, ReadFault, WriteFault, Memory, DiskFault, NotAJournal, TooLong, Differ}
 
 -- what a text comes to that is no recording, or was not read
 abbrev pub fault_of : LineFault → Fault
@@ -25,7 +25,6 @@ status_of DiskFault = 8
 status_of (NotAJournal place) = 9
 status_of TooLong = 10
 status_of Differ = 11
-status_of (Unbuilt line) = 14
 
 -- What the last line says of a fault. That two recordings differ is told by lines that stand before, and has no last line.
 unfoldable pub fault_text : Fault → List ℕ
@@ -39,7 +38,6 @@ fault_text DiskFault = codes "fault 8 disk"
 fault_text (NotAJournal place) = codes "fault 9 journal " ++ decimal place
 fault_text TooLong = codes "fault 10 long"
 fault_text Differ = []
-fault_text (Unbuilt line) = codes "fault 14 line " ++ decimal line
 
 -- The last line of a run that a fault ended. A sink that failed gets none.
 unfoldable pub fault_line : Fault → List ℕ

@@ -9,7 +9,7 @@ use Rattle.mt_files.specs.Lines.{text_of}
 use Rattle.mt_files.specs.Recording.{recording_of}
 use Rattle.mt_files.specs.declared.line_fault.LineFault.{LineFault}
 use Rattle.mt_endings.specs.declared.fault.Fault.{Fault}
-use Rattle.mt_endings.specs.declared.fault.Fault.TheVariants.{BadWords, BadConfig, ReadFault, WriteFault, Memory, DiskFault, NotAJournal, Differ, Unbuilt}
+use Rattle.mt_endings.specs.declared.fault.Fault.TheVariants.{BadWords, BadConfig, ReadFault, WriteFault, Memory, DiskFault, NotAJournal, Differ}
 use Rattle.mt_endings.specs.Faults.{fault_line, fault_of, status_of}
 use Rattle.mt_endings.specs.Endings.{Ending, Played, Recordings, nothing_but, without_recording}
 use Rattle.mt_endings.specs.Moments.{Input, Moment, AreCalm, AreSourcesCalm, HasRead, HasSinkFailed, IsLeft, IsSinkCalm, Reads}
@@ -57,13 +57,12 @@ abbrev pub is_read_fault : Fault → Bool
 is_read_fault ReadFault = true
 is_read_fault fault = false
 
--- Why playing events stops, or telling what a journal keeps. That recordings differ is told by lines that were written, as a line that is not
--- built is by those before it; and of a journal that is none nothing is told.
+-- Why playing events stops, or telling what a journal keeps. That recordings differ is told by lines that were written; and of a journal that is
+-- none nothing is told.
 abbrev pub StopsPlaying : Fault → Played → Option (List ℕ) → Option (List ℕ) → ℕ → ℕ → Type 0
 StopsPlaying WriteFault ending before after old new = RoseByOne old new × TookLess before after (text_of ending.lines)
 StopsPlaying Memory ending before after old new = TookFirst before after ending.lines
 StopsPlaying Differ ending before after old new = (ending.fault ≡ Some Differ) × Took before after (text_of ending.lines)
-StopsPlaying (Unbuilt line) ending before after old new = (ending.fault ≡ Some (Unbuilt line)) × Took before after (text_of ending.lines)
 StopsPlaying (NotAJournal place) ending before after old new = (ending.fault ≡ Some (NotAJournal place)) × Took before after (text_of ending.lines)
 StopsPlaying fault ending before after old new = ⊥
 

@@ -30,8 +30,6 @@ pub enum Fault {
     TooLong,
     /// Two recordings differ by what a fabric sees of them. Its lines are written before, and it has no last line.
     Differ,
-    /// The recording's first line that is not built.
-    Unbuilt(u64),
 }
 
 impl Fault {
@@ -61,7 +59,6 @@ impl Fault {
             Fault::NotAJournal(_) => 9,
             Fault::TooLong => 10,
             Fault::Differ => 11,
-            Fault::Unbuilt(_) => 14,
         }
     }
 
@@ -94,7 +91,6 @@ impl fmt::Display for Fault {
             Fault::TooLong => f.write_str("fault 10 long"),
             // its lines stand before
             Fault::Differ => Ok(()),
-            Fault::Unbuilt(line) => write!(f, "fault 14 line {line}"),
         }
     }
 }

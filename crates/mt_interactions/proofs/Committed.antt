@@ -31,9 +31,11 @@ leads_on lead nothing said s l outcome planned =
     let t : NodeState = applied outcome.node s.node in
     let next : ℕ = (applied_history outcome l.history).numbers.ceiling in
     let none = nothing s.node t ceiling next in
+    let fits = ceiling_fits outcome.ms outcome.node.told outcome.node.gone l.history planned.recordable in
     record {
       nothing = (λ empty. none.0 (sym planned.change ∙ empty), λ equal. planned.change ∙ none.1 equal);
       says = λ differ. subst (Says (change_between s.node ceiling t next)) (sym planned.change)
-          (said s.node t ceiling next planned.node.1.1.1.valid (ceiling_fits outcome.ms outcome.node.told outcome.node.gone l.history planned.recordable) differ);
+          (said s.node t ceiling next planned.node.1.1.1.valid fits differ);
       leads = lead s.node t ceiling next;
+      within = fits;
     }

@@ -1,5 +1,5 @@
 -- What is committed for an outcome leads from the durable map before it to that behind it.
-use Rattle.std.specs.Prelude.{◌≡◌, ◌≢◌, ◌↔◌, []}
+use Rattle.std.specs.Prelude.{◌≡◌, ◌≢◌, ◌↔◌, ◌^◌, ◌≤◌, []}
 use Rattle.mt_durable.specs.Reading.{Says}
 use Rattle.mt_durable.specs.Setting.{with_all}
 use Rattle.mt_lasting.specs.Changes.{change_between}
@@ -17,6 +17,8 @@ pub record LeadsOn (s : State) (l : Ledger) (outcome : InteractionOutcome) : Typ
       → Says (change_between s.node l.history.numbers.ceiling (applied outcome.node s.node) (applied_history outcome l.history).numbers.ceiling) outcome.change
   pub leads : with_all (change_between s.node l.history.numbers.ceiling (applied outcome.node s.node) (applied_history outcome l.history).numbers.ceiling) (durable s.node l.history.numbers.ceiling)
       ≡ durable (applied outcome.node s.node) (applied_history outcome l.history).numbers.ceiling
+  -- and the ceiling behind it is one that there may be
+  pub within : (applied_history outcome l.history).numbers.ceiling ≤ 2 ^ 62
 
 abbrev pub CommitsLeadOn : Type 0
 CommitsLeadOn = (s : State) (l : Ledger) (outcome : InteractionOutcome) → IsPlanned s l outcome → LeadsOn s l outcome

@@ -1,5 +1,5 @@
-//! What stands in sealed datagrams, opened with the keys that the configuration has for the sessions of the node. Whose a
-//! session is, the node itself says, line by line.
+//! What stands in sealed datagrams, opened with the keys that the configuration has for the sessions of the node's boot. Whose
+//! a session is, the node itself says, line by line.
 
 ghost use Rattle.std.specs.Prelude.{◌≡◌, IfOk};
 
@@ -12,8 +12,8 @@ use std::alloc::{AllocError, Global};
 /// The most bytes that a session opens.
 const OPENED: usize = 65_535;
 
-/// The boot that a recording plays: a node begins in its first, and no line that is supported begins another.
-const BOOT: u32 = 1;
+/// The boot in which a node begins.
+const FIRST_BOOT: u32 = 1;
 
 /// Why a datagram is not opened whose session is not known.
 const NO_SESSION: &str = "no session of this boot has its id";
@@ -21,16 +21,26 @@ const NO_SESSION: &str = "no session of this boot has its id";
 /// A session, once as the node has it, and once as its peer does.
 #[derive(Drop)]
 struct Keyed {
+    /// In which boot it may be used.
+    boot: u32,
     /// The node's id of it, which no other session of the boot has; two peers may have chosen one id.
     session: u16,
     received: Session,
     sent: Session,
 }
 
-/// The keys of the sessions of the boot that is played.
+impl Keyed {
+    // Whether it is the session of this id in that boot.
+    fn is_of(&self, boot: u32, session: u16) -> bool {
+        self.boot == boot && self.session == session
+    }
+}
+
+/// The keys of the sessions of all boots, and which boot it is.
 pub(crate) struct Sessions {
     alloc: Global,
     sessions: Vec<Keyed>,
+    boot: u32,
 }
 
 impl Drop for Sessions {
@@ -38,6 +48,7 @@ impl Drop for Sessions {
         let Sessions {
             alloc: _,
             sessions: _,
+            boot: _,
         } = self;
     }
 }
@@ -50,7 +61,24 @@ impl Sessions {
                 sessions.push(keyed)?;
             }
         }
-        Ok(Sessions { alloc, sessions })
+        Ok(Sessions {
+            alloc,
+            sessions,
+            boot: FIRST_BOOT,
+        })
+    }
+
+    /// The node has started again: what it receives and sends is now of the next boot, over whose sessions nothing was said
+    /// yet. Its number, and the ids of its sessions.
+    pub(crate) fn start_again(&mut self) -> Result<(u32, Vec<u16>), AllocError> {
+        self.boot = self.boot.saturating_add(1);
+        let mut ids = Vec::new(self.alloc);
+        for keyed in &self.sessions {
+            if keyed.boot == self.boot {
+                ids.push(keyed.session)?;
+            }
+        }
+        Ok((self.boot, ids))
     }
 
     /// Opens a datagram that a node with these sessions receives.
@@ -64,12 +92,10 @@ impl Sessions {
             Err(fault) => return Ok(unread(datagram.len(), fault)),
         };
         let owner = owner(sessions, heading.session);
-        for i in 0..self.sessions.len() {
-            let keyed = &mut self.sessions[i];
-            if keyed.session == heading.session {
-                let content = opened(self.alloc, &mut keyed.received, datagram)?;
-                return Ok(letter(heading, owner, datagram.len(), content));
-            }
+        let alloc = self.alloc;
+        if let Some(keyed) = self.keyed(heading.session) {
+            let content = opened(alloc, &mut keyed.received, datagram)?;
+            return Ok(letter(heading, owner, datagram.len(), content));
         }
         Ok(letter(heading, owner, datagram.len(), Content::Closed(NO_SESSION)))
     }
@@ -87,14 +113,20 @@ impl Sessions {
             Err(fault) => return Ok(unread(datagram.len(), fault)),
         };
         let owner = owner(sessions, session);
-        for i in 0..self.sessions.len() {
-            let keyed = &mut self.sessions[i];
-            if keyed.session == session {
-                let content = opened(self.alloc, &mut keyed.sent, datagram)?;
-                return Ok(letter(heading, owner, datagram.len(), content));
-            }
+        let alloc = self.alloc;
+        if let Some(keyed) = self.keyed(session) {
+            let content = opened(alloc, &mut keyed.sent, datagram)?;
+            return Ok(letter(heading, owner, datagram.len(), content));
         }
         Ok(letter(heading, owner, datagram.len(), Content::Closed(NO_SESSION)))
+    }
+
+    // The session of this id in the boot that it is.
+    fn keyed(&mut self, session: u16) -> Option<&mut Keyed> {
+        let boot = self.boot;
+        self.sessions
+            .iter_mut()
+            .find(|keyed| keyed.is_of(boot, session))
     }
 }
 
@@ -143,17 +175,15 @@ fn unread(length: usize, fault: FrameFault) -> Letter {
     }
 }
 
-// A session, where it is one of unicast and of the boot that is played.
+// A session, where it is one of unicast.
 fn with_keys(row: &SessionRow) -> Result<Option<Keyed>, AllocError> {
-    if row.boot != BOOT {
-        return Ok(None);
-    }
     if row.session == 0 || row.peer_session == 0 || row.auth == Auth::Group {
         return Ok(None);
     }
     let own = row.copy()?;
     let peer = mirrored(row)?;
     Ok(Some(Keyed {
+        boot: row.boot,
         session: row.session,
         received: Session::new(own),
         sent: Session::new(peer),

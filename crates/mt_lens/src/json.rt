@@ -7,7 +7,7 @@ use crate::json_messages::{put_malformed, put_request};
 use crate::json_objects::Object;
 use crate::page::Page;
 use crate::telling::INTERACTION_MODEL;
-use crate::told::{Content, Expiry, Letter, Message, Told};
+use crate::told::{Content, Expiry, Letter, Message, Outcome, Restart, Told};
 use mt_frame::ProtocolHeader;
 use mt_im::decode;
 use mt_model::{Event, Standing, To};
@@ -28,11 +28,39 @@ pub fn show_object(page: &mut Page, told: &Told<'_>)
 fn put_told(out: &mut Object, told: &Told<'_>) {
     out.open();
     put_asked(out, told);
-    put_event(out, told.line, told.event);
+    if told.is_of_others {
+        put_others(out, told.line, told.event);
+    } else {
+        put_event(out, told.line, told.event);
+    }
     put_expiry(out, told.expiry);
-    match &told.sent {
-        Some(messages) => put_messages(out, messages.as_slice()),
-        None => out.truth("unsupported", true),
+    match &told.outcome {
+        Outcome::Sent(messages) => put_messages(out, messages.as_slice()),
+        Outcome::Restarted(restart) => {
+            put_messages(out, &[]);
+            put_restart(out, restart)
+        }
+    }
+    out.close()
+}
+
+// The stop that has come, and how the node starts again.
+fn put_restart(out: &mut Object, restart: &Restart) {
+    out.key("restart");
+    out.open();
+    out.number("boot", restart.boot as u64);
+    out.number("calls", restart.calls);
+    put_expiry(out, restart.expiry);
+    out.text("fate", restart.fate.text());
+    out.key("sessions");
+    out.open_list();
+    for session in &restart.sessions {
+        out.next_item();
+        out.page.number(*session as u64);
+    }
+    out.close_list();
+    if let Some(survives) = restart.survives {
+        out.truth("survives", survives);
     }
     out.close()
 }
@@ -100,6 +128,19 @@ fn put_event(out: &mut Object, line: u64, event: &Event) {
     }
 }
 
+// When a line was of which nothing else is told.
+fn put_others(out: &mut Object, line: u64, event: &Event) {
+    out.text("event", "others");
+    match event {
+        Event::Ask { ms, .. }
+        | Event::Datagram { ms, .. }
+        | Event::Tick { ms }
+        | Event::Report { ms, .. }
+        | Event::Resend { ms, .. } => put_place_in_time(out, line, *ms),
+        Event::Stop { .. } => out.number("line", line),
+    }
+}
+
 fn put_place_in_time(out: &mut Object, line: u64, ms: u64) {
     out.number("line", line);
     out.number("ms", ms)
@@ -152,12 +193,14 @@ fn put_asked(out: &mut Object, told: &Told<'_>) {
     else {
         return;
     };
+    let Some(asked) = &told.asked else {
+        return;
+    };
     out.key("asks");
     out.open();
-    match &told.asked {
-        Some(Ok(request)) => put_request(out, *opcode, request),
-        Some(Err(fault)) => { put_malformed(out, *opcode, payload.as_slice(), *fault) }
-        None => {}
+    match asked {
+        Ok(request) => put_request(out, *opcode, request),
+        Err(fault) => put_malformed(out, *opcode, payload.as_slice(), *fault),
     }
     out.close()
 }

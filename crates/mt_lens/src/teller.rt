@@ -3,9 +3,11 @@
 ghost use Rattle.std.specs.Prelude.{◌≡◌, IfOk, IfSome};
 
 use crate::datagrams::Sessions;
-use crate::told::{Expiry, Letter, Message, Told};
+use crate::surviving::surviving_expiry;
+use crate::told::{Expiry, Letter, Message, Outcome, Restart, Told};
 use mt_im::{ImFault, decode};
 use mt_model::{Armed, Config, Event, NodeSession, Request, Sent, To};
+use mt_outside::Fate;
 use std::alloc::{AllocError, Global};
 
 /// A line of a recording as a node plays it.
@@ -18,8 +20,29 @@ pub struct Line<'a> {
     pub sessions: &'a [NodeSession],
     /// The fail-safe as the line begins, None where nobody has armed it.
     pub armed: Option<&'a Armed>,
-    /// What was sent. None where the node does not support the line yet.
-    pub sent: Option<&'a [Sent]>,
+    pub came: Came<'a>,
+}
+
+/// What came of a line.
+#[derive(Clone, Copy)]
+pub enum Came<'a> {
+    /// It was carried out, and these messages were sent.
+    Sent(&'a [Sent]),
+    /// The disk stopped in it: nothing was sent, and the node started again.
+    Stopped(DiskStop<'a>),
+}
+
+/// A stop of the disk in a line.
+#[derive(Clone, Copy)]
+pub struct DiskStop<'a> {
+    /// What the `X` line asked for by which the disk stopped: in which of the calls to come, 0 for at once, and what becomes
+    /// of what was not synced then.
+    pub calls: u64,
+    pub fate: Fate,
+    /// The bytes of the change that the line was to commit, none where it is that `X` line itself.
+    pub change: &'a [u8],
+    /// Whether that change is there behind the stop.
+    pub survives: bool,
 }
 
 /// What is asked of a run, and what opens its datagrams. It is told of each line once, in their order.
@@ -59,26 +82,96 @@ impl Teller {
     {
         let letter = letter_of(&mut self.sessions, line)?;
         let is_wanted = is_shown(self.fabric, asker(line.event, &letter));
-        // Of a line that is wanted all messages are: what PASE asks may be answered to the fabric that it has joined.
-        let to = if is_wanted { None } else { self.fabric };
-        let sent = match line.sent {
-            Some(sent) => {
+        match line.came {
+            Came::Sent(sent) => {
+                // Of a line that is wanted all messages are: what PASE asks may be answered to the fabric that it has joined.
+                let to = if is_wanted { None } else { self.fabric };
                 let sessions = &mut self.sessions;
-                Some(messages(self.alloc, sessions, line.sessions, sent, to)?)
+                let messages = messages(self.alloc, sessions, line.sessions, sent, to)?;
+                if !is_wanted && messages.is_empty() {
+                    return Ok(None);
+                }
+                Ok(Some(whole(self.alloc, line, letter, Outcome::Sent(messages))))
             }
-            None => None,
-        };
-        if !is_wanted && !has_messages(&sent) {
-            return Ok(None);
+            Came::Stopped(stop) => {
+                let is_known = is_wanted || is_of_nobody(line.event);
+                let restart = restarted(self.alloc, &mut self.sessions, line, &stop, is_known)?;
+                if is_known {
+                    return Ok(Some(whole(self.alloc, line, letter, Outcome::Restarted(restart))));
+                }
+                Ok(Some(of_others(line, restart)))
+            }
         }
-        Ok(Some(Told {
-            line: line.number,
-            event: line.event,
-            asked: asked(self.alloc, line.event),
-            letter,
-            expiry: expiry(line),
-            sent,
-        }))
+    }
+}
+
+// A line with all that it says.
+fn whole<'a>(
+    alloc: Global,
+    line: &Line<'a>,
+    letter: Option<Letter>,
+    outcome: Outcome<'a>,
+) -> Told<'a>
+    ensures { result.line ≡ line.now.number }
+{
+    Told {
+        line: line.number,
+        event: line.event,
+        is_of_others: false,
+        asked: asked(alloc, line.event),
+        letter,
+        expiry: expiry(line),
+        outcome,
+    }
+}
+
+// A line of others in which the disk stops: nothing is told of it but that.
+fn of_others<'a>(line: &Line<'a>, restart: Restart) -> Told<'a>
+    ensures { result.line ≡ line.now.number }
+{
+    Told {
+        line: line.number,
+        event: line.event,
+        is_of_others: true,
+        asked: None,
+        letter: None,
+        expiry: None,
+        outcome: Outcome::Restarted(restart),
+    }
+}
+
+// The start behind a stop of the disk, with which the next boot begins. Whether the change survives is told only of a line that
+// is known whole.
+fn restarted(
+    alloc: Global,
+    keys: &mut Sessions,
+    line: &Line<'_>,
+    stop: &DiskStop<'_>,
+    is_known: bool,
+) -> Result<Restart, AllocError> {
+    let armed = line.armed.map(|armed| taken_back(armed));
+    let expiry = if stop.survives {
+        surviving_expiry(alloc, stop.change, armed)?
+    } else {
+        armed
+    };
+    let (boot, sessions) = keys.start_again()?;
+    let is_told = is_known && !stop.change.is_empty();
+    Ok(Restart {
+        calls: stop.calls,
+        fate: stop.fate,
+        survives: if is_told { Some(stop.survives) } else { None },
+        boot,
+        expiry,
+        sessions,
+    })
+}
+
+// Whether a line is nobody's: a time step or a line that stops the disk.
+fn is_of_nobody(event: &Event) -> bool {
+    match event {
+        Event::Tick { .. } | Event::Stop { .. } => true,
+        _ => false,
     }
 }
 
@@ -134,10 +227,15 @@ fn expiry(line: &Line<'_>) -> Option<Expiry> {
     if *ms < armed.until {
         return None;
     }
-    Some(Expiry {
+    Some(taken_back(armed))
+}
+
+// What an expiry of this fail-safe takes back.
+fn taken_back(armed: &Armed) -> Expiry {
+    Expiry {
         added: armed.added,
         updated: armed.updated,
-    })
+    }
 }
 
 // What a line of a plain actor asks.
@@ -149,14 +247,6 @@ fn asked(alloc: Global, event: &Event) -> Option<Result<Request, ImFault>> {
             ..
         } => Some(decode(alloc, *opcode, payload.as_slice())),
         _ => None,
-    }
-}
-
-// Whether anything that was sent is to be shown.
-fn has_messages(sent: &Option<Vec<Message<'_>>>) -> bool {
-    match sent {
-        Some(messages) => !messages.is_empty(),
-        None => false,
     }
 }
 

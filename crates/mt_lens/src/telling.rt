@@ -4,13 +4,14 @@ ghost use Rattle.std.specs.Io.{StartsWith};
 
 use crate::answers::show_answer;
 use crate::page::{Colour, Page};
-use crate::told::{Content, Expiry, Letter, Message, Owner, Told};
+use crate::restarts::{show_restart, show_stop};
+use crate::told::{Content, Expiry, Letter, Message, Outcome, Owner, Told};
 use crate::words::{ITEM, MESSAGE, show_malformed, show_message_name, show_request};
 use mt_frame::ProtocolHeader;
 use mt_im::decode;
 use mt_model::opcode::STATUS_RESPONSE;
 use mt_model::{Auth, Event, Standing, To};
-use mt_outside::{Fate, Peer};
+use mt_outside::Peer;
 
 /// The protocol of the interaction model, and the one of secure channels with its acknowledgement
 /// (Matter Core Specification, section 4.4.3, Protocol Header).
@@ -31,19 +32,30 @@ pub fn show_words(page: &mut Page, told: &Told<'_>)
 
 fn show_line(page: &mut Page, told: &Told<'_>) {
     page.begin(Colour::Head);
-    show_event(page, told);
+    if told.is_of_others {
+        show_others(page, told.event);
+    } else {
+        show_event(page, told);
+    }
     page.end();
     show_asked(page, told);
-    match &told.sent {
-        Some(messages) => show_messages(page, told.event, messages.as_slice()),
-        None => {
-            page.blanks(MESSAGE);
-            page.begin(Colour::Refusal);
-            page.text("the node does not support this yet: the run ends here");
-            page.end();
-            page.end_line()
-        }
+    match &told.outcome {
+        Outcome::Sent(messages) => show_messages(page, told.event, messages.as_slice()),
+        Outcome::Restarted(restart) => show_restart(page, restart),
     }
+}
+
+// A line of which nothing is told but when it was.
+fn show_others(page: &mut Page, event: &Event) {
+    match event {
+        Event::Ask { ms, .. }
+        | Event::Datagram { ms, .. }
+        | Event::Tick { ms }
+        | Event::Report { ms, .. }
+        | Event::Resend { ms, .. } => show_time(page, *ms),
+        Event::Stop { .. } => page.blanks(MESSAGE),
+    }
+    page.text("a line of others")
 }
 
 // When it was, and what happened or who asks.
@@ -181,22 +193,6 @@ fn show_groups(page: &mut Page, ip: &[u8; 16]) {
     page.byte(b']');
 }
 
-fn show_stop(page: &mut Page, calls: u64, fate: Fate) {
-    page.blanks(MESSAGE);
-    page.text("the disk stops ");
-    if calls == 0 {
-        page.text("at once");
-    } else {
-        page.text("at its call ");
-        page.number(calls);
-    }
-    page.text(match fate {
-        Fate::Kept => ", and all of that call is kept",
-        Fate::Lost => ", and that call is lost",
-        Fate::Torn => ", and half of that call is kept",
-    })
-}
-
 // What is asked, behind who asks.
 fn show_asked(page: &mut Page, told: &Told<'_>) {
     if let Some(letter) = &told.letter {
@@ -211,15 +207,17 @@ fn show_asked(page: &mut Page, told: &Told<'_>) {
     else {
         return page.end_line();
     };
+    let Some(asked) = &told.asked else {
+        return page.end_line();
+    };
     page.text(if *opcode == STATUS_RESPONSE {
         " sends "
     } else {
         " asks "
     });
-    match &told.asked {
-        Some(Ok(request)) => show_request(page, *opcode, request),
-        Some(Err(fault)) => { show_malformed(page, *opcode, payload.as_slice(), *fault) }
-        None => page.end_line(),
+    match asked {
+        Ok(request) => show_request(page, *opcode, request),
+        Err(fault) => show_malformed(page, *opcode, payload.as_slice(), *fault),
     }
 }
 

@@ -3,8 +3,8 @@ use Rattle.std.proofs.Common.{◌≡◌, List, [], ◌∷◌, refl, sym, ap, ◌
 use Rattle.mt_model.specs.declared.texts.recording.Event.{Event}
 use Rattle.mt_machine.specs.Isolation as machine
 use Rattle.mt_runs.specs.Isolation.{PublicPart}
-use Rattle.mt_runs.specs.Marks.{Mark, seen, born, gone}
-use Rattle.mt_marks.specs.Seen.{descriptor_in, recent_in, seen_in, view_in}
+use Rattle.mt_runs.specs.Marks.{Mark, born, gone, reopened, seen}
+use Rattle.mt_marks.specs.Seen.{descriptor_in, public_in, seen_in}
 use Rattle.mt_marks.specs.declared.mark.Descriptor.{Descriptor}
 use Rattle.mt_marks.specs.declared.mark.Mark as code
 
@@ -18,11 +18,13 @@ map-back (d ∷ ds) = ap (λ (l : List Descriptor). d ∷ l) (map-back ds)
 
 event_of : Event → Mark → Event
 event_of none (seen event part) = event
+event_of none (reopened line part left) = none
 event_of none (born own) = none
 event_of none gone = none
 
 part_of : PublicPart → Mark → PublicPart
 part_of none (seen event part) = part
+part_of none (reopened line part left) = none
 part_of none (born own) = none
 part_of none gone = none
 
@@ -30,12 +32,9 @@ same_event : (one other : code.Mark) → seen_in one ≡ seen_in other → one.e
 unfolding event_of
 same_event one other e = ap (event_of one.event) e
 
-abbrev part_in : code.Mark → PublicPart
-part_in mark = record { node = view_in mark; events = recent_in mark }
-
-same_part : (one other : code.Mark) → seen_in one ≡ seen_in other → part_in one ≡ part_in other
+same_part : (one other : code.Mark) → seen_in one ≡ seen_in other → public_in one ≡ public_in other
 unfolding part_of
-same_part one other e = ap (part_of (part_in one)) e
+same_part one other e = ap (part_of (public_in one)) e
 
 pub same_back : (one other : code.Mark) → seen_in one ≡ seen_in other → one ≡ other
 same_back one other e =

@@ -1,14 +1,14 @@
 -- The parts of marks, and marks that are the same.
-use Rattle.std.proofs.Common.{◌≡◌, ◌↔◌, ◌&&◌, Bool, true, false, Some, None, refl, sym, ap, subst, ◌∙◌, ◌==◌, inl, inr}
+use Rattle.std.proofs.Common.{◌≡◌, ◌↔◌, ◌&&◌, Bool, true, false, if◌then◌else◌, Option, Some, None, refl, sym, ap, subst, ◌∙◌, ◌==◌, inl, inr}
 use Rattle.std.proofs.lemmas.Bool.{and_parts, cases_Bool}
 use Rattle.mt_model.specs.declared.texts.recording.Event.{Event}
 use Rattle.mt_runs.specs.Isolation.{OwnPart, PublicPart}
-use Rattle.mt_runs.specs.Marks.{Mark, born, gone, seen}
+use Rattle.mt_runs.specs.Marks.{Mark, Unanswered, born, gone, reopened, seen}
 use Rattle.mt_marks.specs.declared.difference.Part.{Part}
 use Rattle.mt_marks.specs.declared.difference.Part.TheVariants as parts
-use Rattle.mt_marks.specs.differences.Difference.{born_part, part_between}
+use Rattle.mt_marks.specs.differences.Difference.{born_part, part_between, reopened_part}
 use Rattle.mt_marks.specs.differences.Laws.{IsFirstPart}
-use Rattle.mt_marks.specs.differences.Codes.{are_same, of_changes, of_events, of_fabrics, of_failsafe, of_happened, of_networks, of_own, of_owners, of_roots, of_rows, of_versions}
+use Rattle.mt_marks.specs.differences.Codes.{are_same, of_changes, of_events, of_fabrics, of_failsafe, of_happened, of_networks, of_own, of_owners, of_roots, of_rows, of_unanswered, of_versions}
 use Rattle.mt_marks.specs.differences.Parts.{IsSameSeen, is_same_seen, seen_part}
 use Rattle.mt_marks.proofs.Codes.{CodesTellThemselves, number_same, told_same}
 use Rattle.mt_marks.proofs.Placing.{first_is_found, found_is_first, none_differs, none_is_found}
@@ -64,28 +64,32 @@ module _ (law : CodesTellThemselves) (event other : Event) (p q : PublicPart) wh
     λ first. first_is_found same part (is_not (same part) (λ holds. first.differs ((same_parts law part event other p q).0 holds))) (λ before to. (same_parts law before event other p q).1 (first.first before to)),
   )
 
-  -- nothing differs where all is the same
-  pub seen_same : seen_part event p other q ≡ None → seen event p ≡ seen other q
-  seen_same none =
+  -- nothing differs where all is the same: what happened, and what is public
+  pub same_where_none : seen_part event p other q ≡ None → (event ≡ other) × (p ≡ q)
+  same_where_none none =
       let is = λ (part : Part). (same_parts law part event other p q).0 (none_differs same none part) in
       let rows = is parts.Rows in
-      let versions = is parts.Versions in
-      let public : p ≡ q = λ i. record {
-        node = record {
-          rows = rows.0 i;
-          owners = rows.1 i;
-          fabrics = is parts.Fabrics i;
-          roots = is parts.Roots i;
-          networks = is parts.Networks i;
-          armed = is parts.Failsafe i;
-          versions = versions.0 i;
-          changes = versions.1 i;
-          boot = is parts.Boot i;
-          clock = is parts.Now i;
-        };
-        events = record { shared = is parts.Events i; next = is parts.Numbers i };
-      } in
-      λ i. seen (is parts.Event i) (public i)
+      let versions = is parts.Versions in (
+        is parts.Event,
+        λ i. record {
+          node = record {
+            rows = rows.0 i;
+            owners = rows.1 i;
+            fabrics = is parts.Fabrics i;
+            roots = is parts.Roots i;
+            networks = is parts.Networks i;
+            armed = is parts.Failsafe i;
+            versions = versions.0 i;
+            changes = versions.1 i;
+            boot = is parts.Boot i;
+            clock = is parts.Now i;
+          };
+          events = record { shared = is parts.Events i; next = is parts.Numbers i };
+        },
+      )
+
+  pub seen_same : seen_part event p other q ≡ None → seen event p ≡ seen other q
+  seen_same none = let are = same_where_none none in λ i. seen (are.0 i) (are.1 i)
 
 self_same : (event : Event) (p : PublicPart) (part : Part) → IsSameSeen part event p event p
 self_same event p parts.Event = refl
@@ -118,21 +122,47 @@ own_differ law one other =
       λ same. rw (told.1 same) refl,
     )
 
+-- Reopenings.
+
+-- where no part is found, what was left unanswered is the same, and so is the rest
+unless : (b : Bool) (part : Option Part) → (if b then part else Some parts.Event) ≡ None → (b ≡ true) × (part ≡ None)
+unless true part none = (refl, none)
+unless false part none = absurd (cc)
+
+reopened_same : CodesTellThemselves → (line other : Event) (p q : PublicPart) (left too : Option Unanswered) → reopened_part line p left other q too ≡ None → reopened line p left ≡ reopened other q too
+reopened_same law line other p q left too none =
+    let both = unless (are_same of_unanswered left too) (seen_part line p other q) none in
+    let are = same_where_none law line other p q both.1 in
+    let unanswered = (told_same law of_unanswered left too).0 both.0 in
+    λ i. reopened (are.0 i) (are.1 i) (unanswered i)
+
+reopened_none : CodesTellThemselves → (line : Event) (p : PublicPart) (left : Option Unanswered) → reopened_part line p left line p left ≡ None
+reopened_none law line p left =
+    ap (λ (b : Bool). if b then seen_part line p line p else Some parts.Event) ((told_same law of_unanswered left left).1 refl) ∙ self_none law line p
+
 -- Marks.
 
 between_self : CodesTellThemselves → (one : Mark) → part_between one one ≡ None
 between_self law (seen event p) = self_none law event p
+between_self law (reopened line p left) = reopened_none law line p left
 between_self law (born own) = (own_differ law own own).1 refl
 between_self law gone = refl
 
 between_none : CodesTellThemselves → (one other : Mark) → part_between one other ≡ None → one ≡ other
 between_none law (seen event p) (seen other q) none = seen_same law event other p q none
+between_none law (seen event p) (reopened other q left) none = absurd (cc)
 between_none law (seen event p) (born other) none = absurd (cc)
 between_none law (seen event p) gone none = absurd (cc)
+between_none law (reopened line p left) (seen other q) none = absurd (cc)
+between_none law (reopened line p left) (reopened other q too) none = reopened_same law line other p q left too none
+between_none law (reopened line p left) (born other) none = absurd (cc)
+between_none law (reopened line p left) gone none = absurd (cc)
 between_none law (born one) (seen other q) none = absurd (cc)
+between_none law (born one) (reopened other q left) none = absurd (cc)
 between_none law (born one) (born other) none = ap born ((own_differ law one other).0 none)
 between_none law (born one) gone none = absurd (cc)
 between_none law gone (seen other q) none = absurd (cc)
+between_none law gone (reopened other q left) none = absurd (cc)
 between_none law gone (born other) none = absurd (cc)
 between_none law gone gone none = refl
 

@@ -1,5 +1,6 @@
 -- A mark as data, and the mark of a run that it is.
-use Rattle.std.specs.Prelude.{ℕ, ◌==◌, not, List, filter, map}
+use Rattle.std.specs.Prelude.{ℕ, ◌==◌, not, List, Option, filter, map}
+use Rattle.std.specs.Option.{option_map}
 use Rattle.mt_model.specs.rows.Sight.{seen_by}
 use Rattle.mt_model.specs.declared.rows.place.Row.{Row}
 use Rattle.mt_model.specs.declared.node.state.NodeState.{NodeState}
@@ -10,9 +11,11 @@ use Rattle.mt_machine.specs.Isolation.{PublicView, owns, public_view}
 use Rattle.mt_machine.specs.Isolation as machine
 use Rattle.mt_ledger.specs.history.History.{History}
 use Rattle.mt_ledger.specs.history.Isolation.{Recent, recent}
-use Rattle.mt_runs.specs.Marks.{Mark, seen}
+use Rattle.mt_runs.specs.Isolation.{PublicPart}
+use Rattle.mt_runs.specs.Marks.{Mark, Unanswered, reopened, seen}
 use Rattle.mt_marks.specs.declared.mark.Descriptor.{Descriptor}
 use Rattle.mt_marks.specs.declared.mark.Mark as code
+use Rattle.mt_marks.specs.declared.mark.Unanswered as code_left
 
 -- What a mark says.
 
@@ -36,8 +39,19 @@ view_in mark = record {
 abbrev pub recent_in : code.Mark → Recent
 recent_in mark = record { shared = mark.events; next = mark.next }
 
+abbrev pub public_in : code.Mark → PublicPart
+public_in mark = record { node = view_in mark; events = recent_in mark }
+
 abbrev pub seen_in : code.Mark → Mark
-seen_in mark = seen mark.event (record { node = view_in mark; events = recent_in mark })
+seen_in mark = seen mark.event (public_in mark)
+
+-- What the mark of a reopening says: by which line, with what was public, and which event was left unanswered.
+
+abbrev pub unanswered_in : code_left.Unanswered → Unanswered
+unanswered_in left = record { event = left.event; survived = left.survived }
+
+abbrev pub reopened_in : code.Mark → Option code_left.Unanswered → Mark
+reopened_in mark left = reopened mark.event (public_in mark) (option_map unanswered_in left)
 
 -- What is seen: an event, with what is public to the fabric of this state and this history.
 abbrev pub mark_before : ℕ → Event → NodeState → History → Mark

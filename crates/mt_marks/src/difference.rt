@@ -4,7 +4,7 @@ ghost use Rattle.std.specs.Prelude.{◌≡◌, ◌↔◌, ◌<◌, IfSome, IsTru
 ghost use Rattle.mt_marks.specs.Parts.{IsSame, all_parts, place_of, word_of};
 ghost use Rattle.mt_marks.specs.declared.difference.Part.{Part};
 
-use crate::mark::{Descriptor, Mark};
+use crate::mark::{Descriptor, Mark, Unanswered};
 use mt_same::Same;
 use std::fmt;
 
@@ -127,5 +127,11 @@ impl Same for Descriptor {
             && self.fabric_id == other.fabric_id
             && self.node_id == other.node_id
             && self.label.equals(&other.label)
+    }
+}
+
+impl Same for Unanswered {
+    fn is_same(&self, other: &Unanswered) -> bool {
+        self.survived == other.survived && self.event.is_same(&other.event)
     }
 }

@@ -1,6 +1,6 @@
-//! What a fabric may know of a run, as data: the public part of a mark, which is an event that the fabric sees with what is
-//! public to it just before; its own part, which is compared where it lies; what is shown of the sessions; and where two
-//! runs first differ in these.
+//! What a fabric may know of a run, as data: the public part of a mark, which is an event that the fabric sees, or a line that
+//! stops the disk, with what is public to it just before; its own part, which is compared where it lies; what is shown of the
+//! sessions; and where two runs first differ in these.
 //!
 //! - `mark`: the public part of a mark, and what it says of a fabric;
 //! - `making`: that of an event, made of the node's state and of the events that are remembered;
@@ -29,7 +29,7 @@ pub use differences::{
 };
 pub use laws::{equal_marks_say_the_same, marks_are_those_of_runs, rows_stand_at_stored_places};
 pub use making::public_mark;
-pub use mark::{Descriptor, Descriptors, Mark, Owners, Recent, SeenRows};
+pub use mark::{Descriptor, Descriptors, Mark, Owners, Recent, SeenRows, Unanswered};
 pub use own::{
     are_deadlines_same, are_events_same, are_exchanges_same, are_subscriptions_same, is_own_same,
 };

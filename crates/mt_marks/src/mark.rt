@@ -30,7 +30,8 @@ pub type Owners = Listed<u8>;
 /// The latest events that all may see, by rising number.
 pub type Recent = Listed<Happened>;
 
-/// An event that a fabric sees, with what is public to the fabric just before it.
+/// An event that a fabric sees, with what is public to the fabric just before it; or the line by which the node was reopened, with what
+/// was public just before the event in which the disk stopped.
 pub struct Mark {
     pub event: Event,
     /// The rows of nobody, and those of others without their sensitive fields.
@@ -71,4 +72,12 @@ impl Drop for Mark {
             now: _,
         } = self;
     }
+}
+
+/// An event of a fabric in which the disk stopped, so that it was left unanswered.
+#[derive(Drop)]
+pub struct Unanswered {
+    pub event: Event,
+    /// Whether what it changed is there behind the reopening.
+    pub survived: bool,
 }

@@ -2,12 +2,14 @@
 use Rattle.std.proofs.Common.{◌≡◌, ℕ, inl, inr, List, [], ◌∷◌, refl, ap, ◌∙◌, filter, map}
 use Rattle.std.proofs.lemmas.Bool.{cases_Bool}
 use Rattle.mt_model.specs.declared.node.state.NodeSession.{NodeSession}
+use Rattle.mt_model.specs.declared.texts.config.SessionRow.{SessionRow}
 use Rattle.mt_subs.specs.Leaving.{is_live_as}
 use Rattle.mt_machine.specs.Environment.{Environment}
 use Rattle.mt_machine.specs.State.{State}
 use Rattle.mt_marks.specs.Remembered.{ToldTalk, remembered, told_among}
+use Rattle.mt_runs.specs.Course.{Going}
 use Rattle.mt_runs.specs.Isolation.{is_talk_among, own_part, talks_among}
-use Rattle.mt_runs.specs.Whole.{SessionTalk, Whole}
+use Rattle.mt_runs.specs.Whole.{SessionTalk}
 use Rattle.mt_play.specs.Remembers.{IsRemembering}
 use Rattle.mt_play.specs.declared.remembering.Remembering.{Remembering}
 
@@ -23,7 +25,8 @@ among_remembered sessions (t ∷ ts) = elim (cases_Bool (is_talk_among sessions 
   | inr other ↦ rw other (among_remembered sessions ts)
 ]
 
-pub own_told : (fabric : ℕ) (one : Remembering) (given : Environment) (w : Whole) → IsRemembering one given w → told_among (live fabric one.playing.whole.interactions.state) one.told ≡ map remembered (own_part fabric w).talks
-own_told fabric one given w is =
-    let written : told_among (live fabric one.playing.whole.interactions.state) one.told ≡ told_among (live fabric w.state) (map remembered w.talks) = λ i. told_among (live fabric (is.playing.whole.state i)) (is.told i) in
-    written ∙ among_remembered (live fabric w.state) w.talks
+pub own_told : (fabric : ℕ) (one : Remembering) (given : Environment) (sessions : List SessionRow) (g : Going) → IsRemembering one given sessions g
+    → told_among (live fabric one.playing.whole.interactions.state) one.told ≡ map remembered (own_part fabric g.whole).talks
+own_told fabric one given sessions g is =
+    let written : told_among (live fabric one.playing.whole.interactions.state) one.told ≡ told_among (live fabric g.whole.state) (map remembered g.whole.talks) = λ i. told_among (live fabric (is.playing.whole.state i)) (is.told i) in
+    written ∙ among_remembered (live fabric g.whole.state) g.whole.talks

@@ -1,16 +1,20 @@
--- What is shown behind an event, kept beside the node.
-use Rattle.std.proofs.Common.{◌≡◌, ◌==◌, ℕ, Bool, true, false, List, [], ◌∷◌, Option, refl, sym, ap, ap₂, ◌∙◌, map, if◌then◌else◌}
+-- What is shown behind a line, kept beside the node.
+use Rattle.std.proofs.Common.{◌≡◌, ◌==◌, ℕ, Bool, true, false, true≢false, List, [], ◌∷◌, refl, sym, ap, ◌∙◌, map, if◌then◌else◌}
+use Rattle.std.specs.Prelude.{Option, Some, None, IfSome, is_some, not}
 use Rattle.std.specs.List.{list_any}
 use Rattle.mt_model.specs.declared.texts.recording.Event.{Event}
+use Rattle.mt_model.specs.declared.texts.recording.Event.TheVariants as events
 use Rattle.mt_machine.specs.Environment.{Environment}
-use Rattle.mt_runs.specs.Lines.{next, talks_behind}
+use Rattle.mt_runs.specs.Laws.{StopsLeaveAll}
+use Rattle.mt_runs.specs.Lines.{is_stop, next, talks_behind}
 use Rattle.mt_runs.specs.Whole.{SessionTalk, Whole, without_ended}
 use Rattle.mt_marks.specs.Noted.{noted_if}
 use Rattle.mt_marks.specs.Remembered.{ToldTalk, remembered, told_without_ended}
 use Rattle.mt_marks.specs.declared.shown.Note.{Note}
 use Rattle.mt_whole.specs.Laws.{TalksLetGoWhatCloses}
-use Rattle.mt_whole.specs.Plan.{Brings, IsPlanned}
+use Rattle.mt_whole.specs.Plan.{IsPlan, IsPlanned}
 use Rattle.mt_whole.specs.declared.outcome.WholeOutcome.{WholeOutcome}
+use Rattle.mt_play.specs.Remembers.{dropped}
 
 -- Of a session that ends the drop is remembered, of another nothing.
 
@@ -28,11 +32,28 @@ drops_told ended (t ∷ ts) =
     let rest = drops_told ended ts in
     λ i. first i ∷ rest i
 
-module _ (law : TalksLetGoWhatCloses) (given : Environment) (w : Whole) (event : Event) (outcome : WholeOutcome) (planned : IsPlanned w.state w.ledger outcome) (brings : Brings given w event outcome) where
-  pub told_behind : (note : Option Note) (told said kept : List ToldTalk) (closed : List ℕ) → told ≡ map remembered w.talks → noted_if note (map remembered w.talks) ≡ map remembered (talks_behind given w event)
-      → said ≡ noted_if note told → closed ≡ outcome.interactions.node.closed → kept ≡ map (told_without_ended closed) said → kept ≡ map remembered (next given w event).talks
-  told_behind note told said kept closed is adds noted ends lets =
-      lets
-      ∙ ap₂ (λ (ended : List ℕ) (talks : List ToldTalk). map (told_without_ended ended) talks) ends (noted ∙ ap (noted_if note) is ∙ adds)
-      ∙ drops_told outcome.interactions.node.closed (talks_behind given w event)
-      ∙ ap (map remembered) (sym (law given w event outcome planned brings))
+-- Over no session anything is said in a line that stops the disk.
+
+talks_of_stop : (given : Environment) (w : Whole) (event : Event) → is_stop event ≡ true → talks_behind given w event ≡ w.talks
+talks_of_stop given w (events.Stop calls fate) stop = refl
+talks_of_stop given w event stop = absurd (true≢false (sym stop))
+
+is_one : (stop : Bool) → false ≡ not stop → stop ≡ true
+is_one true none = refl
+is_one false none = none
+
+-- Behind a line that is carried out is shown what was, what the line adds, and that those sessions end which end with it.
+
+module _ (lets_go : TalksLetGoWhatCloses) (leave : StopsLeaveAll) (given : Environment) (w : Whole) (event : Event) where
+  stopped : is_stop event ≡ true → map remembered (talks_behind given w event) ≡ map remembered (next given w event).talks
+  stopped stop = ap (map remembered) (talks_of_stop given w event stop ∙ sym (ap (λ (v : Whole). v.talks) (leave given w event stop)))
+
+  pub told_behind : (outcome : Option WholeOutcome) → is_some outcome ≡ not (is_stop event) → IfSome outcome (IsPlanned w.state w.ledger) → IfSome outcome (IsPlan given w event)
+      → (note : Option Note) (told : List ToldTalk) → told ≡ map remembered w.talks → noted_if note (map remembered w.talks) ≡ map remembered (talks_behind given w event)
+      → dropped outcome (noted_if note told) ≡ map remembered (next given w event).talks
+  told_behind None has planned plan note told is adds = ap (noted_if note) is ∙ adds ∙ stopped (is_one (is_stop event) has)
+  told_behind (Some outcome) has planned plan note told is adds =
+      let closed = outcome.interactions.node.closed in
+      ap (λ (said : List ToldTalk). map (told_without_ended closed) said) (ap (noted_if note) is ∙ adds)
+      ∙ drops_told closed (talks_behind given w event)
+      ∙ ap (map remembered) (sym (lets_go given w event outcome planned plan.brings))

@@ -1,2 +1,4 @@
+pub mod Courses
+pub mod Journal
 pub mod Plays
 pub mod Remembers

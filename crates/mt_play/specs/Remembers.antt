@@ -1,20 +1,27 @@
--- For which written whole a node stands with all that is shown of its sessions, and what a step makes of both.
-use Rattle.std.specs.Prelude.{◌≡◌, List, map}
+-- For which written run on its way a node stands with all that is shown of its sessions, and what a line makes of both.
+use Rattle.std.specs.Prelude.{◌≡◌, List, Option, Some, None, map}
+use Rattle.mt_model.specs.declared.texts.config.SessionRow.{SessionRow}
 use Rattle.mt_model.specs.declared.texts.recording.Event.{Event}
 use Rattle.mt_model.specs.declared.texts.recording.Sent.{Sent}
 use Rattle.mt_machine.specs.Environment.{Environment}
-use Rattle.mt_runs.specs.Lines.{next, sent}
-use Rattle.mt_runs.specs.Whole.{Whole}
-use Rattle.mt_marks.specs.Remembered.{remembered}
+use Rattle.mt_runs.specs.Course.{Going, stepped}
+use Rattle.mt_runs.specs.Messages.{sent_on_way}
+use Rattle.mt_marks.specs.Remembered.{ToldTalk, remembered, told_without_ended}
+use Rattle.mt_whole.specs.declared.outcome.WholeOutcome.{WholeOutcome}
 use Rattle.mt_play.specs.Plays.{IsPlaying}
 use Rattle.mt_play.specs.declared.remembering.Remembering.{Remembering}
 
--- The node stands for this whole, this is given to it, and what is remembered is all that is shown of its sessions.
-pub record IsRemembering (remembering : Remembering) (given : Environment) (w : Whole) : Type 0 where
-  pub playing : IsPlaying remembering.playing given w
-  pub told : remembering.told ≡ map remembered w.talks
+-- The node stands for this run, and what is remembered is all that is shown of its sessions.
+pub record IsRemembering (remembering : Remembering) (given : Environment) (sessions : List SessionRow) (g : Going) : Type 0 where
+  pub playing : IsPlaying remembering.playing given sessions g
+  pub told : remembering.told ≡ map remembered g.whole.talks
 
--- This is what an event sends, and the node stands for the whole behind it, with all that is shown.
-pub record RemembersTo (given : Environment) (w : Whole) (event : Event) (new : Remembering) (told : List Sent) : Type 0 where
-  pub sent : told ≡ sent given w event
-  pub stands : IsRemembering new given (next given w event)
+-- This is what a line sends, and the node stands for the run behind it, with all that is shown.
+pub record RemembersTo (given : Environment) (sessions : List SessionRow) (g : Going) (event : Event) (new : Remembering) (told : List Sent) : Type 0 where
+  pub sent : told ≡ sent_on_way given g event
+  pub stands : IsRemembering new given sessions (stepped given sessions g event)
+
+-- what is remembered where the sessions that end with an outcome have dropped their exchanges; none end where the line stops the disk
+abbrev pub dropped : Option WholeOutcome → List ToldTalk → List ToldTalk
+dropped None talks = talks
+dropped (Some outcome) talks = map (told_without_ended outcome.interactions.node.closed) talks

@@ -1,13 +1,19 @@
-//! A node that plays the lines of a recording, one after the other, and what a looker-on may ask of it.
+//! A node on its journal that plays the lines of a recording, one after the other, through every stop of its disk, and what a
+//! looker-on may ask of it.
 //!
-//! - `playing`: the node with the verdicts by which it plays, how it starts, and a step;
+//! - `journal`: what goes to the journal, and a commit in which the disk stops;
+//! - `course`: what becomes of a line;
+//! - `playing`: the node with the verdicts by which it plays, how it starts, a step, and how it is reopened;
 //! - `looking`: what a looker-on may ask of it;
 //! - `remembering`: such a node, and all that is shown of its sessions.
 #![tactic(auto)]
 
+mod course;
+mod journal;
 mod looking;
 mod playing;
 mod remembering;
 
-pub use playing::Playing;
+pub use course::{ComingStop, Course};
+pub use playing::{Planned, Playing};
 pub use remembering::Remembering;

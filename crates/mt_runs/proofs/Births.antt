@@ -67,12 +67,12 @@ use Rattle.mt_machine.specs.State.{is_member}
 use Rattle.mt_machine.specs.Step.{asked_steps, asker, at_time, is_late, is_untimely, rows_of_nobody, steps_of, steps_to, with_events}
 use Rattle.mt_invoke.specs.Checking.{checked, has_form}
 use Rattle.mt_runs.specs.Expiries.{action_at}
+use Rattle.mt_runs.specs.Laws.{NobodyIsBornInStops, WholeReopeningsTakeTheAdded}
 use Rattle.mt_runs.specs.LineLaws as laws
 use Rattle.mt_runs.specs.Lines.{next}
 use Rattle.mt_runs.specs.Marks.{is_in}
 use Rattle.mt_runs.specs.Reopening.{reopened}
 use Rattle.mt_runs.specs.Whole.{Whole}
-use Rattle.mt_runs.specs.stops.Laws.{NobodyIsBornInStops, WholeReopeningsTakeTheAdded}
 use Rattle.mt_runs.proofs.GivingBack.{given_back_still}
 use Rattle.mt_runs.proofs.Ids.{or_parts}
 

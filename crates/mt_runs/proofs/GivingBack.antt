@@ -26,8 +26,8 @@ use Rattle.mt_machine.specs.Step.{after_action, at_time, rows_of_nobody}
 use Rattle.mt_regained.specs.Reopening as nodes
 use Rattle.mt_regained.specs.Reopening.{fabrics_given_back, own_sessions, with_given_back}
 use Rattle.mt_runs.specs.Isolation.{talks_among}
+use Rattle.mt_runs.specs.Laws.{TicksGiveBackOnce}
 use Rattle.mt_runs.specs.Whole.{begun_in}
-use Rattle.mt_runs.specs.stops.Laws.{TicksGiveBackOnce}
 use Rattle.mt_subs.specs.Subscriptions.{next_id, none}
 
 contradiction : {A : Type 0} → false ≡ true → A

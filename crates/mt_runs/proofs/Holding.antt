@@ -5,12 +5,10 @@ use Rattle.mt_fabrics.specs.Table.{has_index, is_used}
 use Rattle.mt_model.specs.declared.node.state.NodeSession.{NodeSession}
 use Rattle.mt_model.specs.declared.node.state.NodeState.{NodeState}
 use Rattle.mt_model.specs.declared.tables.fabric.Fabric.{Fabric}
-use Rattle.mt_model.specs.declared.texts.recording.Event.{Event}
 use Rattle.mt_model.specs.declared.texts.recording.Event.TheVariants as events
-use Rattle.mt_machine.specs.Environment.{Environment}
 use Rattle.mt_machine.specs.Step.{closed_between, is_live}
 use Rattle.mt_runs.specs.Isolation.{own_part}
-use Rattle.mt_runs.specs.Lines.{is_built, next}
+use Rattle.mt_runs.specs.Laws.{StopsLeaveAll}
 use Rattle.mt_runs.specs.Whole.{SessionTalk, Whole, let_go, without_ended}
 use Rattle.mt_runs.specs.Marks.{is_in}
 use Rattle.mt_runs.specs.Replay.{held, if_there}
@@ -55,10 +53,10 @@ none_ended (t ∷ talks) = ap (λ (rest : List SessionTalk). t ∷ rest) (none_e
 none_let_go : (s : NodeState) (talks : List SessionTalk) → map (let_go s s) talks ≡ talks
 none_let_go s talks = ap (λ (closed : List ℕ). map (without_ended closed) talks) (none_closed s.sessions) ∙ none_ended talks
 
-pub stop_leaves : (given : Environment) (w : Whole) (e : Event) → is_built e ≡ false → next given w e ≡ w
-stop_leaves given w (events.Ask ms fabric node cats opcode payload) stops = absurd (contradiction stops)
-stop_leaves given w (events.Datagram ms from bytes) stops = absurd (contradiction stops)
-stop_leaves given w (events.Tick ms) stops = absurd (contradiction stops)
-stop_leaves given w (events.Report ms fabric subscription) stops = absurd (contradiction stops)
-stop_leaves given w (events.Resend ms session) stops = absurd (contradiction stops)
+pub stop_leaves : StopsLeaveAll
+stop_leaves given w (events.Ask ms fabric node cats opcode payload) stops = absurd (contradiction (sym stops))
+stop_leaves given w (events.Datagram ms from bytes) stops = absurd (contradiction (sym stops))
+stop_leaves given w (events.Tick ms) stops = absurd (contradiction (sym stops))
+stop_leaves given w (events.Report ms fabric subscription) stops = absurd (contradiction (sym stops))
+stop_leaves given w (events.Resend ms session) stops = absurd (contradiction (sym stops))
 stop_leaves given w (events.Stop calls fate) stops = λ i. record { state = w.state; ledger = w.ledger; talks = none_let_go w.state.node w.talks i }

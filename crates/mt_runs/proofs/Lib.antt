@@ -2,6 +2,7 @@ pub mod Absent
 pub mod Awaited
 pub mod Births
 pub mod Calls
+pub mod Ending
 pub mod GivingBack
 pub mod Holding
 pub mod Ids
@@ -12,14 +13,13 @@ pub mod Naming
 pub mod Reopenings
 pub mod Replays
 pub mod Replies
+pub mod Restarting
 pub mod Retelling
 pub mod Sending
 pub mod Sessions
 pub mod Standing
 pub mod Steps
-pub mod StopMarks
-pub mod StopRuns
-pub mod StopSteps
+pub mod Stopping
 pub mod Subscribers
 pub mod Talks
 pub mod Valid

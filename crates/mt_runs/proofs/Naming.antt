@@ -1,6 +1,6 @@
 -- What is sent to a plain actor names the fabric for which its line acts.
-use Rattle.std.proofs.Common.{◌≡◌, ℕ, ◌==◌, Bool, true, false, List, [], ◌∷◌, ◌++◌, Option, Some, None, Result, inl, inr, arith, refl, ap, ◌∙◌, map, unwrap_or, if◌then◌else◌}
-use Rattle.std.proofs.lemmas.Bool.{and_from, cases_Bool}
+use Rattle.std.proofs.Common.{◌≡◌, ℕ, ◌==◌, Bool, true, false, List, [], ◌∷◌, Option, Some, None, Result, arith, refl, ◌∙◌, map, unwrap_or, if◌then◌else◌}
+use Rattle.std.proofs.lemmas.Bool.{and_from}
 use Rattle.std.proofs.lemmas.List.Folds.{list_all-append, list_all-map}
 use Rattle.std.specs.List.{list_all}
 use Rattle.std.specs.Option.{option_map}
@@ -11,6 +11,7 @@ use Rattle.mt_model.specs.declared.messages.message.Payload.{Payload}
 use Rattle.mt_model.specs.declared.messages.message.Reply.{Reply}
 use Rattle.mt_model.specs.declared.messages.message.Request.{Request}
 use Rattle.mt_model.specs.declared.tables.access.Actor.{Actor}
+use Rattle.mt_model.specs.declared.texts.config.SessionRow.{SessionRow}
 use Rattle.mt_model.specs.declared.texts.recording.Event.{Event}
 use Rattle.mt_model.specs.declared.texts.recording.Event.TheVariants as events
 use Rattle.mt_model.specs.declared.texts.recording.Sent.{Sent}
@@ -21,11 +22,12 @@ use Rattle.mt_machine.specs.State.{is_member}
 use Rattle.mt_machine.specs.Step.{asker, case_actor, pase_actor}
 use Rattle.mt_ledger.specs.Asking.{full_line_reply, line_response}
 use Rattle.mt_ledger.specs.Reporting.{Due, due_now, due_report}
+use Rattle.mt_runs.specs.Course.{Course, Going, course, goes, stepped, stops}
 use Rattle.mt_runs.specs.Datagrams.{all_sent, datagram_of, heard, if_any, its_answer, sent_at, session_named}
-use Rattle.mt_runs.specs.Lines.{fabric_of, is_built, next, reported_over, resent_named, sent, sent_due, sent_line, sent_named, sent_to}
+use Rattle.mt_runs.specs.Lines.{fabric_of, reported_over, resent_named, sent, sent_due, sent_line, sent_named, sent_to}
 use Rattle.mt_runs.specs.Whole.{SessionTalk, Whole, is_live, talk_of}
 use Rattle.mt_talk.specs.Talks.{report_in, resent_in, sent_by}
-use Rattle.mt_runs.specs.Messages.{message_to, messages, messages_at, names, names_its_fabric}
+use Rattle.mt_runs.specs.Messages.{message_to, messages, messages_at, messages_in, messages_on_way, names, names_its_fabric}
 
 same_number : (n : ℕ) → (n == n) ≡ true
 same_number n = grind arith
@@ -116,14 +118,16 @@ module _ (given : Environment) (w : Whole) where
   pub line_names : (e : Event) → list_all names_its_fabric (messages_at given w e) ≡ true
   line_names e = list_all-map names_its_fabric (message_to (fabric_of w.state.node e)) (sent given w e) ∙ sent_fits e
 
-pub run_names : (given : Environment) (es : List Event) (w : Whole) → list_all names_its_fabric (messages given w es) ≡ true
-run_names given [] w = refl
-run_names given (e ∷ es) w =
-    let now = next given w e in
-    elim (cases_Bool (is_built e)) [
-      | inl built ↦
-          ap (λ (b : Bool). list_all names_its_fabric (if b then messages_at given w e ++ messages given now es else [])) built
-          ∙ list_all-append names_its_fabric (messages_at given w e) (messages given now es)
-          ∙ and_from (list_all names_its_fabric (messages_at given w e)) (list_all names_its_fabric (messages given now es)) (line_names given w e) (run_names given es now)
-      | inr stops ↦ ap (λ (b : Bool). list_all names_its_fabric (if b then messages_at given w e ++ messages given now es else [])) stops
-    ]
+-- a line on its way, and a run
+
+course_names : (given : Environment) (w : Whole) (e : Event) (c : Course) → list_all names_its_fabric (messages_in given w e c) ≡ true
+course_names given w e (goes stop) = line_names given w e
+course_names given w e (stops line survived) = refl
+
+pub run_names : (given : Environment) (sessions : List SessionRow) (es : List Event) (g : Going) → list_all names_its_fabric (messages given sessions g es) ≡ true
+run_names given sessions [] g = refl
+run_names given sessions (e ∷ es) g =
+    let here = messages_on_way given g e in
+    let later = messages given sessions (stepped given sessions g e) es in
+    list_all-append names_its_fabric here later
+    ∙ and_from (list_all names_its_fabric here) (list_all names_its_fabric later) (course_names given g.whole e (course given g e)) (run_names given sessions es (stepped given sessions g e))

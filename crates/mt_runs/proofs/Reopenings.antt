@@ -11,9 +11,9 @@ use Rattle.mt_machine.specs.Isolation.{own}
 use Rattle.mt_regained.specs.Reopening as nodes
 use Rattle.mt_regained.specs.Reopening.{reopened_node}
 use Rattle.mt_runs.specs.Isolation.{talks_among}
+use Rattle.mt_runs.specs.Laws.{ReopeningsAreRollbacks, WholeReopensValid, WholeReopeningsSeeTheOwn, WholeReopeningsTakeTheAdded}
 use Rattle.mt_runs.specs.Reopening.{ceiling_of, reopened}
 use Rattle.mt_runs.specs.Whole.{begun_in, is_of_boot}
-use Rattle.mt_runs.specs.stops.Laws.{ReopeningsAreRollbacks, WholeReopensValid, WholeReopeningsSeeTheOwn, WholeReopeningsTakeTheAdded}
 use Rattle.mt_runs.proofs.Standing.{begun_names, begun_quiet}
 use Rattle.mt_runs.proofs.Valid.{ids_differ, rows_differ}
 

@@ -1,5 +1,5 @@
 -- A line leaves talks of which what is shown tells the rest.
-use Rattle.std.proofs.Common.{◌≡◌, ◌≢◌, ℕ, ◌==◌, Bool, true, false, List, [], ◌∷◌, Option, Some, None, Err, refl, sym, subst, inl, inr, map, if◌then◌else◌}
+use Rattle.std.proofs.Common.{◌≡◌, ◌≢◌, ℕ, ◌+◌, ◌==◌, Bool, true, false, List, [], ◌∷◌, Option, Some, None, Err, refl, sym, subst, inl, inr, map, if◌then◌else◌}
 use Rattle.std.proofs.lemmas.Bool.{cases_Bool}
 use Rattle.std.specs.List.{AllByRecursion, find, list_any}
 use Rattle.mt_im.specs.Reading.{request_in}
@@ -20,9 +20,10 @@ use Rattle.mt_machine.specs.Environment.{Environment}
 use Rattle.mt_machine.specs.Step.{closed_between}
 use Rattle.mt_ledger.specs.Ledger.{Ledger}
 use Rattle.mt_ledger.specs.Reporting.{Due, due_now, due_report}
+use Rattle.mt_runs.specs.Course.{Course, behind_course, course, goes, stepped, stops, surviving}
 use Rattle.mt_runs.specs.Datagrams.{answer_to, behind_answer, heard, its_answer, payloads_confirmed, payloads_over, resent_talk, said_to, session_named, talked}
-use Rattle.mt_runs.specs.Lines.{is_built, next, reported_talk, state_behind, talks_behind, talks_due, talks_told, with_next}
-use Rattle.mt_runs.specs.Retold.{AreRetold, IsRetoldSession, IsToldAnswer, IsToldLine, IsToldOver, IsToldReport, LinesKeepRetold, RunsKeepRetold, SessionsBeginRetold}
+use Rattle.mt_runs.specs.Lines.{reported_talk, state_behind, talks_behind, talks_due, talks_told, with_next}
+use Rattle.mt_runs.specs.Retold.{AreRetold, IsRetoldSession, IsToldAnswer, IsToldLine, IsToldOnWay, IsToldOver, IsToldReport, LinesKeepRetold, RunsKeepRetold, SessionsBeginRetold}
 use Rattle.mt_runs.specs.Whole.{SessionTalk, Whole, begun_in, fabric_over, is_live, is_of_boot, is_talk_of, talk_of, with_talk, without_ended}
 use Rattle.mt_runs.proofs.Talks.{found_id}
 
@@ -161,9 +162,12 @@ module _ (hears : HeardTalksAreRetold) (reports : ReportedTalksAreRetold) (resen
   pub lines : LinesKeepRetold
   lines given w e told all = gone_told drops (closed_between w.state.node.sessions (state_behind given w e).node.sessions) (talks_behind given w e) (behind_told given w e told all)
 
-  pub runs : RunsKeepRetold
-  runs given w [] told all = all
-  runs given w (e ∷ es) told all = elim (cases_Bool (is_built e)) [
-    | inl built ↦ rw built (runs given (next given w e) es (told built).1 (lines given w e (told built).0 all))
-    | inr not_built ↦ rw not_built all
-  ]
+  -- a line on its way, behind which a boot may begin
+
+  course_told : BegunTalkIsRetold → (given : Environment) (sessions : List SessionRow) (w : Whole) (e : Event) (c : Course) → IsToldOnWay given w e c → AreRetold w → AreRetold (behind_course given sessions w e c).whole
+  course_told begun given sessions w e (goes stop) told all = lines given w e told all
+  course_told begun given sessions w e (stops line survived) told all = begun_told begun ((surviving given w e survived).state.node.boot + 1) sessions
+
+  pub runs : BegunTalkIsRetold → RunsKeepRetold
+  runs begun given sessions g [] told all = all
+  runs begun given sessions g (e ∷ es) told all = runs begun given sessions (stepped given sessions g e) es told.1 (course_told begun given sessions g.whole e (course given g e) told.0 all)

@@ -1,3 +1,4 @@
+pub mod Course
 pub mod Datagrams
 pub mod Expiries
 pub mod Isolation
@@ -9,6 +10,6 @@ pub mod Messages
 pub mod Reopening
 pub mod Replay
 pub mod Replies
+pub mod Restarts
 pub mod Retold
 pub mod Whole
-pub mod stops

@@ -1,5 +1,5 @@
 -- Every line of a recording: what it sends, and the whole behind it.
-use Rattle.std.specs.Prelude.{ℕ, Bool, true, false, List, [], ◌∷◌, ◌++◌, Option, Some, None, Result, map, unwrap_or, if◌then◌else◌}
+use Rattle.std.specs.Prelude.{ℕ, Bool, true, false, List, [], ◌++◌, Option, Some, None, Result, map, unwrap_or}
 use Rattle.std.specs.Option.{option_and_then}
 use Rattle.mt_im.specs.Reading.{request_in}
 use Rattle.mt_im.specs.declared.fault.ImFault.{ImFault}
@@ -148,13 +148,7 @@ next given w event = record {
   talks = map (let_go w.state.node (state_behind given w event).node) (talks_behind given w event);
 }
 
--- Which lines are built: all but stops.
-
-abbrev pub is_built : Event → Bool
-is_built (events.Stop calls fate) = false
-is_built event = true
-
--- all that a list of events sends, up to the first that is not built
-abbrev pub run : Environment → Whole → List Event → List Sent
-run given w [] = []
-run given w (event ∷ events) = if is_built event then sent given w event ++ run given (next given w event) events else []
+-- Whether a line stops the disk. Such a line sends nothing and leaves the whole as it is; what becomes of the node the course of the recording says.
+abbrev pub is_stop : Event → Bool
+is_stop (events.Stop calls fate) = true
+is_stop event = false

@@ -1,5 +1,5 @@
 -- What is shown of sessions tells the rest of what is said over them: what is open, owed and awaited, and the ids of the node's next exchanges.
-use Rattle.std.specs.Prelude.{◌≡◌, ◌≢◌, ℕ, true, List, [], ◌∷◌, Option, Some, None, Result, Err}
+use Rattle.std.specs.Prelude.{◌≢◌, ℕ, List, [], ◌∷◌, Option, Some, None, Result, Err}
 use Rattle.std.specs.List.{AllByRecursion}
 use Rattle.mt_im.specs.declared.fault.ImFault.{ImFault}
 use Rattle.mt_im_out.specs.Chunks.{chunks_of}
@@ -20,9 +20,10 @@ use Rattle.mt_talk.specs.Talks.{Talk, answer_in}
 use Rattle.mt_machine.specs.Environment.{Environment}
 use Rattle.mt_ledger.specs.Ledger.{Ledger}
 use Rattle.mt_ledger.specs.Reporting.{Due, due_now, due_report}
+use Rattle.mt_runs.specs.Course.{Course, Going, course, goes, stepped, stops}
 use Rattle.mt_runs.specs.Datagrams.{Answer, heard, its_answer, payloads_confirmed, payloads_over, reply_over, session_named}
-use Rattle.mt_runs.specs.Lines.{is_built, next}
-use Rattle.mt_runs.specs.Messages.{whole_behind}
+use Rattle.mt_runs.specs.Lines.{next}
+use Rattle.mt_runs.specs.Messages.{behind}
 use Rattle.mt_runs.specs.Whole.{SessionTalk, Whole, talk_of, whole_with}
 
 abbrev pub IsRetoldSession : SessionTalk → Type 0
@@ -52,10 +53,14 @@ IsToldLine given w (events.Datagram ms from bytes) = IsToldOver given w.state.no
 IsToldLine given w (events.Report ms fabric id) = IsToldReport w.state.node w.ledger fabric id (due_now w.state.node w.ledger ms fabric id)
 IsToldLine given w event = Unit {0}
 
--- and the runs of such lines, up to the first that is not built
-abbrev pub IsToldRun : Environment → Whole → List Event → Type 0
-IsToldRun given w [] = Unit {0}
-IsToldRun given w (event ∷ events) = is_built event ≡ true → IsToldLine given w event × IsToldRun given (next given w event) events
+-- and the runs of such lines; a line in which the disk stops says nothing, and behind it nothing has been said
+abbrev pub IsToldOnWay : Environment → Whole → Event → Course → Type 0
+IsToldOnWay given w event (goes stop) = IsToldLine given w event
+IsToldOnWay given w event (stops line survived) = Unit {0}
+
+abbrev pub IsToldRun : Environment → List SessionRow → Going → List Event → Type 0
+IsToldRun given sessions g [] = Unit {0}
+IsToldRun given sessions g (event ∷ events) = IsToldOnWay given g.whole event (course given g event) × IsToldRun given sessions (stepped given sessions g event) events
 
 -- It holds of what a boot begins with, and such lines and runs leave it so.
 
@@ -66,7 +71,7 @@ abbrev pub LinesKeepRetold : Type 0
 LinesKeepRetold = (given : Environment) (w : Whole) (e : Event) → IsToldLine given w e → AreRetold w → AreRetold (next given w e)
 
 abbrev pub RunsKeepRetold : Type 0
-RunsKeepRetold = (given : Environment) (w : Whole) (events : List Event) → IsToldRun given w events → AreRetold w → AreRetold (whole_behind given w events)
+RunsKeepRetold = (given : Environment) (sessions : List SessionRow) (g : Going) (events : List Event) → IsToldRun given sessions g events → AreRetold g.whole → AreRetold (behind given sessions g events).whole
 
 -- Of the payloads of what is answered each but the last awaits its confirmation: where a report says what is allowed and is no longer than what
 -- can be read, whatever deadline it carries; and where a confirmation is answered.

@@ -1,5 +1,5 @@
 -- A recording that is played event by event.
-use Rattle.std.proofs.Common.{◌≡◌, ℕ, ◌+◌, ◌<◌, ◌≤◌, true, false, cond, List, [], ◌∷◌, ◌++◌, length, drop, get_or, Option, Some, None, refl, sym, ap, subst, ◌∙◌, append_assoc}
+use Rattle.std.proofs.Common.{◌≡◌, ℕ, ◌+◌, ◌<◌, ◌≤◌, List, [], ◌∷◌, ◌++◌, length, drop, get_or, Option, refl, sym, ap, subst, ◌∙◌, append_assoc}
 use Rattle.std.proofs.lemmas.List.{append-nil, drop_all, drop_more}
 use Rattle.mt_outside.specs.Stream.{Took, TookLess}
 use Rattle.mt_outside.specs.Laws.{StreamLaws}
@@ -7,16 +7,13 @@ use Rattle.mt_model.specs.declared.texts.recording.Event.{Event}
 use Rattle.mt_model.specs.declared.texts.recording.Sent.{Sent}
 use Rattle.mt_files.specs.Lines.{ended}
 use Rattle.mt_files.specs.Output.{output_text, sent_line}
-use Rattle.mt_runs.specs.Lines as lines
-use Rattle.mt_runs.specs.Lines.{run}
-use Rattle.mt_top.specs.Begun.{Begun, Plays, behind, is_built, sent_by}
+use Rattle.mt_runs.specs.Messages.{run}
+use Rattle.mt_top.specs.Begun.{Begun, Plays, behind, sent_by}
 use Rattle.mt_play.specs.declared.playing.Playing.{Playing}
-use Rattle.mt_endings.specs.declared.fault.Fault.TheVariants.{Unbuilt}
-use Rattle.mt_top.specs.Asked.{unbuilt_from}
 
--- what is sent for events, up to the first that is not built
+-- what is sent for events
 abbrev pub sent_of : Begun → List Event → List Sent
-sent_of s events = run s.given s.whole events
+sent_of s events = run s.given s.sessions s.going events
 
 pub output-append : (xs ys : List Sent) → output_text (xs ++ ys) ≡ output_text xs ++ output_text ys
 output-append [] ys = refl
@@ -26,42 +23,16 @@ output-append (x ∷ xs) ys = ap (λ (w : List ℕ). ended (sent_line x) ++ w) (
 pub output-one : (xs : List Sent) (x : Sent) → output_text (xs ++ x ∷ []) ≡ output_text xs ++ ended (sent_line x)
 output-one xs x = output-append xs (x ∷ []) ∙ ap (λ (w : List ℕ). output_text xs ++ w) (append-nil (ended (sent_line x)))
 
--- an event that is built
-sent_built : (s : Begun) (event : Event) (events : List Event) → is_built s event ≡ true → sent_of s (event ∷ events) ≡ sent_by s event ++ sent_of (behind s event) events
-sent_built s event events built = ap (λ t. cond t (sent_by s event ++ sent_of (behind s event) events) []) built
-
-sent_unbuilt : (s : Begun) (event : Event) (events : List Event) → is_built s event ≡ false → sent_of s (event ∷ events) ≡ []
-sent_unbuilt s event events not = ap (λ t. cond t (sent_by s event ++ sent_of (behind s event) events) []) not
-
-unbuilt_built : (line : ℕ) (event : Event) (events : List Event) → lines.is_built event ≡ true → unbuilt_from line (event ∷ events) ≡ unbuilt_from (line + 1) events
-unbuilt_built line event events built = ap (λ t. cond t (unbuilt_from (line + 1) events) (Some (Unbuilt line))) built
-
-unbuilt_here : (line : ℕ) (event : Event) (events : List Event) → lines.is_built event ≡ false → unbuilt_from line (event ∷ events) ≡ Some (Unbuilt line)
-unbuilt_here line event events not = ap (λ t. cond t (unbuilt_from (line + 1) events) (Some (Unbuilt line))) not
-
 -- One more event, at this place of all.
-pub drop_event : (all : List Event) (i : ℕ) (event : Event) → i < length all → event ≡ get_or all i event → drop i all ≡ event ∷ drop (i + 1) all
+drop_event : (all : List Event) (i : ℕ) (event : Event) → i < length all → event ≡ get_or all i event → drop i all ≡ event ∷ drop (i + 1) all
 drop_event all i event lt is = drop_more all i event lt ∙ ap (λ e. e ∷ drop (i + 1) all) (sym is)
 
-pub sent-step : (s : Begun) (all : List Event) (i : ℕ) (event : Event) → i < length all → event ≡ get_or all i event → is_built s event ≡ true → sent_of s (drop i all) ≡ sent_by s event ++ sent_of (behind s event) (drop (i + 1) all)
-sent-step s all i event lt is built = ap (sent_of s) (drop_event all i event lt is) ∙ sent_built s event (drop (i + 1) all) built
-
-pub unbuilt-step : (line : ℕ) (all : List Event) (i : ℕ) (event : Event) → i < length all → event ≡ get_or all i event → lines.is_built event ≡ true → unbuilt_from line (drop i all) ≡ unbuilt_from (line + 1) (drop (i + 1) all)
-unbuilt-step line all i event lt is built = ap (unbuilt_from line) (drop_event all i event lt is) ∙ unbuilt_built line event (drop (i + 1) all) built
-
--- the event at this place is not built
-pub sent-stop : (s : Begun) (all : List Event) (i : ℕ) (event : Event) → i < length all → event ≡ get_or all i event → is_built s event ≡ false → sent_of s (drop i all) ≡ []
-sent-stop s all i event lt is not = ap (sent_of s) (drop_event all i event lt is) ∙ sent_unbuilt s event (drop (i + 1) all) not
-
-pub unbuilt-stop : (line : ℕ) (all : List Event) (i : ℕ) (event : Event) → i < length all → event ≡ get_or all i event → lines.is_built event ≡ false → unbuilt_from line (drop i all) ≡ Some (Unbuilt line)
-unbuilt-stop line all i event lt is not = ap (unbuilt_from line) (drop_event all i event lt is) ∙ unbuilt_here line event (drop (i + 1) all) not
+pub sent-step : (s : Begun) (all : List Event) (i : ℕ) (event : Event) → i < length all → event ≡ get_or all i event → sent_of s (drop i all) ≡ sent_by s event ++ sent_of (behind s event) (drop (i + 1) all)
+sent-step s all i event lt is = ap (sent_of s) (drop_event all i event lt is)
 
 -- no more events
 pub sent-end : (s : Begun) (all : List Event) (i : ℕ) → length all ≤ i → sent_of s (drop i all) ≡ []
 sent-end s all i le = ap (sent_of s) (drop_all i all le)
-
-pub unbuilt-end : (line : ℕ) (all : List Event) (i : ℕ) → length all ≤ i → unbuilt_from line (drop i all) ≡ None
-unbuilt-end line all i le = ap (unbuilt_from line) (drop_all i all le)
 
 -- One more message at this place of all.
 pub text-step : (all : List Sent) (i : ℕ) (x : Sent) (text whole : List ℕ) → i < length all → x ≡ get_or all i x → text ++ output_text (drop i all) ≡ whole → (text ++ ended (sent_line x)) ++ output_text (drop (i + 1) all) ≡ whole
@@ -94,10 +65,9 @@ took-less laws a b c told more rest all text took is less whole =
     subst (TookLess a c) spelled (laws.less_of_more a c (output_text told ++ text) (output_text rest) (laws.then_less a b c (output_text told) text took less))
 
 -- What was told so far of all events, and for which node the code stands before the rest.
-pub record SoFar (begun : Begun) (player : Playing) (all rest : List Event) (line : ℕ) (before now : Option (List ℕ)) : Type 0 where
+pub record SoFar (begun : Begun) (player : Playing) (all rest : List Event) (before now : Option (List ℕ)) : Type 0 where
   pub told : List Sent
   pub at : Begun
   pub stands : Plays player at
   pub took : Took before now (output_text told)
   pub sent : sent_of begun all ≡ told ++ sent_of at rest
-  pub unbuilt : unbuilt_from 2 all ≡ unbuilt_from line rest

@@ -1,29 +1,18 @@
 -- Events made from a number, one after the other.
-use Rattle.std.proofs.Common.{◌≡◌, ◌≤◌, ℕ, ◌+◌, Bool, true, false, cond, leb-true, length, List, [], ◌∷◌, ◌++◌, refl, sym, ap, append_assoc, ◌∙◌}
+use Rattle.std.proofs.Common.{◌≡◌, ◌≤◌, ℕ, ◌+◌, true, leb-true, length, List, ◌∷◌, ◌++◌, sym, ap, append_assoc, ◌∙◌}
 use Rattle.std.proofs.lemmas.Bool.{and_parts}
 use Rattle.std.proofs.lemmas.List.{append-nil}
 use Rattle.mt_model.specs.declared.tables.fabric.Fabric.{Fabric}
 use Rattle.mt_model.specs.texts.Config.{are_fabrics}
 use Rattle.mt_model.specs.declared.texts.recording.Event.{Event}
-use Rattle.mt_model.specs.declared.texts.recording.Event.TheVariants as events
 use Rattle.mt_model.specs.declared.texts.recording.Sent.{Sent}
-use Rattle.mt_runs.specs.Lines as lines
-use Rattle.mt_soak.specs.Generated.{State, event_of, events_from, is_played}
+use Rattle.mt_soak.specs.Generated.{State, event_of, events_from}
 use Rattle.mt_soak.specs.Generated as generated
 use Rattle.mt_soak.specs.Summary.{IsTallyOf}
 use Rattle.mt_soak.specs.declared.tally.Tally.{Tally}
-use Rattle.mt_top.specs.Begun.{Begun, behind, Plays, sent_by, TellsIf}
+use Rattle.mt_top.specs.Begun.{Begun, behind, Plays, sent_by, Tells}
 use Rattle.mt_play.specs.declared.playing.Playing.{Playing}
 use Rattle.mt_top.proofs.Plays.{sent_of}
-
--- what is played is built
-pub played_is_built : (event : Event) → is_played event ≡ true → lines.is_built event ≡ true
-played_is_built (events.Ask ms fabric node cats opcode payload) played = refl
-played_is_built (events.Datagram ms from bytes) played = refl
-played_is_built (events.Tick ms) played = refl
-played_is_built (events.Report ms fabric id) played = refl
-played_is_built (events.Resend ms session) played = refl
-played_is_built (events.Stop calls fate) played = played
 
 -- What was told so far of all events, for which node the code stands, and what is left: so many events from a state on.
 pub record Soaking (begun : Begun) (all : List Event) (player : Playing) (tally : Tally) (state : State) (left : ℕ) : Type 0 where
@@ -33,26 +22,15 @@ pub record Soaking (begun : Begun) (all : List Event) (player : Playing) (tally 
   pub tallied : IsTallyOf tally told
   pub sent : sent_of begun all ≡ told ++ sent_of at (events_from state left)
 
--- one event more
-pub soak_step : (s : Begun) (state : State) (left : ℕ) → lines.is_built (event_of state) ≡ true → events_from state (left + 1) ≡ event_of state ∷ events_from (generated.behind state) left
-    → sent_of s (events_from state (left + 1)) ≡ sent_by s (event_of state) ++ sent_of (behind s (event_of state)) (events_from (generated.behind state) left)
-soak_step s state left built first =
-    ap (sent_of s) first ∙ ap (λ t. if_built t) built
-  where
-    if_built : Bool → List Sent
-    if_built t = cond t (sent_by s (event_of state) ++ sent_of (behind s (event_of state)) (events_from (generated.behind state) left)) []
-
 -- one event more was told
-pub soak_on : (begun : Begun) (all : List Event) (old new : Playing) (tally after : Tally) (state : State) (left : ℕ) (told : Bool) → is_played (event_of state) ≡ true
-    → events_from state (left + 1) ≡ event_of state ∷ events_from (generated.behind state) left
-    → (h : Soaking begun all old tally state (left + 1)) → TellsIf h.at h.told new after (event_of state) told → Soaking begun all new after (generated.behind state) left
-soak_on begun all old new tally after state left false played first h tells = absurd (let clash : true ≡ false = sym (played_is_built (event_of state) played) ∙ tells in cc)
-soak_on begun all old new tally after state left true played first h tells = record {
+pub soak_on : (begun : Begun) (all : List Event) (old new : Playing) (tally after : Tally) (state : State) (left : ℕ) → events_from state (left + 1) ≡ event_of state ∷ events_from (generated.behind state) left
+    → (h : Soaking begun all old tally state (left + 1)) → Tells h.at h.told new after (event_of state) → Soaking begun all new after (generated.behind state) left
+soak_on begun all old new tally after state left first h tells = record {
   told = h.told ++ sent_by h.at (event_of state);
   at = behind h.at (event_of state);
-  stands = tells.2;
-  tallied = tells.1;
-  sent = h.sent ∙ ap (λ (w : List Sent). h.told ++ w) (soak_step h.at state left (played_is_built (event_of state) played) first)
+  stands = tells.1;
+  tallied = tells.0;
+  sent = h.sent ∙ ap (λ (events : List Event). h.told ++ sent_of h.at events) first
       ∙ sym (append_assoc h.told (sent_by h.at (event_of state)) (sent_of (behind h.at (event_of state)) (events_from (generated.behind state) left)));
 }
 

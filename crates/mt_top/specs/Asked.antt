@@ -1,11 +1,10 @@
 -- What the words ask for comes to, by what the files hold.
-use Rattle.std.specs.Prelude.{◌≡◌, ℕ, ◌+◌, nat_le, Bool, true, false, List, [], ◌∷◌, Option, Some, None, if◌then◌else◌, length, map}
+use Rattle.std.specs.Prelude.{◌≡◌, ℕ, nat_le, Bool, true, false, List, [], Option, Some, None, if◌then◌else◌, length, map}
 use Rattle.std.specs.Option.{option_map}
 use Rattle.mt_files.specs.Output.{sent_line}
 use Rattle.mt_model.specs.declared.texts.recording.Event.{Event}
 use Rattle.mt_model.specs.texts.Contents.{Contents}
-use Rattle.mt_runs.specs.Lines as lines
-use Rattle.mt_runs.specs.Lines.{run}
+use Rattle.mt_runs.specs.Messages.{run}
 use Rattle.mt_soak.specs.Generated.{generated}
 use Rattle.mt_soak.specs.Summary.{summary_lines}
 use Rattle.mt_words.specs.Words.{asked}
@@ -14,24 +13,19 @@ use Rattle.mt_words.specs.declared.asked.Asked.TheVariants.{Compare, Replay, Set
 use Rattle.mt_marks.specs.differences.Difference.{Difference, difference}
 use Rattle.mt_compare.specs.Text.{comparison_lines}
 use Rattle.mt_settle.specs.Settled.{settled}
-use Rattle.mt_endings.specs.Endings.{Ending, Played, Recordings, in_hand_of, nothing_but, of_files, of_none, of_recording, of_recordings}
+use Rattle.mt_endings.specs.Endings.{Ending, Played, Recordings, in_hand_of, of_files, of_none, of_recording, of_recordings}
 use Rattle.mt_endings.specs.Moments.{Input, Moment}
 use Rattle.mt_endings.specs.OnDisk.{Asks, EndsInHand, of_files_alone, of_journal}
 use Rattle.mt_endings.specs.Run.{Ends}
 use Rattle.mt_endings.specs.declared.fault.Fault.{Fault}
-use Rattle.mt_endings.specs.declared.fault.Fault.TheVariants.{Differ, Unbuilt}
+use Rattle.mt_endings.specs.declared.fault.Fault.TheVariants.{Differ}
 use Rattle.mt_top.specs.Begun.{Begun, begun_with}
 
--- REPLAY: what the node sends over the events of a recording, up to the first that is not built.
+-- REPLAY: what the node sends over the events of a recording, through every stop of its disk.
 
--- the first line that is not built, where the first event stands in this line
-abbrev pub unbuilt_from : ℕ → List Event → Option Fault
-unbuilt_from line [] = None
-unbuilt_from line (event ∷ events) = if lines.is_built event then unbuilt_from (line + 1) events else Some (Unbuilt line)
-
--- a line for each message; the first event stands in line 2
+-- a line for each message
 abbrev pub played : Begun → List Event → Played
-played begun events = record { lines = map sent_line (run begun.given begun.whole events); fault = unbuilt_from 2 events }
+played begun events = record { lines = map sent_line (run begun.given begun.sessions begun.going events); fault = None }
 
 abbrev pub replayed : Contents → Recordings → Ending
 replayed contents = of_recording (played (begun_with contents))
@@ -39,7 +33,7 @@ replayed contents = of_recording (played (begun_with contents))
 -- SOAK: the summary of what the node sends over so many events made from a number.
 
 abbrev pub summary_of : Begun → ℕ → List Event → Played
-summary_of begun count events = record { lines = summary_lines count (run begun.given begun.whole events); fault = None }
+summary_of begun count events = record { lines = summary_lines count (run begun.given begun.sessions begun.going events); fault = None }
 
 abbrev pub summarized : ℕ → ℕ → Contents → Played
 summarized begin count contents = summary_of (begun_with contents) count (generated begin (length contents.fabrics) count)
@@ -47,8 +41,7 @@ summarized begin count contents = summary_of (begun_with contents) count (genera
 abbrev pub soaked : ℕ → ℕ → Contents → Recordings → Ending
 soaked begin count contents = of_none (summarized begin count contents)
 
--- COMPARE: where two recordings first differ by the marks of a fabric. Each line of both must be built, and the first recording comes before the
--- second.
+-- COMPARE: where two recordings first differ by the marks of a fabric. The first recording comes before the second.
 
 abbrev pub fault_of_difference : Option Difference → Option Fault
 fault_of_difference None = None
@@ -57,14 +50,8 @@ fault_of_difference (Some d) = Some Differ
 abbrev pub told_difference : Option Difference → Played
 told_difference found = record { lines = comparison_lines found; fault = fault_of_difference found }
 
--- what is told where each line is built, or the first that is not
-abbrev pub if_built : Option Fault → Option Fault → Played → Played
-if_built None None played = played
-if_built None (Some fault) played = nothing_but fault
-if_built (Some fault) other played = nothing_but fault
-
 abbrev pub compared_by : ℕ → Begun → List Event → List Event → Played
-compared_by fabric begun first second = if_built (unbuilt_from 2 first) (unbuilt_from 2 second) (told_difference (difference begun.given fabric begun.whole first second))
+compared_by fabric begun first second = told_difference (difference begun.given begun.sessions fabric begun.going first second)
 
 abbrev pub compared : ℕ → Contents → Recordings → Ending
 compared fabric contents = of_recordings (compared_by fabric (begun_with contents))

@@ -12,23 +12,23 @@ use Rattle.mt_marks.specs.differences.Marked.{marked}
 use Rattle.mt_compare.specs.Text.{comparison_lines}
 use Rattle.mt_endings.specs.Endings.{Ending, Recordings, of_files}
 use Rattle.mt_endings.specs.declared.fault.Fault.TheVariants.{Differ}
-use Rattle.mt_top.specs.Asked.{compared, unbuilt_from}
+use Rattle.mt_top.specs.Asked.{compared}
 use Rattle.mt_top.specs.Begun.{Begun, begun_with}
 
 -- Where the marks of the fabric are not equal: its first difference is told, in three lines.
 abbrev pub TellsFirst : ℕ → Begun → List Event → List Event → Ending → Type 0
 TellsFirst fabric begun first second ending =
-    (d : Difference) × IsFirst (marked begun.given fabric begun.whole first) (marked begun.given fabric begun.whole second) d
+    (d : Difference) × IsFirst (marked begun.given begun.sessions fabric begun.going first) (marked begun.given begun.sessions fabric begun.going second) d
     × (ending.lines ≡ comparison_lines (Some d)) × (ending.fault ≡ Some Differ)
 
 -- `alike` is all that is told exactly where the marks of the fabric are equal; else the first that differs is.
 pub record IsCompared (fabric : ℕ) (begun : Begun) (first second : List Event) (ending : Ending) : Type 0 where
-  pub alike : (ending.fault ≡ None) ↔ (marks begun.given fabric begun.whole first ≡ marks begun.given fabric begun.whole second)
+  pub alike : (ending.fault ≡ None) ↔ (marks begun.given begun.sessions fabric begun.going first ≡ marks begun.given begun.sessions fabric begun.going second)
   pub told : ending.fault ≡ None → ending.lines ≡ codes "alike" ∷ []
-  pub first_told : ¬ (marks begun.given fabric begun.whole first ≡ marks begun.given fabric begun.whole second) → TellsFirst fabric begun first second ending
+  pub first_told : ¬ (marks begun.given begun.sessions fabric begun.going first ≡ marks begun.given begun.sessions fabric begun.going second) → TellsFirst fabric begun first second ending
 
--- So it is with every configuration and every two recordings of which each line is built.
+-- So it is with every configuration and every two recordings.
 abbrev pub ComparisonsAreExact : Type 0
 ComparisonsAreExact = (fabric : ℕ) (config : Config) (bytes : List ℕ) (recordings : Recordings) (first second : List Event)
-    → IsConfiguration bytes config → recording_of recordings.first ≡ Ok first → recording_of recordings.second ≡ Ok second → unbuilt_from 2 first ≡ None → unbuilt_from 2 second ≡ None
+    → IsConfiguration bytes config → recording_of recordings.first ≡ Ok first → recording_of recordings.second ≡ Ok second
     → IsCompared fabric (begun_with (contents_of config)) first second (of_files (compared fabric) bytes recordings)

@@ -4,6 +4,7 @@ use Rattle.mt_endings.specs.Moments.{Input, Moment}
 use Rattle.mt_endings.specs.OnDisk.{EndsAs}
 use Rattle.mt_runs.specs.Expiries.{ExpiriesAreRollbacks}
 use Rattle.mt_runs.specs.Replies.{RepliesAreExact}
+use Rattle.mt_runs.specs.Restarts.{ReopeningsAreExact}
 use Rattle.mt_top.specs.Asked.{asked_of}
 use Rattle.mt_top.specs.Compared.{ComparisonsAreExact}
 use Rattle.mt_top.specs.Denials.{DenialsAreExact}
@@ -21,5 +22,8 @@ pub record IsRun (words : List (List ℕ)) (status : ℕ) (disk_before disk_afte
   pub replied : RepliesAreExact
   -- behind every expiry of the fail-safe, whichever way it comes, the node is the rollback of what it was
   pub expired : ExpiriesAreRollbacks
+  -- whichever line the disk stops in, the node behind it goes on with exactly the rollback of what it kept, in which every change that was
+  -- answered is
+  pub reopened : ReopeningsAreExact
   -- what a comparison tells is what the marks say
   pub compared : ComparisonsAreExact

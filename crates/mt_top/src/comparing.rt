@@ -1,14 +1,12 @@
 //! Comparing two recordings, with a configuration in hand.
 
 ghost use Rattle.std.specs.Prelude.{◌≡◌, ◌≢◌, Err, IfErr, OnOk, Some};
-ghost use Rattle.std.specs.Option.{option_map};
 ghost use Rattle.mt_model.specs.texts.Contents.{contents_of};
 ghost use Rattle.mt_endings.specs.Endings.{in_hand_of};
 ghost use Rattle.mt_endings.specs.Moments.{in_hand, input, moment};
 ghost use Rattle.mt_endings.specs.Parts.{PlayedTo, StopsPlaying};
 ghost use Rattle.mt_endings.specs.Run.{Ends};
-ghost use Rattle.mt_endings.specs.declared.fault.Fault.TheVariants.{Unbuilt};
-ghost use Rattle.mt_top.specs.Asked.{compared, compared_by, unbuilt_from};
+ghost use Rattle.mt_top.specs.Asked.{compared, compared_by};
 ghost use Rattle.mt_top.specs.Begun.{begun_with};
 
 use mt_compare::{compare, comparison_text};
@@ -53,7 +51,7 @@ pub(crate) fn compare_with<A: Source, B: Source, W: Sink>(
     }
 }
 
-// Writes what a comparison comes to, where each line is built.
+// Writes what a comparison comes to.
 fn tell_difference<W: Sink>(
     alloc: Global,
     fabric: u8,
@@ -67,12 +65,6 @@ fn tell_difference<W: Sink>(
     ensures calm { result ≢ Err Fault.WriteFault → W.faults out.new ≡ W.faults out.old }
 {
     writings_add_up();
-    if let Some(line) = unbuilt_line(first) {
-        return Err(Fault::Unbuilt(line));
-    }
-    if let Some(line) = unbuilt_line(second) {
-        return Err(Fault::Unbuilt(line));
-    }
     let Ok(found) = compare(alloc, fabric, config, first, second) else {
         return Err(Fault::Memory);
     };
@@ -86,18 +78,4 @@ fn tell_difference<W: Sink>(
         Some(_) => Err(Fault::Differ),
         None => Ok(()),
     }
-}
-
-// The first line that is not built, where the first event stands in line 2.
-fn unbuilt_line(events: &[Event]) -> Option<u64>
-    ensures { option_map Unbuilt result ≡ unbuilt_from 2 events.now }
-{
-    let mut line = 2u64;
-    for event in events {
-        if let Event::Stop { .. } = event {
-            return Some(line);
-        }
-        line += 1;
-    }
-    None
 }

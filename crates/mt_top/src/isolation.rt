@@ -4,18 +4,20 @@ ghost use Rattle.mt_top.specs.Compared.{ComparisonsAreExact};
 ghost use Rattle.mt_top.specs.Denials.{DenialsAreExact};
 ghost use Rattle.mt_top.specs.Isolated.{RunsAreIsolated};
 
+use mt_files::recordings_are_read;
 use mt_marks::equal_marks_do_not_differ;
 use mt_runs::{equal_marks_have_equal_messages, runs_are_their_messages, wholes_are_valid};
 
 /// Of every configuration and every recording: the lines to which they come are the messages of the written run, each to one
 /// fabric; and whatever other run there is in which a fabric begins with the same own part and has the same marks, that fabric
-/// is sent the same in it, byte for byte.
+/// is sent the same in it, byte for byte, through every stop of the disk.
 pub fn runs_are_isolated()
     ensures { RunsAreIsolated }
 {
     wholes_are_valid();
     runs_are_their_messages();
     equal_marks_have_equal_messages();
+    recordings_are_read();
 }
 
 /// Whatever is asked in a run, it is denied exactly where neither the implicit entry nor one of the asker's own fabric grants
@@ -29,8 +31,8 @@ pub fn denials_are_exact()
     mt_invoke::command_denials_are_exact();
 }
 
-/// Two recordings of which each line is built are told to be alike for a fabric exactly where its marks are equal in both;
-/// else the first mark that differs is told.
+/// Two recordings are told to be alike for a fabric exactly where its marks are equal in both; else the first mark that differs is
+/// told.
 pub fn comparisons_are_exact()
     ensures { ComparisonsAreExact }
 {

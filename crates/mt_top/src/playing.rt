@@ -1,10 +1,11 @@
 //! What a node that plays sends for a line of a recording: as text, or told to a tally.
 
-ghost use Rattle.std.specs.Prelude.{◌≡◌, List, IfOk};
+ghost use Rattle.std.specs.Prelude.{◌≡◌, List, IfOk, OnOk};
 ghost use Rattle.mt_files.specs.Output.{output_text};
 ghost use Rattle.mt_model.specs.declared.texts.recording.Sent.{Sent};
+ghost use Rattle.mt_play.specs.Plays.{IsOnJournal};
 ghost use Rattle.mt_soak.specs.Summary.{IsTallyOf};
-ghost use Rattle.mt_top.specs.Begun.{Begun, Plays, StepsIf, TellsIf};
+ghost use Rattle.mt_top.specs.Begun.{Begun, Plays, Steps, Tells};
 
 use mt_files::write_sent;
 use mt_model::{Event, Sent};
@@ -12,37 +13,33 @@ use mt_play::Playing;
 use mt_soak::Tally;
 use std::alloc::{AllocError, Global};
 
-/// Makes of the node what the event makes of it, and gives the text of what is sent; None where the event is
-/// not built.
+/// Makes of the node what the event makes of it, and gives the text of what is sent.
 pub(crate) fn step(
     alloc: Global,
     player: &mut Playing,
     event: &Event,
-) -> Result<Option<Vec<u8>>, AllocError>
-    ensures { (begun : Begun) → Plays player.old begun → IfOk result (StepsIf begun player.new event.now) }
+) -> Result<Vec<u8>, AllocError>
+    requires { IsOnJournal player.old }
+    ensures journal { OnOk result (IsOnJournal player.new) }
+    ensures steps { (begun : Begun) → Plays player.old begun → IfOk result (Steps begun player.new event.now) }
 {
-    let Some(sent) = player.step(event)? else {
-        return Ok(None);
-    };
-    let text = text_of(alloc, sent.as_slice())?;
-    Ok(Some(text))
+    let sent = player.step(event)?;
+    text_of(alloc, sent.as_slice())
 }
 
-/// Makes of the node what the event makes of it, and tells the tally what is sent; false where the event is not
-/// built.
+/// Makes of the node what the event makes of it, and tells the tally what is sent.
 pub(crate) fn tell(
     alloc: Global,
     player: &mut Playing,
     event: &Event,
     tally: &mut Tally,
-) -> Result<bool, AllocError>
-    ensures { (begun : Begun) (before : List Sent) → Plays player.old begun → IsTallyOf tally.old before → IfOk result (TellsIf begun before player.new tally.new event.now) }
+) -> Result<(), AllocError>
+    requires { IsOnJournal player.old }
+    ensures journal { OnOk result (IsOnJournal player.new) }
+    ensures tells { (begun : Begun) (before : List Sent) → Plays player.old begun → IsTallyOf tally.old before → OnOk result (Tells begun before player.new tally.new event.now) }
 {
-    let Some(sent) = player.step(event)? else {
-        return Ok(false);
-    };
-    tally.note(alloc, sent.as_slice())?;
-    Ok(true)
+    let sent = player.step(event)?;
+    tally.note(alloc, sent.as_slice())
 }
 
 // A line for each message.

@@ -4,6 +4,8 @@ ghost use Rattle.std.specs.Prelude.{◌≡◌, ◌≢◌, Some, Err, IfErr, OnOk
 ghost use Rattle.mt_model.specs.texts.Contents.{contents_of};
 ghost use Rattle.mt_runs.specs.Expiries.{ExpiriesAreRollbacks};
 ghost use Rattle.mt_runs.specs.Replies.{RepliesAreExact};
+ghost use Rattle.mt_runs.specs.Restarts.{ReopeningsAreExact};
+ghost use Rattle.mt_play.specs.Plays.{IsOnJournal};
 ghost use Rattle.mt_endings.specs.Endings.{in_hand_of};
 ghost use Rattle.mt_endings.specs.Moments.{Input, in_hand, input, moment};
 ghost use Rattle.mt_endings.specs.Parts.{PlayedTo, StopsPlaying};
@@ -19,11 +21,11 @@ use mt_endings::{Fault, endings_add_up, finish, read_recording, tell_memory};
 use mt_model::{Config, Events};
 use mt_outside::{Sink, Source, write_all, writings_add_up};
 use mt_play::Playing;
-use mt_runs::{expiries_are_rollbacks, replies_are_exact};
+use mt_runs::{expiries_are_rollbacks, reopenings_are_exact, replies_are_exact};
 use std::alloc::Global;
 
-/// Runs the recording that `first` gives against a configuration, and writes the output lines to
-/// `out`. The answer is the exit status, as `run` has it; it is never 2 or 3.
+/// Runs the recording that `first` gives against a configuration, on a disk in memory that stops where the recording says, and writes
+/// the output lines to `out`. The answer is the exit status, as `run` has it; it is never 2 or 3.
 pub fn replay_with<A: Source, W: Sink>(
     alloc: Global,
     config: &Config,
@@ -37,17 +39,19 @@ pub fn replay_with<A: Source, W: Sink>(
     ensures denied { DenialsAreExact }
     ensures replied { RepliesAreExact }
     ensures expired { ExpiriesAreRollbacks }
+    ensures reopened { ReopeningsAreExact }
 {
+    reopenings_are_exact();
     runs_are_isolated();
     denials_are_exact();
     replies_are_exact();
     expiries_are_rollbacks();
     endings_add_up();
-    let Ok(player) = Playing::start(alloc, config) else {
+    let Ok(mut player) = Playing::start(alloc, config) else {
         return tell_memory(out);
     };
     match read_recording(alloc, first) {
-        Ok(events) => match play(alloc, player, &events, out) {
+        Ok(events) => match play(alloc, &mut player, &events, out) {
             Ok(()) => 0,
             Err(fault) => finish(alloc, fault, out),
         },
@@ -55,31 +59,27 @@ pub fn replay_with<A: Source, W: Sink>(
     }
 }
 
-// Writes what the node sends over the events, up to the first that is not built.
+// Writes what the node sends over the events.
 fn play<W: Sink>(
     alloc: Global,
-    mut player: Playing,
+    player: &mut Playing,
     events: &Events,
     out: &mut W,
 ) -> Result<(), Fault>
-    ensures ok { (begun : Begun) → Plays player begun → OnOk result (PlayedTo (played begun events.now) (W.written out.old) (W.written out.new)) }
-    ensures err { (begun : Begun) → Plays player begun
+    requires { IsOnJournal player.old }
+    ensures ok { (begun : Begun) → Plays player.old begun → OnOk result (PlayedTo (played begun events.now) (W.written out.old) (W.written out.new)) }
+    ensures err { (begun : Begun) → Plays player.old begun
         → IfErr result (λ fault. StopsPlaying fault (played begun events.now) (W.written out.old) (W.written out.new) (W.faults out.old) (W.faults out.new)) }
     ensures calm { result ≢ Err Fault.WriteFault → W.faults out.new ≡ W.faults out.old }
 {
     writings_add_up();
-    let mut line = 2u64;
     for event in events.as_slice() {
-        let Ok(answer) = step(alloc, &mut player, event) else {
+        let Ok(text) = step(alloc, player, event) else {
             return Err(Fault::Memory);
-        };
-        let Some(text) = answer else {
-            return Err(Fault::Unbuilt(line));
         };
         let Ok(()) = write_all(out, &text) else {
             return Err(Fault::WriteFault);
         };
-        line += 1;
     }
     Ok(())
 }

@@ -17,13 +17,14 @@ use mt_endings::{
 };
 use mt_model::Config;
 use mt_outside::{Disk, Progress, Sink, Source, Unwatched};
-use mt_runs::{expiries_are_rollbacks, replies_are_exact};
+use mt_runs::{expiries_are_rollbacks, reopenings_are_exact, replies_are_exact};
 use mt_settle::settle_with;
 use mt_words::{Asked, WordsFault, asked_of};
 use std::alloc::Global;
 
 /// Does what the words say: `replay CONFIG RECORDING` starts a node with the configuration that
-/// `config` gives, runs the recording that `first` gives, and writes the output lines to `out`;
+/// `config` gives, runs the recording that `first` gives on a disk in memory, which stops where the recording says, and writes
+/// the output lines to `out`;
 /// `compare F CONFIG FIRST SECOND` runs the recordings that `first` and `second` give, each on a node of its own, and writes
 /// whether they are alike by what fabric F sees of them, or where they first differ;
 /// `soak BEGIN COUNT CONFIG` runs COUNT events that are made from the number BEGIN, and writes a
@@ -33,8 +34,7 @@ use std::alloc::Global;
 /// Status 0 means that all was written; 2 that the words have no form; 3 that the configuration is
 /// none; 4 that a recording is none; 5 that `config`, `first` or `second` failed; 6 that `out` failed; 7 that
 /// there was no memory; 8 that `disk` failed; 9 that the journal is none; 10 that a recording is too long; 11 that two
-/// recordings differ; 14 that one of their lines is not built. All but 0, 6 and 11 end the output with a line that names the
-/// fault.
+/// recordings differ. All but 0, 6 and 11 end the output with a line that names the fault.
 pub fn run<C: Source, A: Source, B: Source, D: Disk, W: Sink>(
     alloc: Global,
     words: &[String],
@@ -85,6 +85,7 @@ pub fn run_watched<C: Source, A: Source, B: Source, D: Disk, W: Sink, P: Progres
     denials_are_exact();
     replies_are_exact();
     expiries_are_rollbacks();
+    reopenings_are_exact();
     comparisons_are_exact();
     endings_add_up();
     endings_on_disk_add_up();

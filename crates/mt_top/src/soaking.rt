@@ -1,7 +1,8 @@
 //! A long input made from a number, and the summary of what is sent for it.
 
 ghost use Rattle.std.specs.Prelude.{◌≡◌, ◌≤◌, [], IfOk, OnOk, Some, length};
-ghost use Rattle.mt_runs.specs.Lines.{run};
+ghost use Rattle.mt_runs.specs.Messages.{run};
+ghost use Rattle.mt_play.specs.Plays.{IsOnJournal};
 ghost use Rattle.mt_soak.specs.Generated.{events_from};
 ghost use Rattle.mt_soak.specs.Summary.{IsTallyOf};
 ghost use Rattle.mt_top.specs.Begun.{Begun, Plays};
@@ -17,7 +18,7 @@ use mt_endings::{Fault, endings_add_up, finish, tell_memory};
 use mt_model::Config;
 use mt_outside::{Progress, Sink, write_all, writings_add_up};
 use mt_play::Playing;
-use mt_soak::{Generator, Tally, events_are_played, events_come_one_by_one};
+use mt_soak::{Generator, Tally, events_come_one_by_one};
 use std::alloc::{AllocError, Global};
 
 /// Runs so many events, made from this number, against a configuration, and writes the summary of what is sent to `out`.
@@ -89,9 +90,9 @@ fn tell_all<P: Progress>(
 ) -> Result<(), AllocError>
     requires within { count ≤ 100000 }
     requires first { generator.old.answered ≡ 0 }
-    ensures { (begun : Begun) → Plays player.old begun → IsTallyOf tally.old [] → OnOk result (IsTallyOf tally.new (run begun.given begun.whole (events_from generator.old count))) }
+    requires journal { IsOnJournal player.old }
+    ensures { (begun : Begun) → Plays player.old begun → IsTallyOf tally.old [] → OnOk result (IsTallyOf tally.new (run begun.given begun.sessions begun.going (events_from generator.old count))) }
 {
-    events_are_played();
     events_come_one_by_one();
     for done in 0..count {
         let event = generator.next(alloc)?;

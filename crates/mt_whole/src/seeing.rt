@@ -10,7 +10,8 @@ ghost use Rattle.mt_machine.specs.State.{is_member};
 ghost use Rattle.mt_runs.specs.Lines.{fabric_of};
 ghost use Rattle.mt_runs.specs.Whole.{Whole as Told};
 ghost use Rattle.mt_marks.specs.Seen.{seen_in};
-ghost use Rattle.mt_runs.specs.Marks.{is_seen};
+ghost use Rattle.mt_runs.specs.Isolation.{public_part};
+ghost use Rattle.mt_runs.specs.Marks.{is_seen, seen};
 ghost use Rattle.mt_whole.specs.Seeing.{mark_of, own_standing};
 ghost use Rattle.mt_whole.specs.Talks.{IsWholeOf};
 
@@ -33,16 +34,22 @@ impl Whole {
         if !self.sees(fabric, event) {
             return Ok(None);
         }
+        Ok(Some(self.shown(fabric, event)?))
+    }
+
+    /// What is public to a fabric, beside an event, whether the fabric sees that or not.
+    pub fn shown(&self, fabric: u8, event: &Event) -> Result<Mark, AllocError>
+        ensures { (w : Told) → IsWholeOf self.now w → IfOk result (λ mark. seen_in mark ≡ seen event.now (public_part fabric w)) }
+    {
         let interactions = &self.interactions;
-        let mark = public_mark(
+        public_mark(
             self.alloc,
             fabric,
             event,
             interactions.state(),
             interactions.rings(),
             interactions.numbers(),
-        )?;
-        Ok(Some(mark))
+        )
     }
 
     // Whether a fabric sees an event.
@@ -88,6 +95,13 @@ impl Whole {
             .as_slice()
             .iter()
             .any(|f| f.index == fabric)
+    }
+
+    /// The number of this boot.
+    pub fn boot(&self) -> u32
+        ensures { result ≡ self.now.interactions.state.node.boot }
+    {
+        self.interactions.state().boot
     }
 
     /// The sessions of this boot.

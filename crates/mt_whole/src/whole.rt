@@ -1,12 +1,13 @@
 //! The whole.
 
-ghost use Rattle.std.specs.Prelude.{◌≡◌, IfOk, IfSome, is_some, option_copied};
+ghost use Rattle.std.specs.Prelude.{◌≡◌, IfOk, IfSome, is_some, not, option_copied};
 ghost use Rattle.mt_machine.specs.Environment.{Environment};
 ghost use Rattle.mt_model.specs.declared.texts.recording.Event.{Event as Line};
-ghost use Rattle.mt_runs.specs.Lines.{is_built, next};
+ghost use Rattle.mt_runs.specs.Lines.{is_stop, next};
 ghost use Rattle.mt_runs.specs.Whole.{Whole as Told, fabric_live};
 ghost use Rattle.mt_regained.specs.Begun.{MayStart};
-ghost use Rattle.mt_interactions.specs.Configured.{IsFirst};
+ghost use Rattle.mt_interactions.specs.Configured.{IsFirst, behind};
+ghost use Rattle.mt_interactions.specs.Plan.{applied_ledger, applied_state};
 ghost use Rattle.mt_whole.specs.Plan.{Brings, IsPlainly, IsPlan, IsPlanned, IsStarted, given_to};
 ghost use Rattle.mt_whole.specs.Talks.{IsWholeOf};
 
@@ -57,14 +58,15 @@ impl Whole {
         Ok((whole, first))
     }
 
-    /// Plans an event of a recording, None exactly where it is not built, by the verdicts on certificates that are
-    /// handed in. It changes nothing, and takes all the memory.
+    /// Plans an event of a recording, by the verdicts on certificates that are handed in. None exactly where it stops the disk,
+    /// which a whole does not have: what becomes of the node then its owner sees to. It changes nothing, and takes all the
+    /// memory.
     pub fn plan<V: Verdicts>(
         &self,
         event: &Event,
         verdicts: &V,
     ) -> Result<Option<WholeOutcome>, AllocError>
-        ensures built { IfOk result (λ outcome. is_some outcome ≡ is_built event.now) }
+        ensures goes { IfOk result (λ outcome. is_some outcome ≡ not (is_stop event.now)) }
         ensures planned { IfOk result (λ outcome. IfSome outcome (IsPlanned self.now.interactions.state self.now.interactions.ledger)) }
         ensures plan { let given = given_to self.now (V.roots verdicts.now) (V.csrs verdicts.now) (V.joins verdicts.now) in
             (w : Told) → IsWholeOf self.now w → IfOk result (λ outcome. IfSome outcome (IsPlan given w event.now)) }
@@ -123,6 +125,7 @@ impl Whole {
     pub fn apply(&mut self, outcome: WholeOutcome)
         requires { IsPlanned self.old.interactions.state self.old.interactions.ledger outcome }
         ensures config { self.new.interactions.config ≡ self.old.interactions.config }
+        ensures interactions { self.new.interactions ≡ behind (applied_state outcome.interactions self.old.interactions.state) (applied_ledger outcome.interactions self.old.interactions.state self.old.interactions.ledger) self.old.interactions }
         ensures stands { (given : Environment) (w : Told) (event : Line) → IsWholeOf self.old w → Brings given w event outcome → IsWholeOf self.new (next given w event) }
     {
         let WholeOutcome {

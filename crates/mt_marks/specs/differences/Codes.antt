@@ -43,6 +43,7 @@ use Rattle.mt_exchange.specs.declared.exchange.Exchange.{Exchange}
 use Rattle.mt_machine.specs.Isolation.{Descriptor, Own, OwnOfWhole}
 use Rattle.mt_ledger.specs.Isolation.{OwnLedger}
 use Rattle.mt_runs.specs.Isolation.{OwnPart}
+use Rattle.mt_runs.specs.Marks.{Unanswered}
 use Rattle.mt_runs.specs.Whole.{SessionTalk}
 
 -- whether two values have the same code
@@ -87,6 +88,14 @@ of_changes = coded_list changes.the_row.coded
 
 abbrev pub of_happened : Coded (List Happened)
 of_happened = coded_list happened.the_row.coded
+
+-- Of an event that was left unanswered.
+
+abbrev pub of_left : Coded Unanswered
+of_left = code_by (Event × Bool) (coded× of_events coded_bool) (λ (u : Unanswered). (u.event, u.survived)) (λ t. record { event = t.0; survived = t.1 }) (λ _. refl)
+
+abbrev pub of_unanswered : Coded (Option Unanswered)
+of_unanswered = coded_option of_left
 
 -- Of a fabric's own.
 

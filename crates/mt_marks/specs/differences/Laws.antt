@@ -1,9 +1,10 @@
 -- Laws of marks that are compared.
 use Rattle.std.specs.Prelude.{◌≡◌, ◌↔◌, ℕ, ◌+◌, ◌<◌, true, List, Option, Some, None, slice_get, take}
+use Rattle.mt_model.specs.declared.texts.config.SessionRow.{SessionRow}
 use Rattle.mt_model.specs.declared.texts.recording.Event.{Event}
 use Rattle.mt_machine.specs.Environment.{Environment}
+use Rattle.mt_runs.specs.Course.{Going}
 use Rattle.mt_runs.specs.Isolation.{OwnPart, PublicPart}
-use Rattle.mt_runs.specs.Whole.{Whole}
 use Rattle.mt_runs.specs.Marks.{Mark, marks}
 use Rattle.mt_marks.specs.Parts.{place_of}
 use Rattle.mt_marks.specs.declared.difference.Part.{Part}
@@ -14,7 +15,7 @@ use Rattle.mt_marks.specs.differences.Parts.{IsSameSeen, is_same_seen, seen_part
 
 -- The marks that stand at events are the marks of the run, in their order.
 abbrev pub MarkedAreMarks : Type 0
-MarkedAreMarks = (given : Environment) (fabric : ℕ) (w : Whole) (events : List Event) → marks_in (marked given fabric w events) ≡ marks given fabric w events
+MarkedAreMarks = (given : Environment) (sessions : List SessionRow) (fabric : ℕ) (g : Going) (events : List Event) → marks_in (marked given sessions fabric g events) ≡ marks given sessions fabric g events
 
 -- A part is found the same exactly where it is.
 abbrev pub SamePartsAreSame : Type 0
@@ -38,8 +39,8 @@ SameMarksHaveNoPart = (one other : Mark) → (part_between one other ≡ None) �
 
 -- ALIKE EXACTLY WHERE THE MARKS ARE EQUAL.
 abbrev pub EqualMarksDoNotDiffer : Type 0
-EqualMarksDoNotDiffer = (given : Environment) (fabric : ℕ) (w : Whole) (first second : List Event)
-    → (difference given fabric w first second ≡ None) ↔ (marks given fabric w first ≡ marks given fabric w second)
+EqualMarksDoNotDiffer = (given : Environment) (sessions : List SessionRow) (fabric : ℕ) (g : Going) (first second : List Event)
+    → (difference given sessions fabric g first second ≡ None) ↔ (marks given sessions fabric g first ≡ marks given sessions fabric g second)
 
 -- what stands at a place of two lists: marks that differ in this part, or one where the other list has ended
 abbrev pub DifferThere : Difference → Option Marked → Option Marked → Type 0

@@ -1,10 +1,12 @@
 -- The marks of a fabric in a run, each with the event at whose line it stands.
-use Rattle.std.specs.Prelude.{ℕ, List, [], ◌∷◌, ◌++◌, map, if◌then◌else◌}
+use Rattle.std.specs.Prelude.{ℕ, List, [], ◌∷◌, ◌++◌, map}
+use Rattle.mt_model.specs.declared.texts.config.SessionRow.{SessionRow}
 use Rattle.mt_model.specs.declared.texts.recording.Event.{Event}
 use Rattle.mt_machine.specs.Environment.{Environment}
-use Rattle.mt_runs.specs.Lines.{is_built, next}
+use Rattle.mt_runs.specs.Course.{Course, Going, course, goes, stepped, stops}
+use Rattle.mt_runs.specs.Lines.{next}
+use Rattle.mt_runs.specs.Marks.{Mark, if_born, if_gone, if_seen, marks_in as marks_behind}
 use Rattle.mt_runs.specs.Whole.{Whole}
-use Rattle.mt_runs.specs.Marks.{Mark, if_born, if_gone, if_seen}
 
 -- a mark, and the event at whose line it stands
 pub record Marked : Type 0 where
@@ -21,12 +23,17 @@ all_at event marks = map (marked_at event) marks
 abbrev pub if_changed : ℕ → Whole → Event → Whole → List Mark
 if_changed fabric w event behind = if_born fabric w behind ++ if_gone fabric w event behind
 
--- THE MARKS OF A FABRIC in a run, each where it stands, up to the first line that is not built
-abbrev pub marked : Environment → ℕ → Whole → List Event → List Marked
-marked given fabric w [] = []
-marked given fabric w (event ∷ events) =
-    if is_built event then all_at event (if_seen fabric w event) ++ (all_at event (if_changed fabric w event (next given w event)) ++ marked given fabric (next given w event) events)
-    else all_at event (if_seen fabric w event)
+-- Behind what is seen of a line: what changes for the fabric, at that line; or the marks of a reopening, at the line that stops the disk.
+abbrev pub marked_behind : Environment → List SessionRow → ℕ → Whole → Event → Course → List Marked
+marked_behind given sessions fabric w event (goes stop) = all_at event (if_changed fabric w event (next given w event))
+marked_behind given sessions fabric w event (stops line survived) = all_at line (marks_behind given sessions fabric w event (stops line survived))
+
+-- THE MARKS OF A FABRIC in a run, each where it stands
+abbrev pub marked : Environment → List SessionRow → ℕ → Going → List Event → List Marked
+marked given sessions fabric g [] = []
+marked given sessions fabric g (event ∷ events) =
+    all_at event (if_seen fabric g.whole event)
+    ++ (marked_behind given sessions fabric g.whole event (course given g event) ++ marked given sessions fabric (stepped given sessions g event) events)
 
 -- the marks alone
 abbrev pub marks_in : List Marked → List Mark

@@ -8,8 +8,9 @@ use Rattle.mt_compare.specs.declared.side.Here.{Here}
 use Rattle.mt_compare.proofs.between.part_between.Goals as goal
 
 pub returns-in-Enters-Enters : goal.returns-in-Enters-Enters
-returns-in-Enters-Enters c given w v is its =
+returns-in-Enters-Enters c given sessions g h is its =
     let fabric = c.args.fabric in
     let found = c.born_between.result in
-    subst (λ (h : Here). IfOk found (λ part. part ≡ part_between (mark_in fabric w h) (mark_in fabric v c.args.theirs.now.here))) (sym c.in-Enters-Enters.is-0)
-    (subst (λ (h : Here). IfOk found (λ part. part ≡ part_between (born (own_part fabric w)) (mark_in fabric v h))) (sym c.in-Enters-Enters.is-1) (c.born_between.ensures given w v is its))
+    subst (λ (here : Here). IfOk found (λ part. part ≡ part_between (mark_in fabric g here) (mark_in fabric h c.args.theirs.now.here))) (sym c.in-Enters-Enters.is-0)
+    (subst (λ (here : Here). IfOk found (λ part. part ≡ part_between (born (own_part fabric g.whole)) (mark_in fabric h here))) (sym c.in-Enters-Enters.is-1)
+    (c.born_between.ensures given sessions g h is its))

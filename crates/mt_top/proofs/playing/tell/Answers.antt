@@ -1,15 +1,12 @@
-use Rattle.std.proofs.Common.{◌∙◌, ◌++◌, Option, List, ap, subst, sym}
-use Rattle.std.specs.Prelude.{IfSome, is_some}
+use Rattle.std.proofs.Common.{◌∙◌, ◌++◌, List, subst}
+use Rattle.std.proofs.lemmas.Result.{on_ok_weaker}
 use Rattle.mt_model.specs.declared.texts.recording.Sent.{Sent}
-use Rattle.mt_play.specs.Plays.{StepsTo}
 use Rattle.mt_soak.specs.Summary.{IsTallyOf}
+use Rattle.mt_top.specs.Begun.{Tells}
 use Rattle.mt_top.proofs.playing.tell.Goals as goal
 
-pub returns-in_default : goal.returns-in_default
-returns-in_default c begun before is tallied = sym c.in_ok-sent.ensures.built ∙ ap is_some c.in_default.is
-
-pub returns : goal.returns
-returns c begun before is tallied =
-    let steps = subst (λ (o : Option (List Sent)). IfSome o (StepsTo begun.given begun.whole c.args.event.now c.step.new.self)) c.in-Some.is (c.in_ok-sent.ensures.steps begun.given begun.whole is) in
-    let tally = subst (λ (m : List Sent). IsTallyOf c.note.new.self (before ++ m)) (c.as_slice.ensures ∙ steps.sent) (c.in_ok-note.ensures.ok before tallied) in
-    (sym c.in_ok-sent.ensures.built ∙ ap is_some c.in-Some.is, tally, steps.stands)
+pub returns-clause-tells : goal.returns-clause-tells
+returns-clause-tells c begun before is tallied =
+    let steps = c.in_ok-sent.ensures.steps begun.given begun.sessions begun.going is in
+    on_ok_weaker {P = IsTallyOf c.note.new.self (before ++ c.as_slice.result.now)} {Q = Tells begun before c.step.new.self c.note.new.self c.args.event.now} c.note.result
+    (λ noted. (subst (λ (messages : List Sent). IsTallyOf c.note.new.self (before ++ messages)) (c.as_slice.ensures ∙ steps.sent) noted, steps.stands)) (c.note.ensures.ok before tallied)

@@ -27,7 +27,7 @@ returns-in-Ok-play-clause-ends g c second =
     c.endings_add_up.ensures.played (played begun) c.in-Ok-read_recording.events
     (input (left c.args.first.now) (reads c.args.first.now)) (input (left c.read_recording.new.source) (reads c.read_recording.new.source)) second
     (written c.args.out.now) (written c.play.new.out) (faults c.args.out.now) (faults c.play.new.out)
-    c.in-Ok-read_recording.ensures.ok (c.read_recording.ensures.calm (is_no_fault c.read_recording.result c.in-Ok-read_recording.is)) (c.in-Ok-play.ensures.ok begun c.in-Ok.ensures) (c.play.ensures.calm (is_no_fault c.play.result c.in-Ok-play.is))
+    c.in-Ok-read_recording.ensures.ok (c.read_recording.ensures.calm (is_no_fault c.read_recording.result c.in-Ok-read_recording.is)) (c.in-Ok-play.ensures.ok begun c.in-Ok.ensures.plays) (c.play.ensures.calm (is_no_fault c.play.result c.in-Ok-play.is))
 
 pub returns-in-Ok-read_recording-clause-ends : goal.returns-in-Ok-read_recording-clause-ends
 returns-in-Ok-read_recording-clause-ends g c second =
@@ -39,7 +39,7 @@ returns-in-Ok-read_recording-clause-ends g c second =
     c.endings_add_up.ensures.stopped (played begun) c.in-Ok-read_recording.events c.in-Err-play.fault c.finish.result
     (input (left c.args.first.now) (reads c.args.first.now)) (input (left c.read_recording.new.source) (reads c.read_recording.new.source)) second
     (written c.args.out.now) (written c.play.new.out) (written c.finish.new.out) (faults c.args.out.now) (faults c.play.new.out) (faults c.finish.new.out)
-    c.in-Ok-read_recording.ensures.ok (c.read_recording.ensures.calm (is_no_fault c.read_recording.result c.in-Ok-read_recording.is)) (c.in-Err-play.ensures.err begun c.in-Ok.ensures)
+    c.in-Ok-read_recording.ensures.ok (c.read_recording.ensures.calm (is_no_fault c.read_recording.result c.in-Ok-read_recording.is)) (c.in-Err-play.ensures.err begun c.in-Ok.ensures.plays)
     (λ quiet. c.play.ensures.calm (not_written c.play.result c.in-Err-play.fault c.in-Err-play.is quiet)) c.finish.ensures
 
 pub returns-clause-ends : goal.returns-clause-ends

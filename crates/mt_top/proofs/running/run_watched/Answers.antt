@@ -23,6 +23,7 @@ returns-in-Err-Bad-clause-run g c =
       denied = c.denials_are_exact.ensures;
       replied = c.replies_are_exact.ensures;
       expired = c.expiries_are_rollbacks.ensures;
+      reopened = c.reopenings_are_exact.ensures;
       compared = c.comparisons_are_exact.ensures;
     }
 
@@ -46,6 +47,7 @@ returns-in-Ok-read_configuration-clause-run g c =
       denied = c.denials_are_exact.ensures;
       replied = c.replies_are_exact.ensures;
       expired = c.expiries_are_rollbacks.ensures;
+      reopened = c.reopenings_are_exact.ensures;
       compared = c.comparisons_are_exact.ensures;
     }
 
@@ -67,6 +69,7 @@ returns-in-Err-clause-run g c =
       denied = c.denials_are_exact.ensures;
       replied = c.replies_are_exact.ensures;
       expired = c.expiries_are_rollbacks.ensures;
+      reopened = c.reopenings_are_exact.ensures;
       compared = c.comparisons_are_exact.ensures;
     }
 
@@ -85,5 +88,6 @@ returns-in-Err-Memory-clause-run g c =
       denied = c.denials_are_exact.ensures;
       replied = c.replies_are_exact.ensures;
       expired = c.expiries_are_rollbacks.ensures;
+      reopened = c.reopenings_are_exact.ensures;
       compared = c.comparisons_are_exact.ensures;
     }

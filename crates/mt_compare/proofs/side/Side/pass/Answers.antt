@@ -1,18 +1,12 @@
-use Rattle.std.proofs.Common.{inl, refl, subst}
-use Rattle.mt_compare.specs.Passing.{PassesTo}
+use Rattle.std.proofs.Common.{subst, sym}
+use Rattle.mt_play.specs.Plays.{IsPlaying}
+use Rattle.mt_play.specs.declared.playing.Playing.{Playing}
 use Rattle.mt_compare.proofs.side.Side.pass.Goals as goal
 
-pub returns-in-Stays-clause-passed : goal.returns-in-Stays-clause-passed
-returns-in-Stays-clause-passed c given w is =
-    let p = subst (PassesTo given c.args.fabric w c.args.event.now c.pass.new.node) c.in-Stays.is (c.in_ok-passed.ensures given w is) in
-    inl (record { built = p.built; stands = p.stands; unseen = refl; rest = refl; marks = p.changed })
+pub returns-in-Goes-clause-passed : goal.returns-in-Goes-clause-passed
+returns-in-Goes-clause-passed c given sessions g is =
+    c.go_on.ensures.passed given sessions g is (c.in_ok-planned.ensures.planned given sessions g (subst (λ (p : Playing). IsPlaying p given sessions g) (sym c.playing.ensures) is.playing))
 
-pub returns-in-Enters-clause-passed : goal.returns-in-Enters-clause-passed
-returns-in-Enters-clause-passed c given w is =
-    let p = subst (PassesTo given c.args.fabric w c.args.event.now c.pass.new.node) c.in-Enters.is (c.in_ok-passed.ensures given w is) in
-    inl (record { built = p.built; stands = p.stands; unseen = refl; rest = refl; marks = (p.changed, refl) })
-
-pub returns-in-Leaves-clause-passed : goal.returns-in-Leaves-clause-passed
-returns-in-Leaves-clause-passed c given w is =
-    let p = subst (PassesTo given c.args.fabric w c.args.event.now c.pass.new.node) c.in-Leaves.is (c.in_ok-passed.ensures given w is) in
-    inl (record { built = p.built; stands = p.stands; unseen = refl; rest = refl; marks = (p.changed, refl) })
+pub returns-in-Stops-clause-passed : goal.returns-in-Stops-clause-passed
+returns-in-Stops-clause-passed c given sessions g is =
+    c.stop_in.ensures.passed given sessions g is (c.in_ok-planned.ensures.planned given sessions g (subst (λ (p : Playing). IsPlaying p given sessions g) (sym c.playing.ensures) is.playing))

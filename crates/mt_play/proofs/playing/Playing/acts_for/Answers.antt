@@ -4,4 +4,4 @@ use Rattle.mt_runs.specs.Lines.{fabric_of}
 use Rattle.mt_play.proofs.playing.Playing.acts_for.Goals as goal
 
 pub returns : goal.returns
-returns c given w is = c.acts_for.ensures ∙ ap (λ (s : State). fabric_of s.node c.args.event.now) is.whole.state
+returns c given sessions g is = c.acts_for.ensures ∙ ap (λ (s : State). fabric_of s.node c.args.event.now) is.whole.state

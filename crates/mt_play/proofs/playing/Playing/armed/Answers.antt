@@ -3,4 +3,4 @@ use Rattle.mt_machine.specs.State.{State}
 use Rattle.mt_play.proofs.playing.Playing.armed.Goals as goal
 
 pub returns : goal.returns
-returns c given w is = c.armed.ensures ∙ ap (λ (s : State). s.node.armed) is.whole.state
+returns c given sessions g is = c.armed.ensures ∙ ap (λ (s : State). s.node.armed) is.whole.state

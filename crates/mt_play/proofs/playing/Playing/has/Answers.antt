@@ -3,4 +3,4 @@ use Rattle.mt_machine.specs.State.{State, is_member}
 use Rattle.mt_play.proofs.playing.Playing.has.Goals as goal
 
 pub returns : goal.returns
-returns c given w is = c.has.ensures ∙ ap (λ (s : State). is_member c.args.fabric s.node) is.whole.state
+returns c given sessions g is = c.has.ensures ∙ ap (λ (s : State). is_member c.args.fabric s.node) is.whole.state

@@ -4,4 +4,4 @@ use Rattle.mt_runs.specs.Whole.{fabric_live}
 use Rattle.mt_play.proofs.playing.Playing.live.Goals as goal
 
 pub returns : goal.returns
-returns c given w is = c.live.ensures ∙ ap (λ (s : State). fabric_live s.node c.args.session) is.whole.state
+returns c given sessions g is = c.live.ensures ∙ ap (λ (s : State). fabric_live s.node c.args.session) is.whole.state

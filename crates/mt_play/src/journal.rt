@@ -1,0 +1,97 @@
+//! What goes to the journal of a node that plays, on a disk in memory: commits, and one in which the disk stops.
+
+ghost use Rattle.std.specs.Prelude.{◌≡◌, ◌≢◌, ◌<◌, ◌≤◌, ◌^◌, List, [], Some, IfOk, IsTrue, OnOk};
+ghost use Rattle.mt_durable.specs.Keeping.{HasRoom, IsAdmitted, IsChange};
+ghost use Rattle.mt_durable.specs.Maps.{have_values, keys_ascend};
+ghost use Rattle.mt_durable.specs.Reading.{Says};
+ghost use Rattle.mt_durable.specs.Setting.{with_all};
+ghost use Rattle.mt_durable.specs.declared.durable.Entry.{Entry};
+ghost use Rattle.mt_grammar.specs.Grammar.{is_in_grammar};
+ghost use Rattle.mt_keeping.specs.Laws.{MayCommit};
+ghost use Rattle.mt_keeping.specs.States.{told_map};
+ghost use Rattle.mt_regained.specs.Begun.{boot_in, ceiling_in};
+ghost use Rattle.mt_store.specs.Leading.{map_left};
+ghost use Rattle.mt_play.specs.Journal.{IsReady, Keeps, Rests};
+
+use mt_durable::{Durable, Keeper, bytes_of_a_change_are_read};
+use mt_grammar::kept_in;
+use mt_keeping::{
+    Store, journals_are_recovered, kept_maps_take_four_calls, states_may_be_committed,
+};
+use mt_outside::{Fate, MemDisk};
+use std::alloc::{AllocError, Global};
+
+/// Commits a change, and lets the disk forget what is safe by then, so that a long run's memory does not grow.
+pub(crate) fn commit(store: &mut Store<MemDisk>, change: &[u8]) -> Result<(), AllocError>
+    requires form { IsChange change.now }
+    requires room { HasRoom change.now (Some (told_map store.old)) }
+    requires admitted { IsAdmitted is_in_grammar change.now (Some (told_map store.old)) }
+    ensures { (entries : List Entry) → IsReady store.old → IsTrue (keys_ascend (told_map store.old)) → IsTrue (have_values (told_map store.old)) → Says entries change.now
+        → OnOk result (Keeps store.new (with_all entries (told_map store.old))) }
+{
+    states_may_be_committed();
+    let Ok(()) = store.commit(change) else {
+        return Err(AllocError);
+    };
+    let disk = store.disk_mut();
+    disk.forget();
+    // It has not stopped, so it only forgets where it was to stop.
+    disk.restart();
+    Ok(())
+}
+
+/// The same where there is a change, and nothing where there is none.
+pub(crate) fn commit_if_any(store: &mut Store<MemDisk>, change: &[u8]) -> Result<(), AllocError>
+    requires { change.now ≢ [] → MayCommit change.now (told_map store.old) }
+    ensures none { change.now ≡ [] → store.new ≡ store.old }
+    ensures some { (entries : List Entry) → change.now ≢ [] → IsReady store.old → IsTrue (keys_ascend (told_map store.old)) → IsTrue (have_values (told_map store.old)) → Says entries change.now
+        → OnOk result (Keeps store.new (with_all entries (told_map store.old))) }
+{
+    if change.is_empty() {
+        return Ok(());
+    }
+    commit(store, change)
+}
+
+/// Commits a change on a disk that stops at this one of the four calls, and restarts the disk. What it holds then leads to the map
+/// with the change exactly where the third or the fourth call was the one, and all was kept.
+pub(crate) fn commit_stopped(
+    store: &mut Store<MemDisk>,
+    change: &[u8],
+    calls: u64,
+    fate: Fate,
+) -> Result<(), AllocError>
+    requires form { IsChange change.now }
+    requires room { HasRoom change.now (Some (told_map store.old)) }
+    requires admitted { IsAdmitted is_in_grammar change.now (Some (told_map store.old)) }
+    requires within { calls ≤ 4 }
+    ensures { (entries map : List Entry) → Keeps store.old map → map ≢ [] → Says entries change.now
+        → OnOk result (Rests store.new (map_left 4 (record { calls = calls; fate = fate }) map (with_all entries map))) }
+{
+    journals_are_recovered();
+    kept_maps_take_four_calls();
+    bytes_of_a_change_are_read();
+    store.disk_mut().stop_at(calls, fate);
+    let Err(_) = store.commit(change) else {
+        return Err(AllocError);
+    };
+    let disk = store.disk_mut();
+    if !disk.stopped() {
+        // Another call failed before, for want of memory.
+        return Err(AllocError);
+    }
+    disk.restart();
+    Ok(())
+}
+
+/// Whether a node may start with a map of which a boot may be counted and in which there is room for event numbers.
+pub(crate) fn counts_one_more(alloc: Global, map: &Durable) -> Result<bool, AllocError>
+    ensures { IfOk result (λ yes. IsTrue yes → (boot_in map.now < 2 ^ 31) × (ceiling_in map.now ≤ 2 ^ 61)) }
+{
+    let Some(kept) = kept_in(alloc, map)? else {
+        return Ok(false);
+    };
+    let boot = kept.boot.unwrap_or(0);
+    let ceiling = kept.ceiling.unwrap_or(0);
+    Ok(boot < (1 << 31) && ceiling <= (1 << 61))
+}
