@@ -1,6 +1,6 @@
 -- The entry in front of the bytes of entries, and a change merged entry by entry.
 use Rattle.std.proofs.Common.{◌≡◌, ℕ, zero, suc, ◌+◌, ◌≤◌, Bool, true, false, List, [], ◌∷◌, ◌++◌, length, take, drop, refl, sym, ap, ◌∙◌, subst, ⊎_elim, append_assoc, arith}
-use Rattle.std.specs.Prelude.{if◌then◌else◌, Some, None}
+use Rattle.std.specs.Prelude.{if◌then◌else◌, Option, Some, None}
 use Rattle.std.proofs.lemmas.Bool.{and_parts, cases_Bool}
 use Rattle.std.proofs.lemmas.List.{length-append}
 use Rattle.mt_tlv.specs.Limits.{AreAllowed, IsAllowed, IsElement, IsTag, deepest, longest}
@@ -11,7 +11,7 @@ use Rattle.mt_tlv.specs.declared.reading.Kind.TheVariants as kinds
 use Rattle.mt_tlv.specs.declared.value.Tag.{Tag}
 use Rattle.mt_tlv.specs.declared.value.Tag.TheVariants.{Anonymous}
 use Rattle.mt_durable.specs.Changes.{change_bytes, entry_tree, entry_trees}
-use Rattle.mt_durable.specs.Fronts.{AreEntries, bytes_if, bytes_to_end, entries_bytes, entries_said, entry_bytes, IsFront, lower_bytes}
+use Rattle.mt_durable.specs.Fronts.{AreEntries, bytes_if, bytes_to_end, entries_bytes, entries_said, entry_bytes, IsFront, IsKeyInFront, IsSplit, lower_bytes}
 use Rattle.mt_durable.specs.Lengths.{Begins}
 use Rattle.mt_durable.specs.declared.image.Front.{Front}
 use Rattle.mt_durable.specs.Keys.{is_before, is_same}
@@ -134,6 +134,17 @@ pub record HasFront (bytes : List ℕ) : Type 0 where
 abbrev pub front_begins : (bytes : List ℕ) → HasFront bytes → Begins bytes
 front_begins bytes has = record { tag = Anonymous; tree = entry_tree has.entry; rest = bytes_to_end has.entries; element = has.known.element; is = has.known.is }
 
+abbrev first_or_zero : List ℕ → ℕ
+first_or_zero [] = 0
+first_or_zero (x ∷ xs) = x
+
+-- what is at its end are no entries
+no_entries : (entries : List Entry) (bytes : List ℕ) → bytes ≡ 24 ∷ [] → Says entries (22 ∷ bytes) → entries ≡ []
+no_entries [] bytes at_end says = refl
+no_entries (entry ∷ entries) bytes at_end says =
+    let same : 24 ≡ 21 = ap first_or_zero (sym at_end ∙ behind_first (entry ∷ entries) 22 bytes says.narrow) in
+    absurd (omega (arith, same))
+
 module _ (read : (entries : List Entry) (bytes : List ℕ) → Says entries bytes → change_at bytes ≡ Some entries) where
   by_entries : ((tag : Tag) (v : Tree) → IsTag tag → IsAllowed v deepest → length (narrow tag v) ≤ longest → IsElement tag v (narrow tag v))
       → (entries : List Entry) (bytes : List ℕ) → entries_said bytes ≡ entries → Says entries (22 ∷ bytes) → (bytes ≡ 24 ∷ [] → ⊥) → HasFront bytes
@@ -150,28 +161,67 @@ module _ (read : (entries : List Entry) (bytes : List ℕ) → Says entries byte
       let says : Says has.entries (22 ∷ front.rest.now) = subst (λ (b : List ℕ). Says has.entries (22 ∷ b)) (sym rest) has.known.says in
       subst (λ (es : List Entry). IsFront es (Some front)) (sym has.said) (key, value, own, (has.entries, says), said_is read has.entries (22 ∷ front.rest.now) says)
 
--- The entry in front, and the entries before a key.
-pub lower_none : (key : List ℕ) (entries : List Entry) (front : Front) → IsFront entries (Some front) → is_before front.key.now key ≡ false → lower_bytes key entries ≡ []
-lower_none key [] front is not_before = absurd is
-lower_none key (entry ∷ entries) front is not_before =
-    let here : is_before entry.key key ≡ false = ap (λ (k : List ℕ). is_before k key) (sym is.0) ∙ not_before in
+  -- the key of the entry in front, and its bytes cut off
+  pub is_key : (bytes : List ℕ) (has : HasFront bytes) (key : Option (List ℕ)) → key ≡ Some has.entry.key → IsKeyInFront (entries_said bytes) key
+  is_key bytes has key is = subst (λ (k : Option (List ℕ)). IsKeyInFront (entries_said bytes) k) (sym is) (subst (λ (es : List Entry). IsKeyInFront es (Some has.entry.key)) (sym has.said) refl)
+
+  pub is_split : (bytes : List ℕ) (has : HasFront bytes) (own rest : List ℕ) → own ≡ entry_bytes has.entry → rest ≡ bytes_to_end has.entries → IsSplit (entries_said bytes) own rest
+  is_split bytes has own rest same left =
+      let says : Says has.entries (22 ∷ rest) = subst (λ (b : List ℕ). Says has.entries (22 ∷ b)) (sym left) has.known.says in
+      subst (λ (es : List Entry). IsSplit es own rest) (sym has.said) (same, (has.entries, says), said_is read has.entries (22 ∷ rest) says)
+
+  -- entries that are some are not at their end
+  pub goes_on : (bytes : List ℕ) → AreEntries bytes → (entries_said bytes ≡ [] → ⊥) → bytes ≡ 24 ∷ [] → ⊥
+  goes_on bytes are some at_end =
+      let says : Says (entries_said bytes) (22 ∷ bytes) = says_said read (22 ∷ bytes) are in
+      some (no_entries (entries_said bytes) bytes at_end says)
+
+-- The key of the entry in front, its bytes, and the entries before a key.
+pub lower_none : (key : List ℕ) (entries : List Entry) (first : List ℕ) → IsKeyInFront entries (Some first) → is_before first key ≡ false → lower_bytes key entries ≡ []
+lower_none key [] first is not_before = absurd is
+lower_none key (entry ∷ entries) first is not_before =
+    let here : is_before entry.key key ≡ false = ap (λ (k : List ℕ). is_before k key) (sym is) ∙ not_before in
     ap (λ (b : Bool). entries_bytes (take (if b then suc (count_before key entries) else 0) (entry ∷ entries))) here
 
-pub lower_more : (key : List ℕ) (entries : List Entry) (front : Front) → IsFront entries (Some front) → is_before front.key.now key ≡ true → lower_bytes key entries ≡ front.bytes.now ++ lower_bytes key (entries_said front.rest.now)
-lower_more key [] front is before = absurd is
-lower_more key (entry ∷ entries) front is before =
-    let here : is_before entry.key key ≡ true = ap (λ (k : List ℕ). is_before k key) (sym is.0) ∙ before in
+pub lower_more : (key : List ℕ) (entries : List Entry) (first bytes rest : List ℕ) → IsKeyInFront entries (Some first) → IsSplit entries bytes rest → is_before first key ≡ true
+    → lower_bytes key entries ≡ bytes ++ lower_bytes key (entries_said rest)
+lower_more key [] first bytes rest is split before = absurd is
+lower_more key (entry ∷ entries) first bytes rest is split before =
+    let here : is_before entry.key key ≡ true = ap (λ (k : List ℕ). is_before k key) (sym is) ∙ before in
     ap (λ (b : Bool). entries_bytes (take (if b then suc (count_before key entries) else 0) (entry ∷ entries))) here
-    ∙ ap (λ (l : List ℕ). l ++ lower_bytes key entries) (sym is.2)
-    ∙ ap (λ (l : List Entry). front.bytes.now ++ lower_bytes key l) (sym is.4)
+    ∙ ap (λ (l : List ℕ). l ++ lower_bytes key entries) (sym split.0)
+    ∙ ap (λ (l : List Entry). bytes ++ lower_bytes key l) (sym split.2)
 
-pub lower_left : (key : List ℕ) (entries : List Entry) (front : Front) → IsFront entries (Some front) → is_before front.key.now key ≡ true
-    → drop (count_before key (entries_said front.rest.now)) (entries_said front.rest.now) ≡ drop (count_before key entries) entries
-lower_left key [] front is before = absurd is
-lower_left key (entry ∷ entries) front is before =
-    let here : is_before entry.key key ≡ true = ap (λ (k : List ℕ). is_before k key) (sym is.0) ∙ before in
-    ap (λ (l : List Entry). drop (count_before key l) l) is.4
+pub lower_left : (key : List ℕ) (entries : List Entry) (first bytes rest : List ℕ) → IsKeyInFront entries (Some first) → IsSplit entries bytes rest → is_before first key ≡ true
+    → drop (count_before key (entries_said rest)) (entries_said rest) ≡ drop (count_before key entries) entries
+lower_left key [] first bytes rest is split before = absurd is
+lower_left key (entry ∷ entries) first bytes rest is split before =
+    let here : is_before entry.key key ≡ true = ap (λ (k : List ℕ). is_before k key) (sym is) ∙ before in
+    ap (λ (l : List Entry). drop (count_before key l) l) split.2
     ∙ sym (ap (λ (b : Bool). drop (if b then suc (count_before key entries) else 0) (entry ∷ entries)) here)
+
+pub no_key_in_front : (entries : List Entry) → IsKeyInFront entries None → entries ≡ []
+no_key_in_front [] is = refl
+no_key_in_front (entry ∷ entries) is = absurd is
+
+pub some_in_front : (entries : List Entry) (first : List ℕ) → IsKeyInFront entries (Some first) → entries ≡ [] → ⊥
+some_in_front [] first is empty = is
+some_in_front (entry ∷ entries) first is empty = omega (arith, ap length empty)
+
+pub entries_split : (entries : List Entry) (bytes rest : List ℕ) → IsSplit entries bytes rest → AreEntries rest
+entries_split [] bytes rest is = absurd is
+entries_split (entry ∷ entries) bytes rest is = is.1
+
+pub fewer_split : (entries : List Entry) (bytes rest : List ℕ) → IsSplit entries bytes rest → suc (length (entries_said rest)) ≡ length entries
+fewer_split [] bytes rest is = absurd is
+fewer_split (entry ∷ entries) bytes rest is = ap (λ (l : List Entry). suc (length l)) is.2
+
+-- the entry in front is passed over where it has this key
+pub passed : (key : List ℕ) (entries : List Entry) (first bytes rest : List ℕ) → IsKeyInFront entries (Some first) → IsSplit entries bytes rest → is_same key first ≡ true → entries_said rest ≡ without key entries
+passed key [] first bytes rest is split same = absurd is
+passed key (entry ∷ entries) first bytes rest is split same =
+    let here : is_same key entry.key ≡ true = ap (λ (k : List ℕ). is_same key k) (sym is) ∙ same in
+    split.2 ∙ sym (ap (λ (b : Bool). if b then entries else entry ∷ entries) here)
 
 pub none_in_front : (entries : List Entry) → IsFront entries None → entries ≡ []
 none_in_front [] is = refl
@@ -184,13 +234,6 @@ entries_behind (entry ∷ entries) front is = is.3
 pub fewer : (entries : List Entry) (front : Front) → IsFront entries (Some front) → suc (length (entries_said front.rest.now)) ≡ length entries
 fewer [] front is = absurd is
 fewer (entry ∷ entries) front is = ap (λ (l : List Entry). suc (length l)) is.4
-
--- the entry in front is passed over where it has this key
-pub passed : (key : List ℕ) (entries : List Entry) (front : Front) → IsFront entries (Some front) → is_same key front.key.now ≡ true → entries_said front.rest.now ≡ without key entries
-passed key [] front is same = absurd is
-passed key (entry ∷ entries) front is same =
-    let here : is_same key entry.key ≡ true = ap (λ (k : List ℕ). is_same key k) (sym is.0) ∙ same in
-    is.4 ∙ sym (ap (λ (b : Bool). if b then entries else entry ∷ entries) here)
 
 -- the entry in front of a change, merged
 pub merged_front : (entries map : List Entry) (front : Front) → IsFront entries (Some front) → keys_ascend entries ≡ true

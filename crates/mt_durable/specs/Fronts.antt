@@ -54,6 +54,18 @@ IsFront (entry ∷ entries) None = ⊥
 IsFront (entry ∷ entries) (Some front) = (front.key.now ≡ entry.key) × (front.has_value ≡ has_value entry.value) × (front.bytes.now ≡ entry_bytes entry)
     × AreEntries front.rest.now × (entries_said front.rest.now ≡ entries)
 
+-- The key of the entry in front, none at the end.
+abbrev pub IsKeyInFront : List Entry → Option (List ℕ) → Type 0
+IsKeyInFront [] None = ⊤
+IsKeyInFront [] (Some key) = ⊥
+IsKeyInFront (entry ∷ entries) None = ⊥
+IsKeyInFront (entry ∷ entries) (Some key) = key ≡ entry.key
+
+-- Bytes are those of the entry in front, and the rest are the entries behind it.
+abbrev pub IsSplit : List Entry → List ℕ → List ℕ → Type 0
+IsSplit [] bytes rest = ⊥
+IsSplit (entry ∷ entries) bytes rest = (bytes ≡ entry_bytes entry) × AreEntries rest × (entries_said rest ≡ entries)
+
 -- The entry that stands in front, as its key and its bytes say.
 pub record Stands (front : Front) : Type 0 where
   pub entry : Entry

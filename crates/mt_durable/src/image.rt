@@ -1,7 +1,7 @@
 //! A change merged into an image as bytes, in the memory that is there.
 
-ghost use Rattle.std.specs.Prelude.{◌≡◌, ◌≤◌, ◌+◌, ◌++◌, ◌∷◌, ℕ, List, Ok, Some, drop, length, take, option_map, IfSome};
-ghost use Rattle.mt_durable.specs.Fronts.{AreEntries, IsFront, Names, array_octet, bytes_if, entries_said, entry_bytes, is_leave, lower_bytes};
+ghost use Rattle.std.specs.Prelude.{◌≡◌, ◌≢◌, ◌≤◌, ◌+◌, ◌++◌, ◌∷◌, ℕ, List, [], Ok, Some, drop, length, take, option_map, IfSome};
+ghost use Rattle.mt_durable.specs.Fronts.{AreEntries, IsFront, IsKeyInFront, IsSplit, Names, array_octet, bytes_if, entries_said, entry_bytes, is_leave, lower_bytes};
 ghost use Rattle.mt_durable.specs.Images.{IsImage, image_after};
 ghost use Rattle.mt_durable.specs.Keeping.{IsChange};
 ghost use Rattle.mt_durable.specs.Setting.{count_before, without};
@@ -121,11 +121,12 @@ pub(crate) fn behind_lower<'a>(key: &[u8], image: &'a [u8]) -> &'a [u8]
     ensures left { entries_said result.now ≡ drop (count_before key.now (entries_said image.now)) (entries_said image.now) }
 {
     let mut left = image;
-    'lower: while let Some(entry) = entry_in_front(left) {
-        if !is_before(entry.key, key) {
+    'lower: while let Some(front) = key_in_front(left) {
+        if !is_before(front, key) {
             return left;
         }
-        left = entry.rest;
+        let (_, rest) = split_front(left);
+        left = rest;
     }
     left
 }
@@ -136,10 +137,52 @@ fn pass_same<'a>(key: &[u8], entries: &'a [u8]) -> &'a [u8]
     ensures entries { AreEntries result.now }
     ensures left { entries_said result.now ≡ without key.now (entries_said entries.now) }
 {
-    match entry_in_front(entries) {
-        Some(entry) if is_same(key, entry.key) => entry.rest,
+    match key_in_front(entries) {
+        Some(front) if is_same(key, front) => {
+            let (_, rest) = split_front(entries);
+            rest
+        }
         _ => entries,
     }
+}
+
+// The key of the entry in front: none at the end. It does not go over the value.
+fn key_in_front<'a>(entries: &'a [u8]) -> Option<&'a [u8]>
+    requires { AreEntries entries.now }
+    ensures { IsKeyInFront (entries_said entries.now) (option_map (λ key. key.now) result) }
+{
+    bytes_of_a_change_are_read();
+    narrow_is_element();
+    let [first, ..] = entries else {
+        return None;
+    };
+    if *first == END {
+        return None;
+    }
+    first_key(entries)
+}
+
+// The key of the entry that stands here.
+fn first_key<'a>(bytes: &'a [u8]) -> Option<&'a [u8]>
+    ensures { (entry : Entry) (rest : List ℕ) → IsElement Anonymous (entry_tree entry) (entry_bytes entry) → bytes.now ≡ entry_bytes entry ++ rest
+        → option_map (λ key. key.now) result ≡ Some entry.key }
+{
+    cursor_comes_over_the_element();
+    let mut cursor = Cursor::new(bytes);
+    pass(&mut cursor);
+    next_octets(&mut cursor)
+}
+
+// The bytes of the entry in front, and those behind it.
+fn split_front<'a>(entries: &'a [u8]) -> (&'a [u8], &'a [u8])
+    requires entries { AreEntries entries.now }
+    requires some { entries_said entries.now ≢ [] }
+    ensures front { IsSplit (entries_said entries.now) result.0.now result.1.now }
+    ensures parts { entries.now ≡ result.0.now ++ result.1.now }
+{
+    bytes_of_a_change_are_read();
+    narrow_is_element();
+    entries.split_at(element_length(entries))
 }
 
 /// What stands in front of entries: none at the end.

@@ -7,7 +7,7 @@ ghost use Rattle.mt_durable.specs.Reading.{said};
 ghost use Rattle.mt_durable.specs.Setting.{with_all};
 ghost use Rattle.mt_grammar.specs.Grammar.{is_in_grammar};
 ghost use Rattle.mt_journal.specs.Recovering.{FaultHasCause, HasPlace, HasReadCause, IfNotAJournal, OnlyRead};
-ghost use Rattle.mt_journal.specs.Standing.{switch_calls};
+ghost use Rattle.mt_journal.specs.Standing.{fits_at, switch_calls};
 ghost use Rattle.mt_journal.specs.Stopping.{Outlasts};
 ghost use Rattle.mt_model.specs.texts.Contents.{Contents, contents_of};
 ghost use Rattle.mt_outside.specs.Disk.{LeavesOnly};
@@ -125,6 +125,36 @@ impl<D: Disk> Store<D> {
                 Err(JournalFault::Memory)
             }
         }
+    }
+
+    /// Puts the image of the map in the place of the journal's list, in the calls of a commit, so that a recovery has it alone to read. It
+    /// takes no memory, and is for a store to which was committed since it was recovered.
+    pub fn compact(&mut self) -> Result<(), Failed>
+        requires in_use { self.old.rolled ≡ None }
+        requires admitted { IsTrue (is_in_grammar self.old.store.image) }
+        ensures image { self.new.store.image ≡ self.old.store.image }
+        ensures told { self.new.rolled ≡ None }
+        ensures failed { self.new.store.journal.failed ≡ is_err result }
+        ensures cause { self.old.store.journal.failed ≡ false → HasCause (D.faults self.old.store.journal.disk) (D.faults self.new.store.journal.disk) result }
+        // Where a call has failed, none is made.
+        ensures still { IsTrue self.old.store.journal.failed → IsErr result × (self.new ≡ self.old) }
+        ensures kept { KeepsMap D.contents D.images self.old.store.journal.disk self.old.store.journal.place self.old.store.image
+            → OnOk result (KeepsMap D.contents D.images self.new.store.journal.disk self.new.store.journal.place self.new.store.image) }
+        // Of what a crash at any moment leaves the same is recovered as before.
+        ensures moments { (contents : Contents) → KeepsMap D.contents D.images self.old.store.journal.disk self.old.store.journal.place self.old.store.image
+            → LeavesOnly D.moment D.images_since self.old.store.journal.disk self.new.store.journal.disk (RecoversFrom contents self.old.store.image) }
+        // Ok leaves so many calls fewer until the disk is to stop.
+        ensures lasts { OnOk result ((D.allowed self.new.store.journal.disk ≡ fewer (switch_calls self.old.store.journal.place) (D.allowed self.old.store.journal.disk))
+            × Outlasts (switch_calls self.old.store.journal.place) (D.allowed self.old.store.journal.disk)) }
+    {
+        self.store.compact()
+    }
+
+    /// Whether a change of this length fits into the current slot of the journal; where it does not, a commit puts the image into the other.
+    pub fn fits(&self, length: usize) -> bool
+        ensures { result ≡ fits_at self.now.store.journal.place length }
+    {
+        self.store.journal().fits(length)
     }
 
     /// The map that the journal has: before the first commit that from before the rollback.

@@ -1,6 +1,6 @@
 //! What goes to the journal of a node that plays, on a disk in memory: commits, and one in which the disk stops.
 
-ghost use Rattle.std.specs.Prelude.{◌≡◌, ◌≢◌, ◌<◌, ◌≤◌, ◌^◌, List, [], Some, IfOk, IsTrue, OnOk};
+ghost use Rattle.std.specs.Prelude.{◌≡◌, ◌≢◌, ◌<◌, ◌≤◌, ◌^◌, List, [], None, Some, IfOk, IsTrue, OnOk};
 ghost use Rattle.mt_durable.specs.Keeping.{HasRoom, IsAdmitted, IsChange};
 ghost use Rattle.mt_durable.specs.Maps.{have_values, keys_ascend};
 ghost use Rattle.mt_durable.specs.Reading.{Says};
@@ -21,13 +21,34 @@ use mt_keeping::{
 use mt_outside::{Fate, MemDisk};
 use std::alloc::{AllocError, Global};
 
-/// Commits a change, and lets the disk forget what is safe by then, so that a long run's memory does not grow.
+// How many bytes a slot of the journal has for an image and the changes behind it, without those that frame the image.
+const SLOT_ROOM: usize = 1_048_566;
+
+// Behind so many bytes of changes the image is written. A recovery goes over the whole map for each change.
+const MOST_CHANGES: usize = 1_024;
+
+/// Commits a change, and lets the disk forget what is safe by then. Where many changes stand behind the image of the journal, it is
+/// written anew, so that neither a recovery nor a long run's memory grows with what was committed before.
 pub(crate) fn commit(store: &mut Store<MemDisk>, change: &[u8]) -> Result<(), AllocError>
     requires form { IsChange change.now }
     requires room { HasRoom change.now (Some (told_map store.old)) }
     requires admitted { IsAdmitted is_in_grammar change.now (Some (told_map store.old)) }
     ensures { (entries : List Entry) → IsReady store.old → IsTrue (keys_ascend (told_map store.old)) → IsTrue (have_values (told_map store.old)) → Says entries change.now
         → OnOk result (Keeps store.new (with_all entries (told_map store.old))) }
+{
+    commit_behind(store, change)?;
+    compact_if_long(store)
+}
+
+// Commits a change behind the others.
+fn commit_behind(store: &mut Store<MemDisk>, change: &[u8]) -> Result<(), AllocError>
+    requires form { IsChange change.now }
+    requires room { HasRoom change.now (Some (told_map store.old)) }
+    requires admitted { IsAdmitted is_in_grammar change.now (Some (told_map store.old)) }
+    ensures keeps { (entries : List Entry) → IsReady store.old → IsTrue (keys_ascend (told_map store.old)) → IsTrue (have_values (told_map store.old)) → Says entries change.now
+        → OnOk result (Keeps store.new (with_all entries (told_map store.old))) }
+    ensures in_use { OnOk result (store.new.rolled ≡ None) }
+    ensures admitted { OnOk result (IsTrue (is_in_grammar store.new.store.image)) }
 {
     states_may_be_committed();
     let Ok(()) = store.commit(change) else {
@@ -38,6 +59,28 @@ pub(crate) fn commit(store: &mut Store<MemDisk>, change: &[u8]) -> Result<(), Al
     // It has not stopped, so it only forgets where it was to stop.
     disk.restart();
     Ok(())
+}
+
+// Writes the image of the map in the place of the changes, where there are many.
+fn compact_if_long(store: &mut Store<MemDisk>) -> Result<(), AllocError>
+    requires in_use { store.old.rolled ≡ None }
+    requires admitted { IsTrue (is_in_grammar store.old.store.image) }
+    ensures { (map : List Entry) → Keeps store.old map → OnOk result (Keeps store.new map) }
+{
+    if !is_long(store) {
+        return Ok(());
+    }
+    let Ok(()) = store.compact() else {
+        return Err(AllocError);
+    };
+    store.disk_mut().forget();
+    Ok(())
+}
+
+// Whether many changes stand behind the image.
+fn is_long(store: &Store<MemDisk>) -> bool {
+    let image = store.image().as_slice().len();
+    !store.fits((SLOT_ROOM - MOST_CHANGES).saturating_sub(image))
 }
 
 /// The same where there is a change, and nothing where there is none.

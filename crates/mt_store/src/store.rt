@@ -172,6 +172,33 @@ impl<D: Disk, F: MapForm> Store<D, F> {
         Ok(())
     }
 
+    /// Puts the image of the map in the place of the journal's list, in the calls of a commit, so that a recovery has it alone to read. The
+    /// map stays. It takes no memory.
+    pub fn compact(&mut self) -> Result<(), Failed>
+        requires admitted { IsTrue (F.admits self.old.image) }
+        ensures image { self.new.image ≡ self.old.image }
+        ensures failed { self.new.journal.failed ≡ is_err result }
+        ensures cause { self.old.journal.failed ≡ false → HasCause (D.faults self.old.journal.disk) (D.faults self.new.journal.disk) result }
+
+        // Where a call has failed, none is made.
+        ensures still { IsTrue self.old.journal.failed → IsErr result × (self.new ≡ self.old) }
+        // After Ok a crash leaves a file that leads to the map, and nothing else.
+        ensures kept { Keeps D.contents D.images F.image F.change self.old.journal.disk self.old.journal.place self.old.image
+            → OnOk result (Keeps D.contents D.images F.image F.change self.new.journal.disk self.new.journal.place self.new.image) }
+        // So does one at any moment.
+        ensures moments { Keeps D.contents D.images F.image F.change self.old.journal.disk self.old.journal.place self.old.image
+            → LeavesOnly D.moment D.images_since self.old.journal.disk self.new.journal.disk (Holds F.image F.change self.old.image) }
+        // Ok leaves so many calls fewer until the disk is to stop.
+        ensures lasts { OnOk result ((D.allowed self.new.journal.disk ≡ fewer (switch_calls self.old.journal.place) (D.allowed self.old.journal.disk))
+            × Outlasts (switch_calls self.old.journal.place) (D.allowed self.old.journal.disk)) }
+    {
+        bytes_of_a_change_are_read();
+        if self.journal.has_failed() {
+            return Err(Failed);
+        }
+        switch_to(&mut self.journal, self.image.as_slice())
+    }
+
     /// The image of the map.
     pub fn image(&self) -> &Image
         ensures { result.now ≡ self.now.image }
