@@ -1,5 +1,4 @@
 pub mod Askings
-pub mod Cuts
 pub mod Ends
 pub mod Readings
 pub mod Recordings

@@ -7,15 +7,16 @@ use Rattle.std.proofs.lemmas.List.Elements.{All-append, All-cons, All-nil}
 use Rattle.hex.specs.Hex.{decode_of}
 use Rattle.hex.specs.declared.error.FromHexError.{FromHexError}
 use Rattle.hex.proofs.HexLemmas.{decode_of-ok}
-use Rattle.mt_files.specs.declared.line_fault.LineFault.{LineFault}
-use Rattle.mt_files.specs.declared.line_fault.LineKind.{LineKind}
+use Rattle.mt_model.specs.declared.texts.line_fault.LineFault.{LineFault}
+use Rattle.mt_model.specs.declared.texts.line_fault.LineKind.{LineKind}
 use Rattle.mt_files.specs.Event.{time_in}
 use Rattle.mt_files.specs.Field.{at_least, number_of, ok_of, opcode_in, up_to}
 use Rattle.mt_files.specs.Lines.{fields_of, lines_of, onto_line, parts_of, text_is}
 use Rattle.mt_ctl.specs.declared.steps.Kind.{Kind}
 use Rattle.mt_ctl.specs.declared.steps.Kind.TheVariants.{New}
 use Rattle.mt_ctl.specs.declared.steps.Step.{Step}
-use Rattle.mt_ctl.specs.Script.{ack_in, exchange_in, followed, line_step, line_told, node_in, node_of, onto, ours_in, ours_of, request_in, sent_by, sent_in, step_payload_in, steps_from}
+use Rattle.mt_files.specs.Told.{followed, onto}
+use Rattle.mt_ctl.specs.Script.{ack_in, exchange_in, line_step, line_told, node_in, node_of, ours_in, ours_of, request_in, sent_by, sent_in, step_payload_in, steps_from}
 use Rattle.mt_ctl.specs.Steps.{AreShort}
 
 -- steps in front of what the rest tells

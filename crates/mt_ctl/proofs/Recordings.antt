@@ -11,10 +11,10 @@ use Rattle.std.proofs.lemmas.List.{length-append}
 use Rattle.std.proofs.lemmas.List.Elements.{All-nil, All-cons}
 use Rattle.hex.specs.Hex.{encode_lower, lower_digits}
 use Rattle.hex.proofs.HexLemmas.{length-encode_with}
-use Rattle.mt_files.specs.declared.line_fault.LineFault.{LineFault}
-use Rattle.mt_files.specs.declared.line_fault.LineFault.TheVariants.{Line, TooLong}
-use Rattle.mt_files.specs.declared.line_fault.LineKind.{LineKind}
-use Rattle.mt_files.specs.declared.line_fault.LineKind.TheVariants.{Head, Time}
+use Rattle.mt_model.specs.declared.texts.line_fault.LineFault.{LineFault}
+use Rattle.mt_model.specs.declared.texts.line_fault.LineFault.TheVariants.{Line, TooLong}
+use Rattle.mt_model.specs.declared.texts.line_fault.LineKind.{LineKind}
+use Rattle.mt_model.specs.declared.texts.line_fault.LineKind.TheVariants.{Head, Time}
 use Rattle.mt_files.specs.Event.{event_line}
 use Rattle.mt_files.specs.Field.{payload_text, peer_text}
 use Rattle.mt_files.specs.Form.{HasForm}
@@ -27,7 +27,8 @@ use Rattle.mt_model.specs.texts.Events.{event_time}
 use Rattle.mt_session.specs.Datagrams.{datagram, datagram_length}
 use Rattle.mt_ctl.specs.declared.steps.Step.{Step}
 use Rattle.mt_ctl.specs.Asking.{controller, event_of, events_from}
-use Rattle.mt_ctl.specs.Script.{at_line, followed, head, in_time, line_step, line_told, onto, script_of, steps_behind_head, steps_from}
+use Rattle.mt_files.specs.Told.{at_line, followed, onto}
+use Rattle.mt_ctl.specs.Script.{head, in_time, line_step, line_told, script_of, steps_behind_head, steps_from}
 use Rattle.mt_ctl.specs.Steps.{header_of, next_behind}
 use Rattle.mt_ctl.proofs.Askings.{length-payload, length-short}
 use Rattle.mt_ctl.proofs.Readings.{IsFormed, line_step-form, total, total-lines}

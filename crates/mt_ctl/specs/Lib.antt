@@ -4,3 +4,4 @@ pub mod Script
 pub mod Showing
 pub mod Steps
 pub mod Testing
+pub mod Text

@@ -1,13 +1,14 @@
 -- Scripts: which texts they are, what they send, and the first fault of every other text.
 use Rattle.std.specs.Prelude.{ℕ, ◌+◌, nat_lt, ◌||◌, Bool, List, [], ◌∷◌, length, Option, Some, None, Result, Ok, Err, if◌then◌else◌, codes}
 use Rattle.std.specs.Option.{option_map}
-use Rattle.mt_files.specs.declared.line_fault.LineFault.{LineFault}
-use Rattle.mt_files.specs.declared.line_fault.LineFault.TheVariants.{Line, TooLong}
-use Rattle.mt_files.specs.declared.line_fault.LineKind.{LineKind}
-use Rattle.mt_files.specs.declared.line_fault.LineKind.TheVariants.{Head, Form, Number, Hex, Time}
+use Rattle.mt_model.specs.declared.texts.line_fault.LineFault.{LineFault}
+use Rattle.mt_model.specs.declared.texts.line_fault.LineFault.TheVariants.{Line, TooLong}
+use Rattle.mt_model.specs.declared.texts.line_fault.LineKind.{LineKind}
+use Rattle.mt_model.specs.declared.texts.line_fault.LineKind.TheVariants.{Head, Form, Number, Hex, Time}
 use Rattle.mt_files.specs.Event.{time_in}
 use Rattle.mt_files.specs.Field.{number_between, opcode_in, payload_in}
 use Rattle.mt_files.specs.Lines.{fields_of, lines_of, text_is}
+use Rattle.mt_files.specs.Told.{at_line, followed}
 use Rattle.mt_ctl.specs.declared.steps.Kind.{Kind}
 use Rattle.mt_ctl.specs.declared.steps.Kind.TheVariants.{New, Ours, Node}
 use Rattle.mt_ctl.specs.declared.steps.Step.{Step}
@@ -87,10 +88,6 @@ abbrev pub in_time : ℕ → Result Step LineKind → Result Step LineKind
 in_time before (Err kind) = Err kind
 in_time before (Ok step) = if nat_lt step.ms before then Err Time else Ok step
 
-abbrev pub at_line : ℕ → Result Step LineKind → Result Step LineFault
-at_line number (Err kind) = Err (Line number kind)
-at_line number (Ok step) = Ok step
-
 -- whether the line of this number has more than 4,096 bytes, or is one of more than 65,536 lines
 abbrev pub is_too_long : ℕ → List ℕ → Bool
 is_too_long number line = nat_lt 4096 (length line) || nat_lt 65536 number
@@ -98,15 +95,6 @@ is_too_long number line = nat_lt 4096 (length line) || nat_lt 65536 number
 -- what the line of this number sends, behind lines up to this time
 abbrev pub line_told : ℕ → ℕ → List ℕ → Result Step LineFault
 line_told number before line = if is_too_long number line then Err TooLong else at_line number (in_time before (line_step line))
-
-abbrev pub onto : Step → Result (List Step) LineFault → Result (List Step) LineFault
-onto step (Ok steps) = Ok (step ∷ steps)
-onto step (Err fault) = Err fault
-
--- a step, and then the rest, which depends on it
-abbrev pub followed : Result Step LineFault → (Step → Result (List Step) LineFault) → Result (List Step) LineFault
-followed (Err fault) rest = Err fault
-followed (Ok step) rest = onto step (rest step)
 
 -- the steps of lines, the first of which has this number and stands behind this time, or the first fault
 abbrev pub steps_from : ℕ → ℕ → List (List ℕ) → Result (List Step) LineFault

@@ -2,21 +2,22 @@
 //!
 //! - `steps`: the messages of a script;
 //! - `reading`: a script read whole;
-//! - `lines`, `field`: its lines, and what a single field tells;
+//! - `field`: what a single field of it tells;
 //! - `mirroring`: the row of the other side of a session;
 //! - `asking`: the messages of a script as datagrams;
 //! - `showing`: the datagrams of a node, opened;
+//! - `text`: what is shown, as lines;
 //! - `laws`: what holds of both ends, whatever is said.
 #![tactic(auto)]
 
 mod asking;
 mod field;
 mod laws;
-mod lines;
 mod mirroring;
 mod reading;
 mod showing;
 mod steps;
+mod text;
 
 pub use asking::{AskFault, ask};
 pub use laws::{
@@ -28,3 +29,4 @@ pub use mirroring::mirror;
 pub use reading::script;
 pub use showing::{Shown, ShownList, show};
 pub use steps::{Kind, Step, Steps, are_short};
+pub use text::write_shown;

@@ -5,11 +5,11 @@ ghost use Rattle.mt_files.specs.Lines.{fields_of, lines_of};
 ghost use Rattle.mt_ctl.specs.Script.{line_step, line_told, node_in, ours_in, request_in, script_of, sent_on, steps_from};
 ghost use Rattle.mt_ctl.specs.Steps.{AreShort};
 
-use crate::field::{ack, exchange, opcode, payload, time};
-use crate::lines::{cut, cut_line, five_fields, three_fields};
-use crate::steps::{Kind, Step, Steps};
-use mt_files::{LineFault, LineKind};
+use crate::field::{ack, exchange};
+use crate::steps::{Kind, STEP_BYTES, Step, Steps};
+use mt_files::{cut, cut_line, five_fields, opcode, payload, three_fields, time};
 use mt_model::limits::LINE_BYTES;
+use mt_model::{LineFault, LineKind};
 use std::alloc::{AllocError, Global};
 
 /// The most lines of a script, its head among them.
@@ -95,7 +95,7 @@ fn told(alloc: Global, number: u64, before: u64, line: &[u8]) -> Result<Step, Li
 fn step_of(alloc: Global, line: &[u8]) -> Result<Told, AllocError>
     ensures { IfOk result (λ told. told ≡ line_step line.now) }
 {
-    let Some((letter, fields)) = cut(line) else {
+    let Some((letter, fields)) = cut(b' ', line) else {
         return Ok(Err(LineKind::Form));
     };
     sent_on(alloc, letter, fields)
@@ -129,7 +129,7 @@ fn request(alloc: Global, fields: &[u8]) -> Result<Told, AllocError>
     let Some(opcode) = opcode(opcode_text) else {
         return Ok(Err(LineKind::Hex));
     };
-    let Some(payload) = payload(alloc, text)? else {
+    let Some(payload) = payload(alloc, STEP_BYTES, text)? else {
         return Ok(Err(LineKind::Hex));
     };
     Ok(Ok(Step {
@@ -154,7 +154,7 @@ fn ours(alloc: Global, fields: &[u8]) -> Result<Told, AllocError>
     let Some(opcode) = opcode(opcode_text) else {
         return Ok(Err(LineKind::Hex));
     };
-    let Some(payload) = payload(alloc, text)? else {
+    let Some(payload) = payload(alloc, STEP_BYTES, text)? else {
         return Ok(Err(LineKind::Hex));
     };
     Ok(Ok(Step {
@@ -179,7 +179,7 @@ fn nodes(alloc: Global, fields: &[u8]) -> Result<Told, AllocError>
     let Some(opcode) = opcode(opcode_text) else {
         return Ok(Err(LineKind::Hex));
     };
-    let Some(payload) = payload(alloc, text)? else {
+    let Some(payload) = payload(alloc, STEP_BYTES, text)? else {
         return Ok(Err(LineKind::Hex));
     };
     Ok(Ok(Step {

@@ -13,14 +13,14 @@ use Rattle.mt_files.specs.Lines.{lines_of, text_of}
 use Rattle.mt_model.specs.texts.Contents.{Contents}
 use Rattle.mt_config.specs.declared.configuration.ConfigField.{ConfigField}
 use Rattle.mt_config.specs.declared.configuration.ConfigField.TheVariants.{Size}
-use Rattle.mt_files.specs.declared.line_fault.LineFault.{LineFault}
-use Rattle.mt_files.specs.declared.line_fault.LineFault.TheVariants as lines
+use Rattle.mt_model.specs.declared.texts.line_fault.LineFault.{LineFault}
+use Rattle.mt_model.specs.declared.texts.line_fault.LineFault.TheVariants as lines
 use Rattle.mt_endings.specs.declared.fault.Fault.{Fault}
-use Rattle.mt_endings.specs.declared.fault.Fault.TheVariants.{BadWords, BadConfig, BadRecord, ReadFault, WriteFault, Memory, DiskFault, NotAJournal, TooLong, Differ}
+use Rattle.mt_endings.specs.declared.fault.Fault.TheVariants.{BadWords, BadConfig, BadRecord, ReadFault, WriteFault, Memory, DiskFault, NotAJournal, TooLong, Differ, NoSession, Exhausted}
 use Rattle.mt_endings.specs.Faults.{fault_line, fault_of, status_of}
-use Rattle.mt_endings.specs.Endings.{Ending, Played, Recordings, all_text, configured, exit_status, in_hand_of, last_line, nothing_but, of_files, of_none, of_recording, of_recordings, recorded, recorded_both, recorded_second, without_recording}
+use Rattle.mt_endings.specs.Endings.{Ending, Played, Recordings, all_text, configured, exit_status, in_hand_of, last_line, nothing_but, of_files, of_none, of_recording, of_recordings, of_text, recorded, recorded_both, recorded_second, with_recording, without_recording}
 use Rattle.mt_endings.specs.Moments.{Input, in_hand, Moment, moment, AreCalm, AreSourcesCalm, HasSinkFailed, IsLeft, IsSinkCalm, HasRead, to_end, too_many, HasReadIf, Reads}
-use Rattle.mt_endings.specs.Parts.{Done, Finishes, IsTold, PlayedTo, Recorded, Stops, StopsCalmly, StopsConfiguring, StopsPlaying, StopsRecording, TellsThere, TookFirst, is_memory, is_read_fault, is_write_fault, no_memory, no_sink, part_of_line, told_line, wants_no_memory, whole_line}
+use Rattle.mt_endings.specs.Parts.{Done, Finishes, IsTold, PlayedTo, Recorded, Stops, StopsCalmly, StopsConfiguring, StopsPlaying, StopsReading, StopsRecording, TellsThere, TookFirst, is_memory, is_read_fault, is_write_fault, no_memory, no_sink, part_of_line, told_line, wants_no_memory, whole_line}
 use Rattle.mt_endings.specs.Run.{Ends}
 use Rattle.mt_endings.specs.Statuses.{Told, HadNoMemory, NoMemory, SourceFailed, config_failed, first_failed, second_failed, Cut, text_cut, read_fault_cut, ReadsNothing, CouldNotWrite, is_told, is_status, TellsMemory}
 
@@ -66,10 +66,25 @@ configuration_too_long bytes more = rw lt-ltb refl
 
 -- Why a recording is not played.
 
-pub recorded_too_long : (old new : Input) → IfSome old.left (λ bytes. RECORDING_BYTES < length bytes) → StopsRecording TooLong old new
-recorded_too_long old new more =
+pub unread_too_long : (old new : Input) → IfSome old.left (λ bytes. RECORDING_BYTES < length bytes) → StopsReading TooLong old new
+unread_too_long old new more =
     let l = too_many_left RECORDING_BYTES old.left more in
-    (lines.TooLong, refl, (l.0, too_many l.1 l.2, recording_too_long l.0 l.2))
+    (l.0, too_many l.1 l.2, l.2)
+
+-- a text that is not read is no recording
+pub unread_recording : (fault : Fault) (old new : Input) → StopsReading fault old new → StopsRecording fault old new
+unread_recording BadWords old new h = absurd h
+unread_recording (BadConfig field) old new h = absurd h
+unread_recording (BadRecord line kind) old new h = absurd h
+unread_recording ReadFault old new h = h
+unread_recording WriteFault old new h = absurd h
+unread_recording Memory old new h = tt
+unread_recording DiskFault old new h = absurd h
+unread_recording (NotAJournal place) old new h = absurd h
+unread_recording TooLong old new h = (lines.TooLong, refl, (h.0, h.1, recording_too_long h.0 h.2))
+unread_recording Differ old new h = absurd h
+unread_recording NoSession old new h = absurd h
+unread_recording (Exhausted line) old new h = absurd h
 
 pub recorded_badly : (fault : LineFault) (old new : Input) (bytes : List ℕ) → HasRead RECORDING_BYTES old new bytes → (fault ≡ lines.Memory) ⊎ (recording_of bytes ≡ Err fault) → StopsRecording (fault_of fault) old new
 recorded_badly (lines.Line line kind) old new bytes read (inl e) = absurd (cc)
@@ -186,6 +201,9 @@ no_disk_in_recording fault old now h is =
     let refused = subst (λ (f : Fault). StopsRecording f old now) is h in
     no_refusal refused.0 (sym refused.1)
 
+no_disk_in_reading : (fault : Fault) (old now : Input) → StopsReading fault old now → fault ≢ DiskFault
+no_disk_in_reading fault old now h is = subst (λ (f : Fault). StopsReading f old now) is h
+
 no_disk_in_playing : (fault : Fault) (all : Played) (before after : Option (List ℕ)) (old now : ℕ) → StopsPlaying fault all before after old now → fault ≢ DiskFault
 no_disk_in_playing fault all before after old now h is = subst (λ (f : Fault). StopsPlaying f all before after old now) is h
 
@@ -247,6 +265,8 @@ module _ (laws : StreamLaws) where
   calm_of (NotAJournal place) old mid wants h = h
   calm_of TooLong old mid wants h = h
   calm_of Differ old mid wants h = h
+  calm_of NoSession old mid wants h = h
+  calm_of (Exhausted line) old mid wants h = h
 
   sink_of : (fault : Fault) (old mid : Moment) → fault ≢ WriteFault → StopsCalmly fault old mid → IsSinkCalm old mid
   sink_of BadWords old mid not h = h.sink
@@ -259,6 +279,8 @@ module _ (laws : StreamLaws) where
   sink_of (NotAJournal place) old mid not h = h.sink
   sink_of TooLong old mid not h = h.sink
   sink_of Differ old mid not h = h.sink
+  sink_of NoSession old mid not h = h.sink
+  sink_of (Exhausted line) old mid not h = h.sink
 
   pub stops_calmly : (fault : Fault) (old mid : Moment) → (is_read_fault fault ≡ false → AreSourcesCalm old mid) → (is_write_fault fault ≡ false → IsSinkCalm old mid) → StopsCalmly fault old mid
   stops_calmly BadWords old mid sources sink = record { sources = sources refl; sink = sink refl }
@@ -271,6 +293,8 @@ module _ (laws : StreamLaws) where
   stops_calmly (NotAJournal place) old mid sources sink = record { sources = sources refl; sink = sink refl }
   stops_calmly TooLong old mid sources sink = record { sources = sources refl; sink = sink refl }
   stops_calmly Differ old mid sources sink = record { sources = sources refl; sink = sink refl }
+  stops_calmly NoSession old mid sources sink = record { sources = sources refl; sink = sink refl }
+  stops_calmly (Exhausted line) old mid sources sink = record { sources = sources refl; sink = sink refl }
 
   -- the files were read, and all is written but the last line
   record Stopped (fault : Fault) (ending : List ℕ → Recordings → Ending) (old mid : Moment) : Type 0 where
@@ -354,6 +378,8 @@ module _ (laws : StreamLaws) where
     fronts (NotAJournal place) not h = front_of (NotAJournal place) ending old mid (stopped_by (NotAJournal place) h)
     fronts TooLong not h = front_of TooLong ending old mid (stopped_by TooLong h)
     fronts Differ not h = front_of Differ ending old mid (stopped_by Differ h)
+    fronts NoSession not h = front_of NoSession ending old mid (stopped_by NoSession h)
+    fronts (Exhausted line) not h = front_of (Exhausted line) ending old mid (stopped_by (Exhausted line) h)
 
     row_told : (fault : Fault) → fault ≢ WriteFault → fault ≢ DiskFault → is_memory fault ≡ false → Stops fault ending old mid → StopsCalmly fault old mid → faults ≡ mid.write_faults → Took mid.written after (fault_line fault) → Ends (status_of fault) (Some ending) old new
     row_told BadWords not kept other h calm same t = absurd h
@@ -366,6 +392,8 @@ module _ (laws : StreamLaws) where
     row_told (NotAJournal place) not kept other h calm same t = stopped_told (NotAJournal place) refl refl (stopped_by (NotAJournal place) h) calm same t
     row_told TooLong not kept other h calm same t = stopped_told TooLong refl refl (stopped_by TooLong h) calm same t
     row_told Differ not kept other h calm same t = stopped_told Differ refl refl (stopped_by Differ h) calm same t
+    row_told NoSession not kept other h calm same t = stopped_told NoSession refl refl (stopped_by NoSession h) calm same t
+    row_told (Exhausted line) not kept other h calm same t = stopped_told (Exhausted line) refl refl (stopped_by (Exhausted line) h) calm same t
 
     row_cut : (fault : Fault) → fault ≢ WriteFault → is_memory fault ≡ false → Stops fault ending old mid → StopsCalmly fault old mid → TookLess mid.written after (fault_line fault) → Cut ending old new
     row_cut BadWords not other h calm t = absurd h
@@ -378,6 +406,8 @@ module _ (laws : StreamLaws) where
     row_cut (NotAJournal place) not other h calm t = stopped_cut (NotAJournal place) (stopped_by (NotAJournal place) h) calm t
     row_cut TooLong not other h calm t = stopped_cut TooLong (stopped_by TooLong h) calm t
     row_cut Differ not other h calm t = stopped_cut Differ (stopped_by Differ h) calm t
+    row_cut NoSession not other h calm t = stopped_cut NoSession (stopped_by NoSession h) calm t
+    row_cut (Exhausted line) not other h calm t = stopped_cut (Exhausted line) (stopped_by (Exhausted line) h) calm t
 
     -- nothing had failed before
     fails_once : (fault : Fault) → fault ≢ WriteFault → StopsCalmly fault old mid → RoseByOne mid.write_faults faults → HasSinkFailed old new
@@ -423,6 +453,8 @@ module _ (laws : StreamLaws) where
   configuring_stops comes_to (NotAJournal place) old now first second written faults h = absurd h
   configuring_stops comes_to TooLong old now first second written faults h = absurd h
   configuring_stops comes_to Differ old now first second written faults h = absurd h
+  configuring_stops comes_to NoSession old now first second written faults h = absurd h
+  configuring_stops comes_to (Exhausted line) old now first second written faults h = absurd h
 
   pub unconfigured : (comes_to : Contents → Recordings → Ending) (fault : Fault) (status : ℕ) (old now first second : Input) (before after : Option (List ℕ)) (old_faults new_faults : ℕ)
       → StopsConfiguring fault old now → (is_read_fault fault ≡ false → now.faults ≡ old.faults) → Finishes fault status before after old_faults new_faults
@@ -548,7 +580,7 @@ module _ (laws : StreamLaws) where
       stops_in_hand : (fault : Fault) → StopsPlaying fault all before after old_faults faults → Stops fault of_hand from_hand (to_hand after faults)
       stops_in_hand BadWords p = absurd p
       stops_in_hand (BadConfig field) p = absurd p
-      stops_in_hand (BadRecord line kind) p = absurd p
+      stops_in_hand (BadRecord line kind) p = whole_in_hand (BadRecord line kind) p
       stops_in_hand ReadFault p = absurd p
       stops_in_hand WriteFault p = (p.0, ([], h.recordings, reads_hand, subst (λ (e : Ending). TookLess before after (text_of e.lines)) (sym h.is) p.1))
       stops_in_hand Memory p = (
@@ -561,8 +593,10 @@ module _ (laws : StreamLaws) where
       )
       stops_in_hand DiskFault p = absurd p
       stops_in_hand (NotAJournal place) p = whole_in_hand (NotAJournal place) p
-      stops_in_hand TooLong p = absurd p
+      stops_in_hand TooLong p = whole_in_hand TooLong p
       stops_in_hand Differ p = whole_in_hand Differ p
+      stops_in_hand NoSession p = whole_in_hand NoSession p
+      stops_in_hand (Exhausted line) p = whole_in_hand (Exhausted line) p
 
     abbrev mid_hand : Moment
     mid_hand = to_hand before old_faults
@@ -601,6 +635,8 @@ module _ (laws : StreamLaws) where
       stops_recording (NotAJournal place) h = stops_by_refusal (NotAJournal place) h
       stops_recording TooLong h = stops_by_refusal TooLong h
       stops_recording Differ h = stops_by_refusal Differ h
+      stops_recording NoSession h = stops_by_refusal NoSession h
+      stops_recording (Exhausted line) h = stops_by_refusal (Exhausted line) h
 
       ends_unrecorded : (fault : Fault) (status : ℕ) (after : Option (List ℕ)) (new_faults : ℕ) → StopsRecording fault source_old source_new → (is_read_fault fault ≡ false → AreSourcesCalm from_hand mid_hand) → Finishes fault status before after old_faults new_faults
           → Ends status (Some of_hand) from_hand (to_hand after new_faults)
@@ -654,6 +690,52 @@ module _ (laws : StreamLaws) where
         → Recorded events old now → now.faults ≡ old.faults → StopsPlaying fault (come_to events) before between old_faults faults → (is_write_fault fault ≡ false → faults ≡ old_faults) → Finishes fault status between after faults new_faults
         → Ends status (Some (in_hand_of (of_recording come_to))) (moment in_hand old second before old_faults) (moment in_hand now second after new_faults)
     stopped_in_play events fault status between after faults new_faults held same h calm end = ends_stopped (of_recording come_to) old now second second before old_faults true false (come_to events) (one_recorded events held) same refl
+        fault status between after faults new_faults h calm end
+
+  -- Another text, with a configuration in hand. The second is not touched.
+  module _ (come_to : List ℕ → Played) (old now second : Input) (before : Option (List ℕ)) (old_faults : ℕ) where
+    text_comes : (bytes : List ℕ) (all : Played) → HasRead RECORDING_BYTES old now bytes → come_to bytes ≡ all → ComesTo (of_text come_to) old now second second true false all
+    text_comes bytes all read is = record {
+      recordings = record { first = bytes; second = left_in second.left };
+      is = ap with_recording is;
+      first_read = read;
+      second_read = (refl, IsLeft-left_in second.left);
+    }
+
+    text_stops : ((bytes : List ℕ) → RECORDING_BYTES < length bytes → come_to bytes ≡ nothing_but TooLong) → (fault : Fault) → StopsReading fault old now
+        → Stops fault (in_hand_of (of_text come_to)) (moment in_hand old second before old_faults) (moment in_hand now second before old_faults)
+    text_stops long BadWords h = absurd h
+    text_stops long (BadConfig field) h = absurd h
+    text_stops long (BadRecord line kind) h = absurd h
+    text_stops long ReadFault h = (first_failed [] hand_read refl (λ recordings. refl) h refl, laws.nothing before)
+    text_stops long WriteFault h = absurd h
+    text_stops long Memory h = stops_early (of_text come_to) old now second second before old_faults
+    text_stops long DiskFault h = absurd h
+    text_stops long (NotAJournal place) h = absurd h
+    text_stops long TooLong h =
+        whole_in_hand (of_text come_to) old now second second before old_faults true false (nothing_but TooLong) (text_comes h.0 (nothing_but TooLong) h.1 (long h.0 h.2)) before old_faults TooLong (refl, laws.nothing before)
+    text_stops long Differ h = absurd h
+    text_stops long NoSession h = absurd h
+    text_stops long (Exhausted line) h = absurd h
+
+    pub text_unread : (fault : Fault) (status : ℕ) (after : Option (List ℕ)) (new_faults : ℕ) → ((bytes : List ℕ) → RECORDING_BYTES < length bytes → come_to bytes ≡ nothing_but TooLong)
+        → StopsReading fault old now → (is_read_fault fault ≡ false → now.faults ≡ old.faults) → Finishes fault status before after old_faults new_faults
+        → Ends status (Some (in_hand_of (of_text come_to))) (moment in_hand old second before old_faults) (moment in_hand now second after new_faults)
+    text_unread fault status after new_faults long h calm end =
+        let from = moment in_hand old second before old_faults in
+        let mid = moment in_hand now second before old_faults in
+        ends_by (in_hand_of (of_text come_to)) from mid after new_faults fault status (no_disk_in_reading fault old now h) (text_stops long fault h)
+        (stops_calmly fault from mid (λ quiet. record { config = refl; first = calm quiet; second = refl }) (λ other. refl)) end
+
+    pub text_told : (bytes : List ℕ) (after : Option (List ℕ)) (new_faults : ℕ)
+        → HasRead RECORDING_BYTES old now bytes → now.faults ≡ old.faults → PlayedTo (come_to bytes) before after → new_faults ≡ old_faults
+        → Ends 0 (Some (in_hand_of (of_text come_to))) (moment in_hand old second before old_faults) (moment in_hand now second after new_faults)
+    text_told bytes after new_faults read same h calm = ends_played (of_text come_to) old now second second before old_faults true false (come_to bytes) (text_comes bytes (come_to bytes) read refl) same refl after new_faults h calm
+
+    pub text_stopped : (bytes : List ℕ) (fault : Fault) (status : ℕ) (between after : Option (List ℕ)) (faults new_faults : ℕ)
+        → HasRead RECORDING_BYTES old now bytes → now.faults ≡ old.faults → StopsPlaying fault (come_to bytes) before between old_faults faults → (is_write_fault fault ≡ false → faults ≡ old_faults) → Finishes fault status between after faults new_faults
+        → Ends status (Some (in_hand_of (of_text come_to))) (moment in_hand old second before old_faults) (moment in_hand now second after new_faults)
+    text_stopped bytes fault status between after faults new_faults read same h calm end = ends_stopped (of_text come_to) old now second second before old_faults true false (come_to bytes) (text_comes bytes (come_to bytes) read refl) same refl
         fault status between after faults new_faults h calm end
 
   -- Two recordings, with a configuration in hand.

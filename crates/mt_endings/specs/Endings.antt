@@ -4,7 +4,7 @@ use Rattle.mt_config.specs.Configuration.{configuration}
 use Rattle.mt_config.specs.declared.configuration.ConfigField.{ConfigField}
 use Rattle.mt_files.specs.Lines.{text_of}
 use Rattle.mt_files.specs.Recording.{recording_of}
-use Rattle.mt_files.specs.declared.line_fault.LineFault.{LineFault}
+use Rattle.mt_model.specs.declared.texts.line_fault.LineFault.{LineFault}
 use Rattle.mt_model.specs.declared.texts.recording.Event.{Event}
 use Rattle.mt_model.specs.texts.Contents.{Contents}
 use Rattle.mt_endings.specs.Faults.{fault_line, fault_of, status_of}
@@ -23,7 +23,7 @@ pub record Ending : Type 0 where
   pub reads_first : Bool
   pub reads_second : Bool
 
--- The bytes of the two recordings. A command that reads one alone reads the first.
+-- The bytes of the two recordings. A command that reads one alone reads the first, and so does one that reads another text.
 pub record Recordings : Type 0 where
   pub first : List ℕ
   pub second : List ℕ
@@ -90,6 +90,10 @@ of_recording come_to recordings = recorded come_to (recording_of recordings.firs
 -- by the bytes of both, where their events come to this
 abbrev pub of_recordings : (List Event → List Event → Played) → Recordings → Ending
 of_recordings come_to recordings = recorded_both come_to (recording_of recordings.first) (recording_of recordings.second)
+
+-- by the bytes of the first, where these come to this, be they a recording or another text
+abbrev pub of_text : (List ℕ → Played) → Recordings → Ending
+of_text come_to recordings = with_recording (come_to recordings.first)
 
 -- where no recording is read
 abbrev pub of_none : Played → Recordings → Ending

@@ -1,14 +1,14 @@
 -- From what stopped a run, and how that was told, to the end of the run.
-use Rattle.std.specs.Prelude.{◌≡◌, ℕ, false, List, Option, Some, None, Ok}
+use Rattle.std.specs.Prelude.{◌≡◌, ◌<◌, ℕ, false, List, length, Option, Some, None, Ok}
 use Rattle.mt_config.specs.Configuration.{configuration}
-use Rattle.mt_model.specs.declared.limits.TheConstants.{CONFIGURATION_BYTES}
+use Rattle.mt_model.specs.declared.limits.TheConstants.{CONFIGURATION_BYTES, RECORDING_BYTES}
 use Rattle.mt_model.specs.declared.texts.recording.Event.{Event}
 use Rattle.mt_model.specs.texts.Contents.{Contents}
 use Rattle.mt_endings.specs.declared.fault.Fault.{Fault}
-use Rattle.mt_endings.specs.declared.fault.Fault.TheVariants.{BadWords}
-use Rattle.mt_endings.specs.Endings.{Ending, Played, Recordings, in_hand_of, of_files, of_none, of_recording, of_recordings}
+use Rattle.mt_endings.specs.declared.fault.Fault.TheVariants.{BadWords, TooLong}
+use Rattle.mt_endings.specs.Endings.{Ending, Played, Recordings, in_hand_of, nothing_but, of_files, of_none, of_recording, of_recordings, of_text}
 use Rattle.mt_endings.specs.Moments.{HasRead, Input, Moment, in_hand, moment}
-use Rattle.mt_endings.specs.Parts.{Finishes, IsTold, PlayedTo, Recorded, StopsConfiguring, StopsPlaying, StopsRecording, TellsThere, is_read_fault, is_write_fault}
+use Rattle.mt_endings.specs.Parts.{Finishes, IsTold, PlayedTo, Recorded, StopsConfiguring, StopsPlaying, StopsReading, StopsRecording, TellsThere, is_read_fault, is_write_fault}
 use Rattle.mt_endings.specs.Run.{Ends}
 
 pub record EndingLaws : Type 0 where
@@ -54,6 +54,19 @@ pub record EndingLaws : Type 0 where
       → Recorded events first_old first_now → first_now.faults ≡ first_old.faults → Recorded others old now → now.faults ≡ old.faults
       → StopsPlaying fault (come_to events others) before between old_faults faults → (is_write_fault fault ≡ false → faults ≡ old_faults) → Finishes fault status between after faults new_faults
       → Ends status (Some (in_hand_of (of_recordings come_to))) (moment in_hand first_old old before old_faults) (moment in_hand first_now now after new_faults)
+  -- Of a command that reads another text: it was not read to its end, where too many bytes are told before all else,
+  pub text_unread : (come_to : List ℕ → Played) (fault : Fault) (status : ℕ) (old now second : Input) (before after : Option (List ℕ)) (old_faults new_faults : ℕ)
+      → ((bytes : List ℕ) → RECORDING_BYTES < length bytes → come_to bytes ≡ nothing_but TooLong)
+      → StopsReading fault old now → (is_read_fault fault ≡ false → now.faults ≡ old.faults) → Finishes fault status before after old_faults new_faults
+      → Ends status (Some (in_hand_of (of_text come_to))) (moment in_hand old second before old_faults) (moment in_hand now second after new_faults)
+  -- what it comes to was written,
+  pub text_told : (come_to : List ℕ → Played) (bytes : List ℕ) (old now second : Input) (before after : Option (List ℕ)) (old_faults new_faults : ℕ)
+      → HasRead RECORDING_BYTES old now bytes → now.faults ≡ old.faults → PlayedTo (come_to bytes) before after → new_faults ≡ old_faults
+      → Ends 0 (Some (in_hand_of (of_text come_to))) (moment in_hand old second before old_faults) (moment in_hand now second after new_faults)
+  -- or it was not.
+  pub text_stopped : (come_to : List ℕ → Played) (bytes : List ℕ) (fault : Fault) (status : ℕ) (old now second : Input) (before between after : Option (List ℕ)) (old_faults faults new_faults : ℕ)
+      → HasRead RECORDING_BYTES old now bytes → now.faults ≡ old.faults → StopsPlaying fault (come_to bytes) before between old_faults faults → (is_write_fault fault ≡ false → faults ≡ old_faults) → Finishes fault status between after faults new_faults
+      → Ends status (Some (in_hand_of (of_text come_to))) (moment in_hand old second before old_faults) (moment in_hand now second after new_faults)
   -- what was made of a configuration alone was written, or was not
   pub made : (all : Played) (first second : Input) (before after : Option (List ℕ)) (old_faults new_faults : ℕ)
       → PlayedTo all before after → new_faults ≡ old_faults → Ends 0 (Some (in_hand_of (of_none all))) (moment in_hand first second before old_faults) (moment in_hand first second after new_faults)

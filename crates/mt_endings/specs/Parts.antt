@@ -1,5 +1,5 @@
 -- The parts of a run: what holds where one of them stops.
-use Rattle.std.specs.Prelude.{ℕ, ◌≡◌, ◌++◌, Bool, true, false, List, [], Option, Some, None, Ok, Err, ⊤}
+use Rattle.std.specs.Prelude.{ℕ, ◌≡◌, ◌<◌, ◌++◌, Bool, true, false, List, [], length, Option, Some, None, Ok, Err, ⊤}
 use Rattle.mt_outside.specs.Stream.{RoseByOne, Took, TookLess}
 use Rattle.mt_model.specs.declared.texts.config.Config.{Config}
 use Rattle.mt_model.specs.declared.limits.TheConstants.{CONFIGURATION_BYTES, RECORDING_BYTES}
@@ -7,9 +7,9 @@ use Rattle.mt_model.specs.declared.texts.recording.Event.{Event}
 use Rattle.mt_config.specs.Configuration.{IsConfiguration, configuration}
 use Rattle.mt_files.specs.Lines.{text_of}
 use Rattle.mt_files.specs.Recording.{recording_of}
-use Rattle.mt_files.specs.declared.line_fault.LineFault.{LineFault}
+use Rattle.mt_model.specs.declared.texts.line_fault.LineFault.{LineFault}
 use Rattle.mt_endings.specs.declared.fault.Fault.{Fault}
-use Rattle.mt_endings.specs.declared.fault.Fault.TheVariants.{BadWords, BadConfig, ReadFault, WriteFault, Memory, DiskFault, NotAJournal, Differ}
+use Rattle.mt_endings.specs.declared.fault.Fault.TheVariants.{BadWords, BadConfig, ReadFault, WriteFault, Memory, DiskFault, TooLong, Differ}
 use Rattle.mt_endings.specs.Faults.{fault_line, fault_of, status_of}
 use Rattle.mt_endings.specs.Endings.{Ending, Played, Recordings, nothing_but, without_recording}
 use Rattle.mt_endings.specs.Moments.{Input, Moment, AreCalm, AreSourcesCalm, HasRead, HasSinkFailed, IsLeft, IsSinkCalm, Reads}
@@ -57,14 +57,16 @@ abbrev pub is_read_fault : Fault → Bool
 is_read_fault ReadFault = true
 is_read_fault fault = false
 
--- Why playing events stops, or telling what a journal keeps. That recordings differ is told by lines that were written; and of a journal that is
--- none nothing is told.
+-- Why playing events stops, or telling what a text or a journal comes to. Where it comes to a fault, as recordings that differ do or a journal that is
+-- none, the lines before that were written.
 abbrev pub StopsPlaying : Fault → Played → Option (List ℕ) → Option (List ℕ) → ℕ → ℕ → Type 0
 StopsPlaying WriteFault ending before after old new = RoseByOne old new × TookLess before after (text_of ending.lines)
 StopsPlaying Memory ending before after old new = TookFirst before after ending.lines
-StopsPlaying Differ ending before after old new = (ending.fault ≡ Some Differ) × Took before after (text_of ending.lines)
-StopsPlaying (NotAJournal place) ending before after old new = (ending.fault ≡ Some (NotAJournal place)) × Took before after (text_of ending.lines)
-StopsPlaying fault ending before after old new = ⊥
+StopsPlaying BadWords ending before after old new = ⊥
+StopsPlaying (BadConfig field) ending before after old new = ⊥
+StopsPlaying ReadFault ending before after old new = ⊥
+StopsPlaying DiskFault ending before after old new = ⊥
+StopsPlaying fault ending before after old new = (ending.fault ≡ Some fault) × Took before after (text_of ending.lines)
 
 -- the source held this configuration
 abbrev pub Configured : Config → Input → Input → Type 0
@@ -79,6 +81,13 @@ abbrev pub StopsRecording : Fault → Input → Input → Type 0
 StopsRecording ReadFault old new = RoseByOne old.faults new.faults
 StopsRecording Memory old new = ⊤
 StopsRecording fault old new = (refused : LineFault) × (fault ≡ fault_of refused) × ((bytes : List ℕ) × HasRead RECORDING_BYTES old new bytes × (recording_of bytes ≡ Err refused))
+
+-- why a text is not read to its end: the source failed, there was no memory, or it has more bytes than a recording may have
+abbrev pub StopsReading : Fault → Input → Input → Type 0
+StopsReading ReadFault old new = RoseByOne old.faults new.faults
+StopsReading Memory old new = ⊤
+StopsReading TooLong old new = (bytes : List ℕ) × HasRead RECORDING_BYTES old new bytes × (RECORDING_BYTES < length bytes)
+StopsReading fault old new = ⊥
 
 -- why a configuration is not read
 abbrev pub StopsConfiguring : Fault → Input → Input → Type 0

@@ -9,7 +9,7 @@ use Rattle.mt_endings.specs.Faults.{fault_line}
 use Rattle.mt_endings.specs.Endings.{Ending, Recordings, all_text, exit_status}
 use Rattle.mt_endings.specs.Moments.{Moment, AreCalm, AreSourcesCalm, IsLeft, HasRead, Reads}
 
--- Statuses 0, 3, 4, 9, 10 and 11: no call has failed, the files were read, the status is that of the ending to which they come, and all
+-- Statuses 0, 3, 4, 9, 10, 11, 15 and 16: no call has failed, the files were read, the status is that of the ending to which they come, and all
 -- of it was written.
 pub record Told (status : ℕ) (ending : List ℕ → Recordings → Ending) (old new : Moment) : Type 0 where
   pub config : List ℕ
@@ -85,7 +85,7 @@ is_among statuses status = list_any (λ one. one == status) statuses
 
 -- the statuses of what the files come to
 abbrev pub is_told : ℕ → Bool
-is_told status = is_among (0 ∷ 3 ∷ 4 ∷ 9 ∷ 10 ∷ 11 ∷ []) status
+is_told status = is_among (0 ∷ 3 ∷ 4 ∷ 9 ∷ 10 ∷ 11 ∷ 15 ∷ 16 ∷ []) status
 
 abbrev pub is_status : ℕ → Bool
-is_status status = is_among (0 ∷ 2 ∷ 3 ∷ 4 ∷ 5 ∷ 6 ∷ 7 ∷ 9 ∷ 10 ∷ 11 ∷ []) status
+is_status status = is_among (0 ∷ 2 ∷ 3 ∷ 4 ∷ 5 ∷ 6 ∷ 7 ∷ 9 ∷ 10 ∷ 11 ∷ 15 ∷ 16 ∷ []) status

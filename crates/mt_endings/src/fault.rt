@@ -3,7 +3,8 @@
 ghost use Rattle.std.specs.Prelude.{◌≡◌, IfOk, Some, string_bytes};
 ghost use Rattle.mt_endings.specs.Faults.{fault_line, fault_of, fault_text, status_of};
 
-use mt_files::{ConfigField, LineFault, LineKind};
+use mt_files::ConfigField;
+use mt_model::{LineFault, LineKind};
 use std::alloc::{AllocError, Global};
 use std::fmt;
 
@@ -14,9 +15,9 @@ pub enum Fault {
     BadWords,
     /// The configuration is none, and this is the first that is not as it should be.
     BadConfig(ConfigField),
-    /// The recording is none, and this is its first bad line.
+    /// The recording, the script or the output is none, and this is its first bad line.
     BadRecord { line: u64, kind: LineKind },
-    /// The configuration or the recording could not be read.
+    /// The configuration, or a text that is read behind it, could not be read.
     ReadFault,
     /// The output could not be written.
     WriteFault,
@@ -26,14 +27,18 @@ pub enum Fault {
     DiskFault,
     /// The journal is none from this place of its file on.
     NotAJournal(u64),
-    /// The recording is too long.
+    /// The recording, the script or the output is too long.
     TooLong,
     /// Two recordings differ by what a fabric sees of them. Its lines are written before, and it has no last line.
     Differ,
+    /// No session of boot 1 has the id that is asked for.
+    NoSession,
+    /// No message counter is left for what this line of a script says.
+    Exhausted { line: u64 },
 }
 
 impl Fault {
-    /// What a text comes to that is no recording, or was not read.
+    /// What a text comes to that is no recording, no script or no output, or was not read.
     pub fn of_recording(fault: LineFault) -> Fault
         ensures { result ≡ fault_of fault }
     {
@@ -59,6 +64,8 @@ impl Fault {
             Fault::NotAJournal(_) => 9,
             Fault::TooLong => 10,
             Fault::Differ => 11,
+            Fault::NoSession => 15,
+            Fault::Exhausted { .. } => 16,
         }
     }
 
@@ -91,6 +98,8 @@ impl fmt::Display for Fault {
             Fault::TooLong => f.write_str("fault 10 long"),
             // its lines stand before
             Fault::Differ => Ok(()),
+            Fault::NoSession => f.write_str("fault 15 session"),
+            Fault::Exhausted { line } => write!(f, "fault 16 line {line}"),
         }
     }
 }

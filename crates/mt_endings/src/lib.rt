@@ -3,7 +3,7 @@
 //! `specs/OnDisk.antt` of a run that may look at a journal; `Parts` and `Laws` are for the crates above.
 //!
 //! - `fault`: why a run ended, with the status and the last line of each cause;
-//! - `reading`: a configuration and a recording, read to their ends;
+//! - `reading`: a configuration, a recording and any other text, read to their ends;
 //! - `finishing`: the last line;
 //! - `laws`: how these make up the end of a run.
 #![tactic(auto)]
@@ -16,4 +16,4 @@ mod reading;
 pub use fault::Fault;
 pub use finishing::{finish, tell_bad_words, tell_memory};
 pub use laws::{endings_add_up, endings_on_disk_add_up};
-pub use reading::{read_configuration, read_recording};
+pub use reading::{read_configuration, read_recording, read_text};

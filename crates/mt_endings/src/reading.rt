@@ -1,8 +1,9 @@
-//! Reading a configuration and a recording to their ends.
+//! Reading a configuration, a recording and any other text to their ends.
 
 ghost use Rattle.std.specs.Prelude.{◌≡◌, ◌≢◌, Err, IfErr, IfOk};
-ghost use Rattle.mt_endings.specs.Moments.{input};
-ghost use Rattle.mt_endings.specs.Parts.{Configured, Recorded, StopsConfiguring, StopsRecording};
+ghost use Rattle.mt_model.specs.declared.limits.TheConstants.{RECORDING_BYTES};
+ghost use Rattle.mt_endings.specs.Moments.{HasRead, input};
+ghost use Rattle.mt_endings.specs.Parts.{Configured, Recorded, StopsConfiguring, StopsReading, StopsRecording};
 
 use crate::fault::Fault;
 use mt_files::{ConfigFault, ConfigField, config as configuration, events};
@@ -35,14 +36,26 @@ pub fn read_recording<A: Source>(alloc: Global, source: &mut A) -> Result<Events
     ensures err { IfErr result (λ fault. StopsRecording fault (input (A.left source.old) (A.faults source.old)) (input (A.left source.new) (A.faults source.new))) }
     ensures calm { result ≢ Err Fault.ReadFault → A.faults source.new ≡ A.faults source.old }
 {
-    let recording = match read_all(alloc, source, RECORDING_BYTES) {
+    let recording = match read_text(alloc, source) {
         Ok(recording) => recording,
-        Err(ReadFault::Failed) => return Err(Fault::ReadFault),
-        Err(ReadFault::TooLong) => return Err(Fault::TooLong),
-        Err(ReadFault::Memory) => return Err(Fault::Memory),
+        Err(fault) => return Err(fault),
     };
     match events(alloc, &recording) {
         Ok(events) => Ok(events),
         Err(fault) => Err(Fault::of_recording(fault)),
+    }
+}
+
+/// The bytes of the text that a source has, which may be as long as a recording.
+pub fn read_text<A: Source>(alloc: Global, source: &mut A) -> Result<Vec<u8>, Fault>
+    ensures ok { IfOk result (λ text. HasRead RECORDING_BYTES (input (A.left source.old) (A.faults source.old)) (input (A.left source.new) (A.faults source.new)) text.items) }
+    ensures err { IfErr result (λ fault. StopsReading fault (input (A.left source.old) (A.faults source.old)) (input (A.left source.new) (A.faults source.new))) }
+    ensures calm { result ≢ Err Fault.ReadFault → A.faults source.new ≡ A.faults source.old }
+{
+    match read_all(alloc, source, RECORDING_BYTES) {
+        Ok(text) => Ok(text),
+        Err(ReadFault::Failed) => Err(Fault::ReadFault),
+        Err(ReadFault::TooLong) => Err(Fault::TooLong),
+        Err(ReadFault::Memory) => Err(Fault::Memory),
     }
 }

@@ -17,8 +17,8 @@ use Rattle.mt_model.specs.declared.texts.recording.Event.TheVariants.{Ask, Datag
 use Rattle.mt_model.specs.declared.texts.recording.Sent.{Sent}
 use Rattle.mt_model.specs.declared.texts.recording.To.{To}
 use Rattle.mt_model.specs.declared.texts.recording.To.TheVariants.{Plain, Session}
-use Rattle.mt_files.specs.declared.line_fault.LineKind.{LineKind}
-use Rattle.mt_files.specs.declared.line_fault.LineKind.TheVariants.{Hex}
+use Rattle.mt_model.specs.declared.texts.line_fault.LineKind.{LineKind}
+use Rattle.mt_model.specs.declared.texts.line_fault.LineKind.TheVariants.{Hex}
 use Rattle.mt_files.specs.Event.{ask_of, datagram_of, event_fields, event_line, line_event, report_of, resend_of, stop_of, tick_of, told_in}
 use Rattle.mt_outside.specs.Fates.{fate_text}
 use Rattle.mt_files.specs.Form.{HasForm, IsEvent, IsSent, IsTo}
@@ -34,10 +34,10 @@ use Rattle.mt_files.proofs.Written.{IsMark, Lacks, Lacks-decimal, Lacks-hex, Lac
 abbrev told_as : Event → Result Event LineKind
 told_as e = Ok e
 
-line_feed : IsMark 10
+pub line_feed : IsMark 10
 line_feed = record { some = omega arith; low = omega arith }
 
-space : IsMark 32
+pub space : IsMark 32
 space = record { some = omega arith; low = omega arith }
 
 -- Neither LF nor a space stands in a field.
@@ -55,7 +55,7 @@ fields-lack byte (Resend ms session) m p =
     All-from_recursion (Lacks byte) (event_fields (Resend ms session)) (Lacks-high byte (codes "M") m refl, (Lacks-decimal byte ms m p.0, (Lacks-decimal byte session m (omega arith), tt)))
 fields-lack byte (Stop calls fate) m p = All-from_recursion (Lacks byte) (event_fields (Stop calls fate)) (Lacks-high byte (codes "X") m refl, (Lacks-decimal byte calls m p, (Lacks-fate_text byte fate m, tt)))
 
-fields_to-lack : (byte ms : ℕ) (to : To) (bytes : List ℕ) → IsMark byte → ms < 2 ^ 64 → IsTo to → All (Lacks byte) (fields_to ms to bytes)
+pub fields_to-lack : (byte ms : ℕ) (to : To) (bytes : List ℕ) → IsMark byte → ms < 2 ^ 64 → IsTo to → All (Lacks byte) (fields_to ms to bytes)
 fields_to-lack byte ms (Session session peer) bytes m time p =
     All-from_recursion (Lacks byte) (fields_to ms (Session session peer) bytes) (Lacks-high byte (codes "S") m refl, (Lacks-decimal byte ms m time, (Lacks-peer_text byte peer m, (Lacks-payload_text byte bytes m, tt))))
 fields_to-lack byte ms (Plain fabric opcode) bytes m time p =
@@ -67,13 +67,13 @@ event-single e p = Lacks-join 10 32 (event_fields e) refl (fields-lack 10 e line
 pub event_line-single : (e : Event) → IsEvent e → All (λ byte. byte ≢ 10) (event_line e)
 event_line-single e p = Lacks-none 10 (event_line e) (event-single e p)
 
-sent-single : (m : Sent) → IsSent m → Lacks 10 (sent_line m)
+pub sent-single : (m : Sent) → IsSent m → Lacks 10 (sent_line m)
 sent-single m p = Lacks-join 10 32 (fields_to m.ms m.to m.bytes) refl (fields_to-lack 10 m.ms m.to m.bytes line_feed p.0 p.1)
 
 pub sent_line-single : (m : Sent) → IsSent m → All (λ byte. byte ≢ 10) (sent_line m)
 sent_line-single m p = Lacks-none 10 (sent_line m) (sent-single m p)
 
-all_sent-single : (messages : List Sent) → All IsSent messages → All (Lacks 10) (map sent_line messages)
+pub all_sent-single : (messages : List Sent) → All IsSent messages → All (Lacks 10) (map sent_line messages)
 all_sent-single [] p = All-nil (Lacks 10)
 all_sent-single (m ∷ messages) p = All-cons (Lacks 10) (sent_line m) (map sent_line messages) (sent-single m (All-head IsSent m messages p)) (all_sent-single messages (All-tail IsSent m messages p))
 
@@ -90,7 +90,7 @@ fields-some (Report ms fabric subscription) = omega arith
 fields-some (Resend ms session) = omega arith
 fields-some (Stop calls fate) = omega arith
 
-parts_of-fields : (fields : List (List ℕ)) → 0 < length fields → All (Lacks 32) fields → parts_of 32 (join_with_byte 32 fields) ≡ fields
+pub parts_of-fields : (fields : List (List ℕ)) → 0 < length fields → All (Lacks 32) fields → parts_of 32 (join_with_byte 32 fields) ≡ fields
 parts_of-fields [] some h = absurd (omega arith)
 parts_of-fields (field ∷ fields) some h = parts_of-join 32 field fields h
 
@@ -131,14 +131,14 @@ line_event-event_line e p f = told-again e p ∙ told_in-fields e p f
 
 -- Lines are short.
 
-length-decimal : (n : ℕ) → n < 2 ^ 64 → length (decimal n) ≤ 20
+pub length-decimal : (n : ℕ) → n < 2 ^ 64 → length (decimal n) ≤ 20
 length-decimal n h = length-decimal-le 20 n (omega arith) (omega arith) h
 
-abbrev total : List (List ℕ) → ℕ
+abbrev pub total : List (List ℕ) → ℕ
 total [] = 0
 total (part ∷ parts) = length part + 1 + total parts
 
-length-join : (parts : List (List ℕ)) → length (join_with_byte 32 parts) ≤ total parts
+pub length-join : (parts : List (List ℕ)) → length (join_with_byte 32 parts) ≤ total parts
 length-join [] = omega arith
 length-join (part ∷ []) = omega arith
 length-join (part ∷ next ∷ parts) = let rest = length-join (next ∷ parts) in omega (arith, length-append part (32 ∷ join_with_byte 32 (next ∷ parts)))

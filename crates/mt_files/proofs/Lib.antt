@@ -4,6 +4,7 @@ pub mod Digits
 pub mod EventLines
 pub mod HexPairs
 pub mod Numbers
+pub mod Outputs
 pub mod Places
 pub mod ReadAgain
 pub mod Readings

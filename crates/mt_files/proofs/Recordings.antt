@@ -9,15 +9,17 @@ use Rattle.std.proofs.lemmas.Bool.{le-ltb, ltb-false}
 use Rattle.std.proofs.lemmas.List.Elements.{All-nil, All-cons, All-head, All-tail}
 use Rattle.mt_model.specs.declared.limits.TheConstants.{LINE_BYTES, RECORDING_BYTES, RECORDING_LINES}
 use Rattle.mt_model.specs.declared.texts.recording.Event.{Event}
-use Rattle.mt_files.specs.declared.line_fault.LineFault.{LineFault}
-use Rattle.mt_files.specs.declared.line_fault.LineFault.TheVariants.{Line, TooLong}
-use Rattle.mt_files.specs.declared.line_fault.LineKind.{LineKind}
-use Rattle.mt_files.specs.declared.line_fault.LineKind.TheVariants.{Head, Time}
+use Rattle.mt_model.specs.declared.texts.line_fault.LineFault.{LineFault}
+use Rattle.mt_model.specs.declared.texts.line_fault.LineFault.TheVariants.{Line, TooLong}
+use Rattle.mt_model.specs.declared.texts.line_fault.LineKind.{LineKind}
+use Rattle.mt_model.specs.declared.texts.line_fault.LineKind.TheVariants.{Head, Time}
 use Rattle.mt_files.specs.Event.{line_event}
 use Rattle.mt_files.specs.Form.{HasForm}
 use Rattle.mt_files.specs.Lines.{lines_of, text_is}
 use Rattle.mt_model.specs.texts.Events.{event_time}
-use Rattle.mt_files.specs.Recording.{at_line, events_behind_head, events_from, followed, head, in_time, line_told, onto, recording_of, time_at, IsRecording}
+use Rattle.mt_files.specs.Recording.{events_behind_head, events_from, head, in_time, line_told, recording_of, time_at, IsRecording}
+use Rattle.mt_files.specs.Told.{at_line, followed, onto}
+use Rattle.mt_files.proofs.Readings.{followed-some}
 use Rattle.mt_files.proofs.Shapes.{line_event-form}
 
 abbrev told_as : Event → Result Event LineKind
@@ -38,13 +40,13 @@ abbrev Climbs : ℕ → List Event → Type 0
 Climbs before [] = Unit {0}
 Climbs before (e ∷ es) = (before ≤ time_at before e) × Climbs (time_at before e) es
 
-rises-cons : (x : ℕ) (xs : List ℕ) → All (λ y. x ≤ y) xs → IsNonDecreasing xs → IsNonDecreasing (x ∷ xs)
+pub rises-cons : (x : ℕ) (xs : List ℕ) → All (λ y. x ≤ y) xs → IsNonDecreasing xs → IsNonDecreasing (x ∷ xs)
 rises-cons x xs all rest zero zero d le lt = omega arith
 rises-cons x xs all rest zero (suc j) d le lt = all j d (omega arith)
 rises-cons x xs all rest (suc i) (suc j) d le lt = rest i j d (omega arith) (omega arith)
 rises-cons x xs all rest (suc i) zero d le lt = absurd (omega arith)
 
-rises-tail : (x : ℕ) (xs : List ℕ) → IsNonDecreasing (x ∷ xs) → IsNonDecreasing xs
+pub rises-tail : (x : ℕ) (xs : List ℕ) → IsNonDecreasing (x ∷ xs) → IsNonDecreasing xs
 rises-tail x xs h i j d le lt = h (suc i) (suc j) d (omega arith) (omega arith)
 
 rises-below : (x y : ℕ) (ys : List ℕ) → x ≤ y → IsNonDecreasing (y ∷ ys) → IsNonDecreasing (x ∷ y ∷ ys)
@@ -109,23 +111,6 @@ line-from number before line e p =
     (λ i. cond (long i || many i) (Err TooLong) (at_line number (in_time before (p.told i))))
     ∙ ap (λ t. at_line number (cond t (Err Time) (Ok e))) time
 
--- a line and the rest
-
-record Followed (told : Result Event LineFault) (rest : Event → Result (List Event) LineFault) (events : List Event) : Type 0 where
-  event : Event
-  others : List Event
-  first : told ≡ one_told event
-  then : rest event ≡ all_told others
-  all : events ≡ event ∷ others
-
-followed-some : (told : Result Event LineFault) (rest : Event → Result (List Event) LineFault) (events : List Event) → followed told rest ≡ all_told events → Followed told rest events
-followed-some (Err fault) rest events h = absurd (cc)
-followed-some (Ok e) rest events h = by_rest (rest e) refl h
-  where
-    by_rest : (r : Result (List Event) LineFault) → rest e ≡ r → onto e r ≡ all_told events → Followed (Ok e) rest events
-    by_rest (Err fault) is h = absurd (cc)
-    by_rest (Ok others) is h = let same : e ∷ others ≡ events = cc in record { event = e; others = others; first = refl; then = is; all = sym same }
-
 -- lines behind the head
 
 record LinesTold (number before : ℕ) (lines : List (List ℕ)) (events : List Event) : Type 0 where
@@ -142,8 +127,8 @@ lines-some [] number before events le h =
     let none : [] ≡ events = cc in subst (LinesTold number before []) none (record { told = refl; times = tt; short = All-nil IsShort; few = omega arith })
 lines-some (line ∷ lines) number before events le h =
     let f = followed-some (line_told number before line) (λ event. events_from (number + 1) (time_at before event) lines) events h in
-    let p = line-some number before line f.event f.first in
-    let rest = lines-some lines (number + 1) (time_at before f.event) f.others (let counted = p.counted in omega arith) f.then in
+    let p = line-some number before line f.item f.first in
+    let rest = lines-some lines (number + 1) (time_at before f.item) f.others (let counted = p.counted in omega arith) f.then in
     let few = rest.few in
     subst (LinesTold number before (line ∷ lines)) (sym f.all) (record {
       told = λ i. p.told i ∷ rest.told i;

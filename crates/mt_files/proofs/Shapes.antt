@@ -13,8 +13,8 @@ use Rattle.mt_outside.specs.declared.network.Peer.{Peer}
 use Rattle.mt_model.specs.declared.limits.TheConstants.{LAST_TIME, PAYLOAD_BYTES, RECEIVED_BYTES, LAST_CALLS, LAST_FABRIC}
 use Rattle.mt_model.specs.declared.texts.recording.Event.{Event}
 use Rattle.mt_model.specs.declared.texts.recording.Event.TheVariants.{Ask, Datagram, Tick, Report, Resend, Stop}
-use Rattle.mt_files.specs.declared.line_fault.LineKind.{LineKind}
-use Rattle.mt_files.specs.declared.line_fault.LineKind.TheVariants.{Hex}
+use Rattle.mt_model.specs.declared.texts.line_fault.LineKind.{LineKind}
+use Rattle.mt_model.specs.declared.texts.line_fault.LineKind.TheVariants.{Hex}
 use Rattle.mt_files.specs.declared.subject.Subject.{Subject}
 use Rattle.mt_files.specs.Event.{ask_in, ask_of, calls_in, datagram_in, datagram_of, fabric_in, line_event, may_ask, report_in, report_of, resend_in, resend_of, session_in, stop_in, stop_of, subscription_in, tick_in, tick_of, time_in, told_in}
 use Rattle.mt_files.specs.Field.{at_least, bytes_in, number_between, number_of, ok_of, payload_in, up_to, fate_in, peer_in, opcode_in}
@@ -52,12 +52,12 @@ between-some least most text n h =
     (p.0, up_to-some most (number_of text) n p.1)
 
 -- what a field tells is at most this
-abbrev AtMost : ℕ → Option ℕ → Type 0
+abbrev pub AtMost : ℕ → Option ℕ → Type 0
 AtMost most found = (n : ℕ) → found ≡ Some n → n ≤ most
 
 -- payloads
 
-payload-size : (most : ℕ) (text bytes : List ℕ) → payload_in most text ≡ Some bytes → length bytes ≤ most
+pub payload-size : (most : ℕ) (text bytes : List ℕ) → payload_in most text ≡ Some bytes → length bytes ≤ most
 payload-size most text bytes h = first (eqb (length text) 0) h
   where
     decoded : (r : Result (List ℕ) FromHexError) → ok_of r ≡ Some bytes → r ≡ Ok bytes

@@ -9,8 +9,8 @@ use Rattle.mt_outside.specs.declared.network.Peer.{Peer}
 use Rattle.mt_model.specs.declared.limits.TheConstants.{LAST_OPERATIONAL_NODE, LAST_TIME, PAYLOAD_BYTES, RECEIVED_BYTES, LAST_CALLS, LAST_FABRIC}
 use Rattle.mt_model.specs.declared.texts.recording.Event.{Event}
 use Rattle.mt_model.specs.declared.texts.recording.Event.TheVariants.{Ask, Datagram, Tick, Report, Resend, Stop}
-use Rattle.mt_files.specs.declared.line_fault.LineKind.{LineKind}
-use Rattle.mt_files.specs.declared.line_fault.LineKind.TheVariants.{Form, Number, Hex}
+use Rattle.mt_model.specs.declared.texts.line_fault.LineKind.{LineKind}
+use Rattle.mt_model.specs.declared.texts.line_fault.LineKind.TheVariants.{Form, Number, Hex}
 use Rattle.mt_files.specs.Field.{fate_in, number_between, opcode_in, payload_in, payload_text, peer_in, peer_text}
 use Rattle.mt_files.specs.Lines.{fields_of, line_of, text_is}
 use Rattle.mt_files.specs.Subject.{subject_in, subject_text}

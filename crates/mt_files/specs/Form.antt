@@ -33,6 +33,15 @@ HasForm (Report ms fabric subscription) = (ms ≤ LAST_TIME) × (fabric ≤ LAST
 HasForm (Resend ms session) = (ms ≤ LAST_TIME) × (1 ≤ session)
 HasForm (Stop calls fate) = calls ≤ LAST_CALLS
 
+-- what is sent to whom is within the ranges of the format
+abbrev pub HasToForm : To → List ℕ → Type 0
+HasToForm (Session session peer) bytes = length bytes ≤ RECEIVED_BYTES
+HasToForm (Plain fabric opcode) bytes = (fabric ≤ LAST_FABRIC) × (length bytes ≤ PAYLOAD_BYTES)
+
+-- the message is within the ranges of the format
+abbrev pub HasSentForm : Sent → Type 0
+HasSentForm message = (message.ms ≤ LAST_TIME) × HasToForm message.to message.bytes
+
 -- Every value of the types is within these ranges. A law over all events has to say so.
 
 pub record IsPeer (peer : Peer) : Type 0 where

@@ -6,12 +6,13 @@ use Rattle.std.specs.Option.{option_map_or}
 use Rattle.mt_model.specs.declared.limits.TheConstants.{LINE_BYTES, RECORDING_BYTES, RECORDING_LINES}
 use Rattle.mt_model.specs.texts.Events.{event_time}
 use Rattle.mt_model.specs.declared.texts.recording.Event.{Event}
-use Rattle.mt_files.specs.declared.line_fault.LineFault.{LineFault}
-use Rattle.mt_files.specs.declared.line_fault.LineFault.TheVariants.{Line, TooLong}
-use Rattle.mt_files.specs.declared.line_fault.LineKind.{LineKind}
-use Rattle.mt_files.specs.declared.line_fault.LineKind.TheVariants.{Head, Time}
+use Rattle.mt_model.specs.declared.texts.line_fault.LineFault.{LineFault}
+use Rattle.mt_model.specs.declared.texts.line_fault.LineFault.TheVariants.{Line, TooLong}
+use Rattle.mt_model.specs.declared.texts.line_fault.LineKind.{LineKind}
+use Rattle.mt_model.specs.declared.texts.line_fault.LineKind.TheVariants.{Head, Time}
 use Rattle.mt_files.specs.Event.{event_line, line_event}
 use Rattle.mt_files.specs.Lines.{lines_of, text_is, text_of}
+use Rattle.mt_files.specs.Told.{at_line, followed}
 
 -- the first line
 abbrev pub head : List ℕ
@@ -26,10 +27,6 @@ abbrev pub in_time : ℕ → Result Event LineKind → Result Event LineKind
 in_time before (Err kind) = Err kind
 in_time before (Ok event) = if nat_lt (time_at before event) before then Err Time else Ok event
 
-abbrev pub at_line : ℕ → Result Event LineKind → Result Event LineFault
-at_line number (Err kind) = Err (Line number kind)
-at_line number (Ok event) = Ok event
-
 -- whether the line of this number has too many bytes, or is one event line too many
 abbrev pub is_too_long : ℕ → List ℕ → Bool
 is_too_long number line = nat_lt LINE_BYTES (length line) || nat_lt (RECORDING_LINES + 1) number
@@ -37,15 +34,6 @@ is_too_long number line = nat_lt LINE_BYTES (length line) || nat_lt (RECORDING_L
 -- what the line of this number tells, behind lines up to this time
 abbrev pub line_told : ℕ → ℕ → List ℕ → Result Event LineFault
 line_told number before line = if is_too_long number line then Err TooLong else at_line number (in_time before (line_event line))
-
-abbrev pub onto : Event → Result (List Event) LineFault → Result (List Event) LineFault
-onto event (Ok events) = Ok (event ∷ events)
-onto event (Err fault) = Err fault
-
--- an event, and then the rest, which depends on it
-abbrev pub followed : Result Event LineFault → (Event → Result (List Event) LineFault) → Result (List Event) LineFault
-followed (Err fault) rest = Err fault
-followed (Ok event) rest = onto event (rest event)
 
 -- the events of lines, the first of which has this number and stands behind this time, or the first fault
 abbrev pub events_from : ℕ → ℕ → List (List ℕ) → Result (List Event) LineFault

@@ -1,17 +1,14 @@
 //! What a line tells: an event, or what is wrong with the line.
 
 ghost use Rattle.std.specs.Prelude.{◌≡◌, ◌≤◌, IfOk};
-ghost use Rattle.mt_files.specs.Event.{ask_in, calls_in, datagram_in, fabric_in, line_event, may_ask, report_in, resend_in, session_in, stop_in, subscription_in, tick_in, time_in, told_by};
+ghost use Rattle.mt_files.specs.Event.{ask_in, calls_in, datagram_in, line_event, may_ask, report_in, resend_in, session_in, stop_in, subscription_in, tick_in, told_by};
 ghost use Rattle.mt_files.specs.Lines.{fields_of};
 
-use crate::field::{fate, number, opcode, payload, peer};
-use crate::line_fault::LineKind;
+use crate::field::{fabric, fate, number, opcode, payload, peer, time};
 use crate::lines::{cut, five_fields, one_field, three_fields, two_fields};
 use crate::subject::read_subject;
-use mt_model::Event;
-use mt_model::limits::{
-    LAST_CALLS, LAST_FABRIC, LAST_OPERATIONAL_NODE, LAST_TIME, PAYLOAD_BYTES, RECEIVED_BYTES,
-};
+use mt_model::limits::{LAST_CALLS, LAST_OPERATIONAL_NODE, PAYLOAD_BYTES, RECEIVED_BYTES};
+use mt_model::{Event, LineKind};
 use std::alloc::{AllocError, Global};
 
 /// What a line tells, where there was memory for it.
@@ -174,21 +171,6 @@ fn stop(fields: &[u8]) -> Told
         return Err(LineKind::Number);
     };
     Ok(Event::Stop { calls, fate })
-}
-
-fn time(text: &[u8]) -> Option<u64>
-    ensures { result ≡ time_in text.now }
-{
-    number(0, LAST_TIME, text)
-}
-
-fn fabric(text: &[u8]) -> Option<u8>
-    ensures { result ≡ fabric_in text.now }
-{
-    match number(0, LAST_FABRIC, text) {
-        Some(fabric) => Some(fabric as u8),
-        None => None,
-    }
 }
 
 fn subscription(text: &[u8]) -> Option<u32>

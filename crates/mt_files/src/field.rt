@@ -2,8 +2,10 @@
 
 ghost use Rattle.std.specs.Prelude.{◌≡◌, ◌↔◌, ◌≤◌, ◌*◌, if◌then◌else◌, length, Some, None, IfOk, IfSome};
 ghost use Rattle.hex.specs.Hex.{decode_of, hex_digit_value};
+ghost use Rattle.mt_files.specs.Event.{fabric_in, time_in};
 ghost use Rattle.mt_files.specs.Field.{bytes_in, digits_from, fate_in, number_between, ok_of, opcode_in, payload_in, peer_in, port_in, up_to};
 
+use mt_model::limits::{LAST_FABRIC, LAST_TIME};
 use mt_outside::{Fate, Peer};
 use mt_tlv::Bytes;
 use std::alloc::{AllocError, Global};
@@ -41,6 +43,23 @@ fn digits(text: &[u8], most: u64) -> Option<u64>
         number = next as u64;
     }
     Some(number)
+}
+
+/// A time in ms: 0 to 281,474,976,710,655.
+pub fn time(text: &[u8]) -> Option<u64>
+    ensures { result ≡ time_in text.now }
+{
+    number(0, LAST_TIME, text)
+}
+
+/// A fabric: 0 to 254, where 0 is the plain PASE session.
+pub fn fabric(text: &[u8]) -> Option<u8>
+    ensures { result ≡ fabric_in text.now }
+{
+    match number(0, LAST_FABRIC, text) {
+        Some(fabric) => Some(fabric as u8),
+        None => None,
+    }
 }
 
 /// Bytes up to a number of them in hex, or `-` for no bytes.

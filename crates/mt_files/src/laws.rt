@@ -1,4 +1,4 @@
-//! Laws of recordings and of the lines of events and messages, over their definitions alone. Each is
+//! Laws of recordings, of outputs and of the lines of events and messages, over their definitions alone. Each is
 //! the contract of a function that does nothing.
 
 ghost use Rattle.std.specs.Prelude.{◌≡◌, ◌≢◌, ◌≤◌, ◌<◌, ◌^◌, List, ℕ, All, Ok, Some, decimal, length, map};
@@ -9,9 +9,9 @@ ghost use Rattle.mt_model.specs.declared.texts.recording.Event.{Event};
 ghost use Rattle.mt_model.specs.declared.texts.recording.Sent.{Sent};
 ghost use Rattle.mt_files.specs.Event.{event_line};
 ghost use Rattle.mt_files.specs.Field.{number_of};
-ghost use Rattle.mt_files.specs.Form.{HasForm, IsEvent, IsSent};
+ghost use Rattle.mt_files.specs.Form.{HasForm, HasSentForm, IsEvent, IsSent};
 ghost use Rattle.mt_files.specs.Lines.{lines_of};
-ghost use Rattle.mt_files.specs.Output.{IsOutput, sent_line};
+ghost use Rattle.mt_files.specs.Output.{IsOutput, as_told, output_of, output_text, sent_line};
 ghost use Rattle.mt_model.specs.texts.Events.{event_time};
 ghost use Rattle.mt_files.specs.Recording.{IsRecording, recording_of, recording_text};
 
@@ -33,6 +33,19 @@ pub fn written_recordings_are_read()
     ensures { (events : List Event) → All IsEvent events → All HasForm events → IsNonDecreasing (filter_map event_time events)
         → length events ≤ RECORDING_LINES → length (recording_text events) ≤ RECORDING_BYTES
         → recording_of (recording_text events) ≡ Ok events }
+{}
+
+/// Each message that is read of an output is within the ranges of the format.
+pub fn messages_have_a_form()
+    ensures { (bytes : List ℕ) (messages : List Sent) → output_of bytes ≡ Ok messages → All HasSentForm messages }
+{}
+
+/// Messages within the ranges of the format, whose times do not fall, are read again as they were written,
+/// but for the sessions, where their lines and bytes are few enough.
+pub fn written_outputs_are_read()
+    ensures { (messages : List Sent) → All IsSent messages → All HasSentForm messages → IsNonDecreasing (map (λ message. message.ms) messages)
+        → length messages ≤ RECORDING_LINES → length (output_text messages) ≤ RECORDING_BYTES
+        → output_of (output_text messages) ≡ Ok (map as_told messages) }
 {}
 
 /// What is written for an event or a message is one line: no end of a line stands inside. So the lines

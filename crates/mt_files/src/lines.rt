@@ -69,6 +69,16 @@ pub fn three_fields(line: &[u8]) -> Option<(&[u8], &[u8], &[u8])>
     Some((first, second, third))
 }
 
+/// The fields of a line that has four.
+pub fn four_fields(line: &[u8]) -> Option<(&[u8], &[u8], &[u8], &[u8])>
+    ensures four { IfSome result (λ f. fields_of line.now ≡ f.0.now ∷ f.1.now ∷ f.2.now ∷ f.3.now ∷ []) }
+    ensures other { IfNone result (length (fields_of line.now) ≢ 4) }
+{
+    let (first, rest) = cut(b' ', line)?;
+    let (second, third, fourth) = three_fields(rest)?;
+    Some((first, second, third, fourth))
+}
+
 /// The fields of a line that has five.
 pub fn five_fields(line: &[u8]) -> Option<(&[u8], &[u8], &[u8], &[u8], &[u8])>
     ensures five { IfSome result (λ f. fields_of line.now ≡ f.0.now ∷ f.1.now ∷ f.2.now ∷ f.3.now ∷ f.4.now ∷ []) }

@@ -7,10 +7,9 @@ ghost use Rattle.mt_files.specs.Recording.{events_from, line_told, recording_of,
 
 use crate::event;
 use crate::event_text::push_event;
-use crate::line_fault::{LineFault, LineKind};
 use crate::lines::cut_line;
 use mt_model::limits::{LINE_BYTES, RECORDING_BYTES, RECORDING_LINES};
-use mt_model::{Event, Events};
+use mt_model::{Event, Events, LineFault, LineKind};
 use std::alloc::{AllocError, Global};
 
 /// The events of a recording, in the order of its lines, or its first fault.

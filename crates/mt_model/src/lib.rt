@@ -107,6 +107,8 @@ pub use texts::config::RootRows;
 pub use texts::config::SessionRow;
 pub use texts::config::SessionRows;
 pub use texts::config::Ssids;
+pub use texts::line_fault::LineFault;
+pub use texts::line_fault::LineKind;
 pub use texts::recording::Event;
 pub use texts::recording::Events;
 pub use texts::recording::Sent;

@@ -3,7 +3,7 @@ use Rattle.std.proofs.Common.{◌≡◌, ℕ, List, [], Option, refl, sym, subst
 use Rattle.mt_model.specs.texts.Contents.{Contents}
 use Rattle.mt_outside.specs.Laws.{StreamLaws}
 use Rattle.mt_endings.specs.declared.fault.Fault.{Fault}
-use Rattle.mt_endings.specs.declared.fault.Fault.TheVariants.{BadWords, BadConfig, BadRecord, ReadFault, WriteFault, Memory, DiskFault, NotAJournal, TooLong, Differ}
+use Rattle.mt_endings.specs.declared.fault.Fault.TheVariants.{BadWords, BadConfig, BadRecord, ReadFault, WriteFault, Memory, DiskFault, NotAJournal, TooLong, Differ, NoSession, Exhausted}
 use Rattle.mt_endings.specs.Endings.{Played, of_none}
 use Rattle.mt_endings.specs.Moments.{Input, in_hand, input, moment}
 use Rattle.mt_endings.specs.OnDisk.{DiskEndingLaws, EndsInHand}
@@ -27,3 +27,5 @@ module _ (laws : DiskEndingLaws) (streams : StreamLaws) (contents : Contents) (t
   stopped WriteFault stops ends = absurd stops
   stopped TooLong stops ends = absurd stops
   stopped Differ stops ends = absurd stops
+  stopped NoSession stops ends = absurd stops
+  stopped (Exhausted line) stops ends = absurd stops

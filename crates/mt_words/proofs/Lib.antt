@@ -4,5 +4,6 @@ pub mod Found
 pub mod Names
 pub mod Numbers
 pub mod Places
+pub mod Sessions
 pub mod Settled
 pub mod Walks

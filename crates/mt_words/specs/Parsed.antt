@@ -29,3 +29,7 @@ compare_app = app_with (codes "compare") (codes "fabric" ∷ codes "config" ∷ 
 
 abbrev pub settle_app : App
 settle_app = app_with (codes "settle") (codes "config" ∷ codes "journal" ∷ [])
+
+-- `ask` and `show`, each of a session
+abbrev pub session_app : Text → App
+session_app name = app_with name (codes "session" ∷ codes "config" ∷ codes "file" ∷ [])

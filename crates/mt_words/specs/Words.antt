@@ -8,7 +8,7 @@ use Rattle.mt_files.specs.Field.{number_between}
 use Rattle.mt_words.specs.declared.asked.Asked.{Asked}
 use Rattle.mt_words.specs.declared.asked.Asked.TheVariants as asks
 use Rattle.mt_words.specs.declared.command.Command.{Command}
-use Rattle.mt_words.specs.declared.command.Command.TheVariants.{Compare, Replay, Settle, Soak}
+use Rattle.mt_words.specs.declared.command.Command.TheVariants.{Ask, Compare, Replay, Settle, Show, Soak}
 use Rattle.mt_words.specs.declared.files.Files.{Files}
 
 -- Words.
@@ -59,7 +59,7 @@ names_of words = option_map (words_at words) (positional_from 1 (drop 1 words))
 
 -- Commands. What stands at the head of each rule below is what the command takes, in this order:
 -- `replay CONFIG RECORDING`, `soak BEGIN COUNT CONFIG`, `compare F CONFIG FIRST SECOND`,
--- `settle CONFIG JOURNAL`.
+-- `settle CONFIG JOURNAL`, `ask S CONFIG SCRIPT`, `show S CONFIG OUTPUT`.
 
 abbrev pub command_of : List ℕ → Option Command
 command_of word =
@@ -67,6 +67,8 @@ command_of word =
     else if is_word word (codes "soak") then Some Soak
     else if is_word word (codes "compare") then Some Compare
     else if is_word word (codes "settle") then Some Settle
+    else if is_word word (codes "ask") then Some Ask
+    else if is_word word (codes "show") then Some Show
     else None
 
 -- Files.
@@ -77,6 +79,8 @@ files_at Replay (config ∷ recording ∷ []) = Some (record { config = config; 
 files_at Soak (begin ∷ count ∷ config ∷ []) = Some (record { config = config; first = None; second = None; journal = None; bind = None })
 files_at Compare (fabric ∷ config ∷ first ∷ second ∷ []) = Some (record { config = config; first = Some first; second = Some second; journal = None; bind = None })
 files_at Settle (config ∷ journal ∷ []) = Some (record { config = config; first = None; second = None; journal = Some journal; bind = None })
+files_at Ask (session ∷ config ∷ script ∷ []) = Some (record { config = config; first = Some script; second = None; journal = None; bind = None })
+files_at Show (session ∷ config ∷ output ∷ []) = Some (record { config = config; first = Some output; second = None; journal = None; bind = None })
 files_at _ places = None
 
 -- the files that the words name, None where they have no form
@@ -98,11 +102,20 @@ count_of word = number_between 1 100000 word
 abbrev pub fabric_of : List ℕ → Option ℕ
 fabric_of word = number_between 1 254 word
 
+-- the node's id of a session
+abbrev pub session_of : List ℕ → Option ℕ
+session_of word = number_between 1 65535 word
+
 -- What is asked for.
 
 abbrev pub soak_of : Option ℕ → Option ℕ → Option Asked
 soak_of (Some begin) (Some count) = Some (asks.Soak begin count)
 soak_of _ _ = None
+
+-- the session that is named by the first of three positional words
+abbrev pub session_among : List (List ℕ) → Option ℕ
+session_among (session ∷ config ∷ file ∷ []) = session_of session
+session_among words = None
 
 -- what a command asks for, by its positional words
 abbrev pub asked_by : Command → List (List ℕ) → Option Asked
@@ -110,6 +123,8 @@ asked_by Replay (config ∷ recording ∷ []) = Some asks.Replay
 asked_by Soak (begin ∷ count ∷ config ∷ []) = soak_of (begin_of begin) (count_of count)
 asked_by Compare (fabric ∷ config ∷ first ∷ second ∷ []) = option_map asks.Compare (fabric_of fabric)
 asked_by Settle (config ∷ journal ∷ []) = Some asks.Settle
+asked_by Ask (session ∷ config ∷ script ∷ []) = option_map asks.Ask (session_of session)
+asked_by Show (session ∷ config ∷ output ∷ []) = option_map asks.Show (session_of session)
 asked_by _ words = None
 
 -- what the words ask for, None where they have no form

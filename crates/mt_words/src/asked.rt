@@ -2,11 +2,13 @@
 
 ghost use Rattle.std.specs.Prelude.{◌≡◌, IfErr, IfOk};
 ghost use Rattle.std.specs.Option.{ok_or, option_and_then, option_map};
-ghost use Rattle.mt_words.specs.Words.{asked, asked_by, begin_of, count_of, fabric_of, names_of, soak_of, words_of};
+ghost use Rattle.mt_words.specs.Words.{asked, asked_by, begin_of, count_of, fabric_of, names_of, session_among, session_of, soak_of, words_of};
 
 use crate::command::{Command, command_of};
-use crate::number::{begin_of, count_of, fabric_of};
-use crate::parse::{compare_command, parse, replay_command, settle_command, soak_command};
+use crate::number::{begin_of, count_of, fabric_of, session_of};
+use crate::parse::{
+    compare_command, parse, replay_command, session_command, settle_command, soak_command,
+};
 use std::alloc::Global;
 
 /// What a command line asks for.
@@ -28,6 +30,16 @@ pub enum Asked {
     },
     /// What a journal keeps is written, as the next start takes it up.
     Settle,
+    /// What a controller sends for a script is written, as a recording.
+    Ask {
+        /// The node's id of the session, 1 to 65535.
+        session: u16,
+    },
+    /// What a node sent over a session is shown, line by line.
+    Show {
+        /// The node's id of the session, 1 to 65535.
+        session: u16,
+    },
 }
 
 /// Why words ask for nothing.
@@ -53,6 +65,8 @@ pub fn asked_of(alloc: Global, words: &[String]) -> Result<Asked, WordsFault>
         Some(Command::Soak) => soak_asked(alloc, words),
         Some(Command::Compare) => compare_asked(alloc, words),
         Some(Command::Settle) => settle_asked(alloc, words),
+        Some(Command::Ask) => ask_asked(alloc, words),
+        Some(Command::Show) => show_asked(alloc, words),
         None => Err(WordsFault::Bad),
     }
 }
@@ -149,4 +163,51 @@ fn settle_asked(alloc: Global, words: &[String]) -> Result<Asked, WordsFault>
         Err(fault) => return Err(fault),
     }
     Ok(Asked::Settle)
+}
+
+fn ask_asked(alloc: Global, words: &[String]) -> Result<Asked, WordsFault>
+    ensures ok { IfOk result (λ found. option_and_then (asked_by Command.Ask)
+        (names_of (words_of words.now)) ≡ Some found) }
+    ensures bad { IfErr result (λ fault. fault ≡ WordsFault.Bad
+        → option_and_then (asked_by Command.Ask) (names_of (words_of words.now)) ≡ None) }
+{
+    match session_asked(alloc, "ask", words) {
+        Ok(session) => Ok(Asked::Ask { session }),
+        Err(fault) => Err(fault),
+    }
+}
+
+fn show_asked(alloc: Global, words: &[String]) -> Result<Asked, WordsFault>
+    ensures ok { IfOk result (λ found. option_and_then (asked_by Command.Show)
+        (names_of (words_of words.now)) ≡ Some found) }
+    ensures bad { IfErr result (λ fault. fault ≡ WordsFault.Bad
+        → option_and_then (asked_by Command.Show) (names_of (words_of words.now)) ≡ None) }
+{
+    match session_asked(alloc, "show", words) {
+        Ok(session) => Ok(Asked::Show { session }),
+        Err(fault) => Err(fault),
+    }
+}
+
+// The session that is named behind the command of this name.
+fn session_asked<'a>(alloc: Global, name: &'a str, words: &'a [String]) -> Result<u16, WordsFault>
+    ensures ok { IfOk result (λ session. option_and_then session_among
+        (names_of (words_of words.entry.now)) ≡ Some session) }
+    ensures bad { IfErr result (λ fault. fault ≡ WordsFault.Bad
+        → option_and_then session_among (names_of (words_of words.entry.now)) ≡ None) }
+{
+    let Ok(command) = session_command(alloc, name) else {
+        return Err(WordsFault::Memory);
+    };
+    let found = match parse(command, words) {
+        Ok(found) => found,
+        Err(fault) => return Err(fault),
+    };
+    let Some(session) = found.get_str("session") else {
+        return Err(WordsFault::Bad);
+    };
+    match session_of(session) {
+        Some(session) => Ok(session),
+        None => Err(WordsFault::Bad),
+    }
 }

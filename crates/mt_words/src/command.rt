@@ -14,6 +14,10 @@ pub enum Command {
     Compare,
     /// `settle CONFIG JOURNAL`.
     Settle,
+    /// `ask S CONFIG SCRIPT`.
+    Ask,
+    /// `show S CONFIG OUTPUT`.
+    Show,
 }
 
 /// The command that a first word names.
@@ -25,6 +29,8 @@ pub fn command_of(word: &str) -> Option<Command>
         "soak" => Some(Command::Soak),
         "compare" => Some(Command::Compare),
         "settle" => Some(Command::Settle),
+        "ask" => Some(Command::Ask),
+        "show" => Some(Command::Show),
         _ => None,
     }
 }

@@ -13,7 +13,7 @@ use crate::command::{Command, command_of, places};
 pub struct Files {
     /// The configuration.
     pub config: usize,
-    /// The first recording.
+    /// The first text behind it: a recording, a script, or an output that is shown.
     pub first: Option<usize>,
     /// The second recording.
     pub second: Option<usize>,
@@ -40,6 +40,8 @@ pub fn files_of(words: &[String]) -> Result<Files, BadWords>
         Some(Command::Soak) => soak_files(others),
         Some(Command::Compare) => compare_files(others),
         Some(Command::Settle) => settle_files(others),
+        Some(Command::Ask) => session_files(others),
+        Some(Command::Show) => session_files(others),
         None => Err(BadWords),
     }
 }
@@ -104,6 +106,27 @@ fn settle_files(words: &[String]) -> Result<Files, BadWords>
             journal: Some(places[1]),
             bind: None,
         }),
+        None => Err(BadWords),
+    }
+}
+
+fn session_files(words: &[String]) -> Result<Files, BadWords>
+    ensures ask { result_ok result
+        ≡ option_and_then (files_at Command.Ask) (positional_from 1 (words_of words.now)) }
+    ensures show { result_ok result
+        ≡ option_and_then (files_at Command.Show) (positional_from 1 (words_of words.now)) }
+{
+    match places::<3>(words) {
+        Some(places) => {
+            let [_session, config, file] = places;
+            Ok(Files {
+                config,
+                first: Some(file),
+                second: None,
+                journal: None,
+                bind: None,
+            })
+        }
         None => Err(BadWords),
     }
 }

@@ -1,7 +1,7 @@
 //! Words that are numbers.
 
 ghost use Rattle.std.specs.Prelude.{◌≡◌};
-ghost use Rattle.mt_words.specs.Words.{begin_of, count_of, fabric_of};
+ghost use Rattle.mt_words.specs.Words.{begin_of, count_of, fabric_of, session_of};
 
 use mt_files::number;
 
@@ -31,6 +31,16 @@ pub fn fabric_of(word: &str) -> Option<u8>
 {
     match number(1, 254, word.as_bytes()) {
         Some(fabric) => Some(fabric as u8),
+        None => None,
+    }
+}
+
+/// The node's id of a session: 1 to 65535.
+pub fn session_of(word: &str) -> Option<u16>
+    ensures { result ≡ session_of word.now }
+{
+    match number(1, u16::MAX as u64, word.as_bytes()) {
+        Some(session) => Some(session as u16),
         None => None,
     }
 }

@@ -2,7 +2,7 @@
 
 ghost use Rattle.std.specs.Prelude.{◌≡◌, ◌≢◌, ◌↔◌, [], IfErr, IfOk, false, true};
 ghost use Rattle.clap.specs.Words.{app_of, fault_of, found_of, is_simple_and_free, kind_of, matches_of, rows_of, rule_of};
-ghost use Rattle.mt_words.specs.Parsed.{compare_app, replay_app, required_rule, settle_app, soak_app};
+ghost use Rattle.mt_words.specs.Parsed.{compare_app, replay_app, required_rule, session_app, settle_app, soak_app};
 ghost use Rattle.mt_words.specs.Words.{words_of};
 
 use crate::asked::WordsFault;
@@ -55,6 +55,18 @@ pub fn settle_command<'a>(alloc: Global) -> Result<Command<'a>, AllocError>
         .disable_version_flag(true)
         .arg(required(alloc, "config"))?
         .arg(required(alloc, "journal"))
+}
+
+/// `ask S CONFIG SCRIPT` and `show S CONFIG OUTPUT`, by the first word.
+pub fn session_command<'a>(alloc: Global, name: &'a str) -> Result<Command<'a>, AllocError>
+    ensures { IfOk result (λ command. app_of command ≡ session_app name.entry.now) }
+{
+    Command::new(alloc, name)
+        .disable_help_flag(true)
+        .disable_version_flag(true)
+        .arg(required(alloc, "session"))?
+        .arg(required(alloc, "config"))?
+        .arg(required(alloc, "file"))
 }
 
 // A word that has to be there.

@@ -1,6 +1,6 @@
 use Rattle.std.proofs.Common.{◌≡◌, ◌⊎◌, inl, inr, ◌∙◌, length, Err, sym, arith, eqb-true}
-use Rattle.mt_files.specs.declared.line_fault.LineFault.{LineFault}
-use Rattle.mt_files.specs.declared.line_fault.LineFault.TheVariants.{Memory}
+use Rattle.mt_model.specs.declared.texts.line_fault.LineFault.{LineFault}
+use Rattle.mt_model.specs.declared.texts.line_fault.LineFault.TheVariants.{Memory}
 use Rattle.mt_files.specs.Lines.{lines_of}
 use Rattle.mt_ctl.specs.Script.{steps_from}
 use Rattle.mt_ctl.proofs.Readings.{handed_on, onto_all-line, onto_all-stop, onto_all-done, short_more}

@@ -2,7 +2,7 @@ use Rattle.std.proofs.Common.{refl, ℕ, List, [], ◌∷◌, Option, Some, None
 use Rattle.std.specs.Option.{option_and_then}
 use Rattle.mt_words.specs.Words.{asked, asked_by, command_of, files_at, files_of, names_of, positional_from, words_at}
 use Rattle.mt_words.specs.declared.command.Command.{Command}
-use Rattle.mt_words.specs.declared.command.Command.TheVariants.{Compare, Replay, Settle, Soak}
+use Rattle.mt_words.specs.declared.command.Command.TheVariants.{Ask, Compare, Replay, Settle, Show, Soak}
 use Rattle.mt_words.proofs.laws.words_that_ask_name_files.Goals as goal
 
 at : (command : Command) (places : List ℕ) (words : List (List ℕ)) → IsSome (asked_by command (words_at words places)) → IsSome (files_at command places)
@@ -25,6 +25,16 @@ at Settle [] words some = some
 at Settle (a ∷ []) words some = some
 at Settle (a ∷ b ∷ []) words some = refl
 at Settle (a ∷ b ∷ c ∷ places) words some = some
+at Ask [] words some = some
+at Ask (a ∷ []) words some = some
+at Ask (a ∷ b ∷ []) words some = some
+at Ask (a ∷ b ∷ c ∷ []) words some = refl
+at Ask (a ∷ b ∷ c ∷ d ∷ places) words some = some
+at Show [] words some = some
+at Show (a ∷ []) words some = some
+at Show (a ∷ b ∷ []) words some = some
+at Show (a ∷ b ∷ c ∷ []) words some = refl
+at Show (a ∷ b ∷ c ∷ d ∷ places) words some = some
 
 by_places : (command : Command) (found : Option (List ℕ)) (words : List (List ℕ)) → IsSome (option_and_then (asked_by command) (option_map (words_at words) found)) → IsSome (option_and_then (files_at command) found)
 by_places command None words some = some

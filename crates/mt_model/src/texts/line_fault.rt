@@ -1,7 +1,7 @@
 //! What keeps a text from being a recording.
 
 ghost use Rattle.std.specs.Prelude.{◌≡◌, Some};
-ghost use Rattle.mt_files.specs.Kinds.{kind_name};
+ghost use Rattle.mt_model.specs.texts.LineKinds.{kind_name};
 
 use std::alloc::{AllocError, AllocFailed};
 use std::fmt;
@@ -60,7 +60,7 @@ pub enum LineFault {
 }
 
 impl From<AllocError> for LineFault {
-    ghost use Rattle.mt_files.specs.declared.line_fault.LineFault.TheVariants.{Memory};
+    ghost use Rattle.mt_model.specs.declared.texts.line_fault.LineFault.TheVariants.{Memory};
 
     ghost from_gives = { λ _ fault. fault ≡ Memory };
 
@@ -70,7 +70,7 @@ impl From<AllocError> for LineFault {
 }
 
 impl<T: Drop> From<AllocFailed<T>> for LineFault {
-    ghost use Rattle.mt_files.specs.declared.line_fault.LineFault.TheVariants.{Memory};
+    ghost use Rattle.mt_model.specs.declared.texts.line_fault.LineFault.TheVariants.{Memory};
 
     ghost from_gives = { λ _ fault. fault ≡ Memory };
 

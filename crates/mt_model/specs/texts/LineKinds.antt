@@ -1,7 +1,7 @@
 -- The word for what is wrong with a line.
 use Rattle.std.specs.Prelude.{ℕ, List, codes}
-use Rattle.mt_files.specs.declared.line_fault.LineKind.{LineKind}
-use Rattle.mt_files.specs.declared.line_fault.LineKind.TheVariants.{Head, Form, Number, Hex, Time}
+use Rattle.mt_model.specs.declared.texts.line_fault.LineKind.{LineKind}
+use Rattle.mt_model.specs.declared.texts.line_fault.LineKind.TheVariants.{Head, Form, Number, Hex, Time}
 
 abbrev pub kind_name : LineKind → List ℕ
 kind_name Head = codes "head"
