@@ -1,0 +1,9 @@
+pub mod Actions
+pub mod Commands
+pub mod Keys
+pub mod Lines
+pub mod Others
+pub mod Rows
+pub mod Runs
+pub mod Steps
+pub mod Writes

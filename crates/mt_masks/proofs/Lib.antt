@@ -1,0 +1,12 @@
+pub mod Fields
+pub mod Lists
+pub mod Rows
+pub mod Sets
+pub mod Steps
+pub mod Lines
+pub mod Actions
+pub mod Seen
+pub mod Commands
+pub mod Observed
+pub mod Writes
+pub mod Keys

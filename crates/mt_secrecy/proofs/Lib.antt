@@ -1,0 +1,5 @@
+pub mod Lines
+pub mod Next
+pub mod Reopenings
+pub mod Runs
+pub mod Sample

@@ -1,0 +1,13 @@
+pub mod Accepted
+pub mod Actions
+pub mod Answers
+pub mod Commands
+pub mod Openings
+pub mod Others
+pub mod Refusals
+pub mod Reopened
+pub mod Rows
+pub mod Runs
+pub mod Shown
+pub mod Told
+pub mod Writes
