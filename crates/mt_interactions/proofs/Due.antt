@@ -1,18 +1,26 @@
 -- What a wish, and a report that is due, make of the subscriptions.
-use Rattle.std.proofs.Common.{◌≡◌, ℕ, ◌-◌, Bool, true, false, List, Option, Some, None, refl, ap, sym, ◌∙◌, is_none, is_some, not, if◌then◌else◌}
+use Rattle.std.proofs.Common.{◌≡◌, ℕ, ◌-◌, Bool, true, false, List, [], Option, Some, None, refl, ap, sym, ◌∙◌, is_none, is_some, not, if◌then◌else◌}
 use Rattle.mt_model.specs.declared.node.state.NodeState.{NodeState}
 use Rattle.mt_model.specs.declared.node.state.ChangeNumber.{ChangeNumber}
 use Rattle.mt_model.specs.declared.rows.place.Place.{Place}
 use Rattle.mt_model.specs.rows.Seen.{own_entries}
+use Rattle.mt_model.specs.declared.messages.message.Payload.{Payload}
+use Rattle.mt_model.specs.declared.messages.message.Reply.{Reply}
+use Rattle.mt_model.specs.declared.texts.recording.Sent.{Sent}
+use Rattle.mt_im_out.specs.Chunks.{chunks_of}
+use Rattle.mt_machine.specs.Lines.{sent_as}
+use Rattle.mt_ledger.specs.history.History.{History}
 use Rattle.mt_ledger.specs.Behind.{reports, subs_done}
 use Rattle.mt_ledger.specs.Ledger.{Ledger}
-use Rattle.mt_ledger.specs.Reporting.{Due, behind_report, due_events, due_kept, due_now, has_unreported, with_places}
+use Rattle.mt_ledger.specs.Reporting.{Due, behind_report, due_events, due_kept, due_now, due_report, has_unreported, with_places}
 use Rattle.mt_ledger.specs.Subscribing.{Wish, at_once, behind_wish, first_events, has_no_room, is_malformed, last_told, left_by, subscribed}
 use Rattle.mt_subs.specs.Leaving.{without_node}
 use Rattle.mt_subs.specs.Subscriptions.{added, changed, is_full, kept_at, next_id, reported}
 use Rattle.mt_subs.specs.Owed.{due_of}
 use Rattle.mt_subs.specs.declared.subscription.Kept.{Kept}
 use Rattle.mt_subs.specs.declared.subscription.SubState.{SubState}
+use Rattle.mt_interactions.specs.Deeds.{reply_due}
+use Rattle.mt_interactions.specs.Reporting.{payloads_if_session, reported_over, sent_if_plain, sent_plainly, session_due}
 use Rattle.mt_interactions.specs.Subscribing.{confirmed_if, told_at}
 use Rattle.mt_interactions.proofs.Subscribed.{confirms_at_once}
 
@@ -59,3 +67,23 @@ reports_due s l now fabric id due change event none is to up interactions =
     ∙ confirms_at_once fabric id due.kept.sub.actor (reported now change event) l.subs
     ∙ (λ i. changed fabric id (λ (kept : Kept). at_once due.kept.sub.actor (reported now (to i) (up i) kept)) l.subs)
     ∙ sym (ap (behind_report s l now fabric id) is)
+
+-- What a report step sends, by over which session it tells.
+
+pub over_session : (s : NodeState) (h : History) (fabric id : ℕ) (due : Option Due) (session : ℕ) (report : Reply) (payloads : List Payload) → report ≡ reply_due s h fabric id due → Some session ≡ session_due due → payloads ≡ chunks_of report
+    → Some (session, payloads) ≡ reported_over s h fabric id due
+over_session s h fabric id None session report payloads is over cut = absurd (cc)
+over_session s h fabric id (Some due) session report payloads is over cut = (λ i. Some (session, (cut ∙ ap chunks_of is) i)) ∙ ap (payloads_if_session (due_report s h fabric id due)) over
+
+pub not_plainly : (s : NodeState) (h : History) (ms fabric id : ℕ) (due : Option Due) (session : ℕ) → Some session ≡ session_due due → [] ≡ sent_plainly s h ms fabric id due
+not_plainly s h ms fabric id None session over = refl
+not_plainly s h ms fabric id (Some due) session over = ap (sent_if_plain ms fabric (due_report s h fabric id due)) over
+
+pub over_none : (s : NodeState) (h : History) (fabric id : ℕ) (due : Option Due) → None ≡ session_due due → None ≡ reported_over s h fabric id due
+over_none s h fabric id None over = refl
+over_none s h fabric id (Some due) over = ap (payloads_if_session (due_report s h fabric id due)) over
+
+pub plainly : (s : NodeState) (h : History) (ms fabric id : ℕ) (due : Option Due) (report : Reply) (messages : List Sent) → report ≡ reply_due s h fabric id due → None ≡ session_due due → messages ≡ sent_as ms fabric report
+    → messages ≡ sent_plainly s h ms fabric id due
+plainly s h ms fabric id None report messages is over sends = sends ∙ ap (sent_as ms fabric) is
+plainly s h ms fabric id (Some due) report messages is over sends = sends ∙ ap (sent_as ms fabric) is ∙ ap (sent_if_plain ms fabric (due_report s h fabric id due)) over

@@ -1,7 +1,9 @@
 pub mod Planned
 pub mod Committed
-pub mod Dated
+pub mod Dating
 pub mod Recorded
 pub mod Reported
 pub mod Subscribed
 pub mod Due
+pub mod Ending
+pub mod Unheard

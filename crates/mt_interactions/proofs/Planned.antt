@@ -1,5 +1,5 @@
 -- The outcome of a line, from the plan of the node's action.
-use Rattle.std.proofs.Common.{◌≡◌, ℕ, not, ◌==◌, ◌&&◌, ◌||◌, inl, inr, Bool, true, false, List, [], ◌∷◌, Option, None, Some, Result, Ok, Err, IfOk, filter, refl, sym, ap, ◌∙◌, append-nil, if◌then◌else◌, unwrap_or}
+use Rattle.std.proofs.Common.{◌≡◌, ℕ, not, ◌==◌, ◌&&◌, ◌||◌, inl, inr, Bool, true, false, List, [], ◌∷◌, Option, None, Some, Result, Ok, Err, IfOk, filter, refl, sym, ap, ◌∙◌, append-nil, if◌then◌else◌, is_none, unwrap_or}
 use Rattle.std.specs.List.{list_any}
 use Rattle.mt_im.specs.Reading.{Gives}
 use Rattle.mt_im.specs.declared.fault.ImFault.{ImFault}
@@ -14,7 +14,7 @@ use Rattle.mt_model.specs.declared.messages.message.Reply.TheVariants as replies
 use Rattle.mt_model.specs.declared.messages.message.Request.{Request}
 use Rattle.mt_machine.specs.Lines.{action_of, deadline_for, deadline_of, deadlines_after, deadlines_of_those_left, fault_reply, is_deadline_of, sent_as, with_deadline, without}
 use Rattle.mt_machine.specs.State.{State, is_among}
-use Rattle.mt_machine.specs.Step.{after_action, after_steps, asked_reply, asked_steps, asker, at_time, gone_between, reply_of}
+use Rattle.mt_machine.specs.Step.{after_action, after_steps, asked_reply, asked_steps, asker, at_time, closed_between, gone_between, reply_of}
 use Rattle.mt_machine.specs.Rollback.{added_in, deadlines_left, is_due}
 use Rattle.mt_machine.specs.Laws.{TakesTheAddedAway}
 use Rattle.mt_model.specs.declared.tables.network.Armed.{Armed}
@@ -25,16 +25,17 @@ use Rattle.mt_node.specs.Plan.{IsPlan, applied}
 use Rattle.mt_model.specs.declared.node.state.NodeState.{NodeState}
 use Rattle.mt_model.specs.declared.tables.fabric.Fabric.{Fabric}
 use Rattle.std.proofs.lemmas.Bool.{cases_Bool}
-use Rattle.mt_interactions.specs.Plan.{IsDone, IsLine, IsPassing, IsPlanned, IsTick, applied_history, applied_ledger, is_want_of_memory, left_without}
+use Rattle.mt_interactions.specs.Deeds.{done_for}
+use Rattle.mt_interactions.specs.Plan.{IsDone, IsLine, IsPassing, IsPlanned, IsTick, applied_history, applied_ledger, closed_by, is_want_of_memory, left_without}
 use Rattle.mt_interactions.specs.Replying.{replied_plainly, sent_both}
 use Rattle.mt_interactions.specs.Subscribing.{applied_subs}
 use Rattle.mt_interactions.specs.declared.behind.SubsBehind.{SubsBehind}
 use Rattle.mt_model.specs.declared.texts.recording.Sent.{Sent}
 use Rattle.mt_subs.specs.Leaving.{left_in}
 use Rattle.mt_ledger.specs.Asking.{full_reply, line_response, line_wish, with_wish}
-use Rattle.mt_ledger.specs.Behind.{Activity, acts, action_in, ledger_behind, subs_done}
+use Rattle.mt_ledger.specs.Behind.{Activity, acts, action_in, ledger_behind, state_done, subs_done}
 use Rattle.mt_ledger.specs.Ledger.{Ledger}
-use Rattle.mt_ledger.specs.Subscribing.{behind_wish_if_any, wish_asked, wish_in_time}
+use Rattle.mt_ledger.specs.Subscribing.{behind_wish_if_any, wish_asked, wish_in, wish_in_time}
 use Rattle.mt_ledger.specs.history.Asking.{events_for, with_events}
 use Rattle.mt_ledger.specs.history.Behind.{history_behind}
 use Rattle.mt_ledger.specs.history.History.{History, recorded_all, without_left}
@@ -259,19 +260,25 @@ passing_does given s l ms subs activity outcome nothing made passing = record {
   planned = passing.planned;
 }
 
+-- an action of the node
+pub acted : (given : Environment) (s : State) (l : Ledger) (ms : ℕ) (action : Action) (outcome : InteractionOutcome) → outcome.ms ≡ ms → IsPlanned s l outcome → IsPlan given s.node action ms outcome.node
+    → applied_subs outcome.subs ms l.subs ≡ behind_wish_if_any s.node l ms (wish_in s.node action ms)
+    → unwrap_or outcome.deadlines s.deadlines ≡ left_without outcome.node.gone s.deadlines → IsDone given s l (acts action) ms outcome
+acted given s l ms action outcome time so plan made left =
+    let deadlines : unwrap_or outcome.deadlines s.deadlines ≡ deadlines_of_those_left s.node (after_action given s.node action ms) s.deadlines =
+    left ∙ left_is_gone s.node (applied outcome.node s.node) outcome.node.gone plan.leaves s.deadlines ∙ ap (λ (now : NodeState). deadlines_of_those_left s.node now s.deadlines) plan.state in
+    record {
+      state = λ i. record { node = plan.state i; deadlines = deadlines i };
+      ledger = ledger_of given s l (acts action) ms outcome time plan made;
+      planned = so;
+    }
+
 -- what is asked over a session
 pub asked_over : (given : Environment) (s : State) (l : Ledger) (ms : ℕ) (actor asking : Actor) (request : Request) (timed : Option ℕ) (outcome : InteractionOutcome) → asker s.node actor ≡ Some asking → outcome.ms ≡ ms → IsPlanned s l outcome → IsPlan given s.node (Ask actor request timed) ms outcome.node
     → applied_subs outcome.subs ms l.subs ≡ behind_wish_if_any s.node l ms (wish_in_time asking timed ms request)
     → unwrap_or outcome.deadlines s.deadlines ≡ left_without outcome.node.gone s.deadlines → IsDone given s l (acts (Ask actor request timed)) ms outcome
 asked_over given s l ms actor asking request timed outcome asks time so plan made left =
-    let behind : NodeState = after_action given s.node (Ask actor request timed) ms in
-    let deadlines : unwrap_or outcome.deadlines s.deadlines ≡ deadlines_of_those_left s.node behind s.deadlines =
-    left ∙ left_is_gone s.node (applied outcome.node s.node) outcome.node.gone plan.leaves s.deadlines ∙ ap (λ (now : NodeState). deadlines_of_those_left s.node now s.deadlines) plan.state in
-    record {
-      state = λ i. record { node = plan.state i; deadlines = deadlines i };
-      ledger = ledger_of given s l (acts (Ask actor request timed)) ms outcome time plan (made ∙ ap (λ (a : Option Actor). behind_wish_if_any s.node l ms (wish_asked a timed ms request)) (sym asks));
-      planned = so;
-    }
+    acted given s l ms (Ask actor request timed) outcome time so plan (made ∙ ap (λ (a : Option Actor). behind_wish_if_any s.node l ms (wish_asked a timed ms request)) (sym asks)) left
 
 -- what it is replied
 pub replied : (given : Environment) (s : NodeState) (l : Ledger) (ms : ℕ) (actor asking : Actor) (request : Request) (timed : Option ℕ) (reply : Reply) → asker s actor ≡ Some asking → reply ≡ reply_of given s (Ask actor request timed) ms
@@ -293,3 +300,14 @@ nobody_over given s l ms actor request timed outcome none quiet =
 
 pub nobody_replied : (given : Environment) (s : NodeState) (l : Ledger) (ms : ℕ) (actor : Actor) (request : Request) (timed : Option ℕ) → asker s actor ≡ None → full_reply given s l (Ask actor request timed) ms ≡ replies.Nothing
 nobody_replied given s l ms actor request timed none = ap (λ (a : Option Actor). with_wish s l (wish_asked a timed ms request) (with_events (events_for s l.history a request) (asked_reply given s request timed ms a))) none
+
+-- The sessions that end with what is done.
+pub closes : (given : Environment) (s : State) (l : Ledger) (activity : Activity) (ms : ℕ) (outcome : InteractionOutcome) → IsDone given s l activity ms outcome → closed_by outcome ≡ closed_between s.node.sessions (state_done given s.node activity ms).sessions
+closes given s l activity ms outcome done =
+    let plan = done.planned.node.1.1.1 in
+    ap (λ (aside : Aside). aside.closed) plan.aside ∙ ap (λ (t : NodeState). closed_between s.node.sessions t.sessions) (sym plan.state ∙ ap (λ (t : State). t.node) done.state)
+
+-- what is done over a session that is live
+pub some_does : (fabric : Option ℕ) (activity : Activity) → is_none fabric ≡ false → activity ≡ done_for fabric (λ live. activity)
+some_does None activity live = absurd (cc)
+some_does (Some fabric) activity live = refl

@@ -1,5 +1,6 @@
 pub mod Committing
 pub mod Configured
+pub mod Deeds
 pub mod Plan
 pub mod Recording
 pub mod Replying

@@ -30,6 +30,11 @@ abbrev pub reported_over : NodeState → History → ℕ → ℕ → Option Due 
 reported_over s h fabric id None = None
 reported_over s h fabric id (Some due) = payloads_if_session (due_report s h fabric id due) due.kept.sub.actor.session
 
+-- over which session what is due is told
+abbrev pub session_due : Option Due → Option ℕ
+session_due None = None
+session_due (Some due) = due.kept.sub.actor.session
+
 -- what is due, as the code has it
 
 abbrev pub due_by : code.DueReport → Due

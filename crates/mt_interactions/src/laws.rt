@@ -1,6 +1,7 @@
-//! A law of what is committed. It is the contract of a function that does nothing.
+//! Laws of what is committed, of which subscriptions end, and of what is replied. Each is the contract of a function that does nothing.
 
 ghost use Rattle.mt_interactions.specs.Committing.{CommitsLeadOn};
+ghost use Rattle.mt_interactions.specs.Deeds.{EndsAreByTime, NobodyIsReplied};
 
 use mt_lasting::{changes_lead_on, committed_bytes_say_the_change};
 
@@ -12,3 +13,14 @@ pub fn commits_lead_on()
     changes_lead_on();
     committed_bytes_say_the_change();
 }
+
+/// The subscriptions whose time has come are those that a resend step ends at that time, as long as it is not the last that can
+/// be told.
+pub fn ends_are_by_time()
+    ensures { EndsAreByTime }
+{}
+
+/// Nothing is replied to a deed over a session that is not live, nor to one of no session and no subscription.
+pub fn nobody_is_replied()
+    ensures { NobodyIsReplied }
+{}

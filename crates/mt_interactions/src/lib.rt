@@ -6,6 +6,7 @@
 //! - `outcome`: what comes of a line;
 //! - `lines`: a line of a plain actor, from its payload to what is sent;
 //! - `sessions`: what is asked over a session;
+//! - `deeds`: what is asked of it by session, as data that a book can keep;
 //! - `ticks`: a time step;
 //! - `history`: what the node remembers of events;
 //! - `reporting`: the events among what is replied;
@@ -17,11 +18,12 @@
 //! - `deadlines`: until when the next requests of plain actors must come;
 //! - `sending`: the messages of a reply;
 //! - `seeing`: what it is, lent to whoever compares;
-//! - `laws`: what holds of what is committed.
+//! - `laws`: what holds of what is committed, of which subscriptions end, and of what is replied.
 #![tactic(auto)]
 
 mod behind;
 mod deadlines;
+mod deeds;
 mod history;
 mod interactions;
 mod laws;
@@ -38,7 +40,10 @@ mod telling;
 mod ticks;
 mod wishes;
 
+pub use deeds::{Deed, PlannedDeed};
 pub use history::starts_may_record;
 pub use interactions::{Interactions, asked};
-pub use laws::commits_lead_on;
+pub use laws::{commits_lead_on, ends_are_by_time, nobody_is_replied};
+pub use lines::fault_reply;
 pub use outcome::InteractionOutcome;
+pub use sessions::{dated, deadline_set};

@@ -217,7 +217,7 @@ fn refused<V: Verdicts>(
 }
 
 /// The reply to a payload that is no request.
-pub(crate) fn fault_reply(fault: ImFault) -> Reply
+pub fn fault_reply(fault: ImFault) -> Reply
     ensures { result ≡ fault_reply fault }
 {
     let status = match fault {

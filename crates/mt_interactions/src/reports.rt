@@ -7,7 +7,8 @@ ghost use Rattle.mt_ledger.specs.Subscribing.{last_told};
 ghost use Rattle.mt_model.specs.messages.Blocks.{path_of};
 ghost use Rattle.mt_interactions.specs.Configured.{given_to};
 ghost use Rattle.mt_interactions.specs.Plan.{IsDone};
-ghost use Rattle.mt_interactions.specs.Reporting.{due_as, due_by, reported_over, sent_plainly};
+ghost use Rattle.mt_interactions.specs.Deeds.{reply_due};
+ghost use Rattle.mt_interactions.specs.Reporting.{due_as, due_by, reported_over, sent_plainly, session_due};
 
 use crate::behind::SubsBehind;
 use crate::interactions::Interactions;
@@ -44,11 +45,39 @@ impl Interactions {
         ensures outcome { let given = given_to self.now (V.roots verdicts.now) (V.csrs verdicts.now) (V.joins verdicts.now) in
             IfOk result (λ all. IsDone given self.now.state self.now.ledger (reports fabric id) ms all.2) }
     {
+        let (report, session, outcome) = self.reported_to(fabric, id, ms, verdicts)?;
+        match session {
+            Some(session) => {
+                let payloads = chunks(self.alloc, &report)?;
+                let none = SentList::new(self.alloc);
+                Ok((Some((session, payloads)), none, outcome))
+            },
+            None => {
+                let sent = sent_as(self.alloc, ms, fabric, &report)?;
+                Ok((None, sent, outcome))
+            },
+        }
+    }
+
+    /// What a report step tells, over which session, and what comes of it. Where nothing is due it tells nothing, over none, and
+    /// time passes.
+    pub(crate) fn reported_to<V: Verdicts>(
+        &self,
+        fabric: u8,
+        id: u32,
+        ms: u64,
+        verdicts: &V,
+    ) -> Result<(Reply, Option<u16>, InteractionOutcome), AllocError>
+        ensures reply { IfOk result (λ all. all.0 ≡ reply_due self.now.state.node self.now.ledger.history fabric id (due_now self.now.state.node self.now.ledger ms fabric id)) }
+        ensures session { IfOk result (λ all. all.1 ≡ session_due (due_now self.now.state.node self.now.ledger ms fabric id)) }
+        ensures outcome { let given = given_to self.now (V.roots verdicts.now) (V.csrs verdicts.now) (V.joins verdicts.now) in
+            IfOk result (λ all. IsDone given self.now.state self.now.ledger (reports fabric id) ms all.2) }
+    {
         match due_now(self, fabric, id, ms)? {
             Some(due) => reported(self, fabric, id, &due, ms, verdicts),
             None => {
                 let outcome = self.pass(ms, verdicts)?;
-                Ok((None, SentList::new(self.alloc), outcome))
+                Ok((Reply::Nothing, None, outcome))
             },
         }
     }
@@ -167,7 +196,7 @@ fn paths_of(alloc: Global, places: &[Place]) -> Result<Paths, AllocError>
     Ok(Paths::from_vec(paths))
 }
 
-// What comes of what is due.
+// What is due is told.
 fn reported<V: Verdicts>(
     interactions: &Interactions,
     fabric: u8,
@@ -175,10 +204,10 @@ fn reported<V: Verdicts>(
     due: &DueReport,
     ms: u64,
     verdicts: &V,
-) -> Result<(Option<(u16, Payloads)>, SentList, InteractionOutcome), AllocError>
+) -> Result<(Reply, Option<u16>, InteractionOutcome), AllocError>
     requires { due_now interactions.now.state.node interactions.now.ledger ms fabric id ≡ Some (due_by due.now) }
-    ensures over { IfOk result (λ all. all.0 ≡ reported_over interactions.now.state.node interactions.now.ledger.history fabric id (Some (due_by due.now))) }
-    ensures sent { IfOk result (λ all. all.1 ≡ sent_plainly interactions.now.state.node interactions.now.ledger.history ms fabric id (Some (due_by due.now))) }
+    ensures reply { IfOk result (λ all. all.0 ≡ due_report interactions.now.state.node interactions.now.ledger.history fabric id (due_by due.now)) }
+    ensures session { IfOk result (λ all. all.1 ≡ due.now.kept.now.sub.actor.session) }
     ensures outcome { let given = given_to interactions.now (V.roots verdicts.now) (V.csrs verdicts.now) (V.joins verdicts.now) in
         IfOk result (λ all. IsDone given interactions.now.state interactions.now.ledger (reports fabric id) ms all.2) }
 {
@@ -191,17 +220,6 @@ fn reported<V: Verdicts>(
         event,
         at_once: session.is_none(),
     };
-    match session {
-        Some(session) => {
-            let payloads = chunks(interactions.alloc, &report)?;
-            let outcome = interactions.passing(ms, subs, verdicts)?;
-            let none = SentList::new(interactions.alloc);
-            Ok((Some((session, payloads)), none, outcome))
-        },
-        None => {
-            let sent = sent_as(interactions.alloc, ms, fabric, &report)?;
-            let outcome = interactions.passing(ms, subs, verdicts)?;
-            Ok((None, sent, outcome))
-        },
-    }
+    let outcome = interactions.passing(ms, subs, verdicts)?;
+    Ok((report, session, outcome))
 }

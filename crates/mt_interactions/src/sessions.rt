@@ -1,17 +1,17 @@
 //! What is asked over a session.
 
-ghost use Rattle.std.specs.Prelude.{◌≡◌, Ok, IfOk, map, option_copied};
+ghost use Rattle.std.specs.Prelude.{◌≡◌, Ok, IfOk, map, option_copied, unwrap_or};
 ghost use Rattle.mt_machine.specs.Lines.{action_of};
 ghost use Rattle.mt_machine.specs.Step.{session_actor};
 ghost use Rattle.mt_model.specs.declared.messages.message.Payload.{Payload};
-ghost use Rattle.mt_runs.specs.Datagrams.{actor_on, dated, deadline_set, payloads_confirmed, payloads_over};
+ghost use Rattle.mt_runs.specs.Datagrams.{actor_on, dated, deadline_set, payloads_confirmed, payloads_over, reply_over};
+ghost use Rattle.mt_subs.specs.Subscriptions.{kept_at};
 ghost use Rattle.mt_runs.specs.Whole.{fabric_over};
 ghost use Rattle.mt_ledger.specs.history.Asking.{events_asked, with_events};
 ghost use Rattle.mt_ledger.specs.Asking.{with_wish};
 ghost use Rattle.mt_ledger.specs.Behind.{acts, confirms, ends};
 ghost use Rattle.mt_ledger.specs.Subscribing.{behind_wish_if_any, confirm_reply, wish_in_time};
 ghost use Rattle.mt_im.specs.Limits.{IsWithinLimits};
-ghost use Rattle.mt_im_out.specs.Chunks.{chunks_of};
 ghost use Rattle.mt_interactions.specs.Configured.{given_to};
 ghost use Rattle.mt_interactions.specs.Plan.{IsDone, IsPassing};
 ghost use Rattle.mt_interactions.specs.Subscribing.{applied_subs};
@@ -49,7 +49,11 @@ impl Interactions {
             IfOk result (λ both. IsDone given self.now.state self.now.ledger (acts (action_of (actor_on session) timed asked.now)) ms both.1) }
     {
         match asked {
-            Ok(request) => self.answer_over(session, request, timed, ms, verdicts),
+            Ok(request) => {
+                let (full, outcome) = self.asked_over(session, request, timed, ms, verdicts)?;
+                let payloads = chunks(self.alloc, told(&full, &outcome.node.reply))?;
+                Ok((dated(payloads, deadline_set(timed, ms, request)), outcome))
+            },
             Err(fault) => {
                 let payloads = chunks(self.alloc, &fault_reply(*fault))?;
                 let outcome = self.pass(ms, verdicts)?;
@@ -58,37 +62,36 @@ impl Interactions {
         }
     }
 
-    // What a request over a session is answered.
-    fn answer_over<V: Verdicts>(
+    /// What a request over a session is replied, None where the reply of the node's outcome stands as it is, and what comes of it.
+    pub(crate) fn asked_over<V: Verdicts>(
         &self,
         session: u16,
         request: &Request,
         timed: Option<u64>,
         ms: u64,
         verdicts: &V,
-    ) -> Result<(Payloads, InteractionOutcome), AllocError>
+    ) -> Result<(Option<Reply>, InteractionOutcome), AllocError>
         requires within { IsWithinLimits request.now }
-        ensures payloads { let given = given_to self.now (V.roots verdicts.now) (V.csrs verdicts.now) (V.joins verdicts.now) in
-            IfOk result (λ both. both.0 ≡ payloads_over given self.now.state.node self.now.ledger session timed ms (Ok request.now)) }
+        ensures reply { let given = given_to self.now (V.roots verdicts.now) (V.csrs verdicts.now) (V.joins verdicts.now) in
+            IfOk result (λ both. unwrap_or both.0 both.1.node.reply ≡ reply_over given self.now.state.node self.now.ledger session timed ms (Ok request.now)) }
         ensures outcome { let given = given_to self.now (V.roots verdicts.now) (V.csrs verdicts.now) (V.joins verdicts.now) in
             IfOk result (λ both. IsDone given self.now.state self.now.ledger (acts (Action.Ask (actor_on session) request.now timed)) ms both.1) }
     {
         let actor = actor_on(session);
         let Some(asking) = self.node.asker(&actor) else {
-            let payloads = chunks(self.alloc, &Reply::Nothing)?;
-            let until = deadline_set(timed, ms, request);
-            return Ok((dated(payloads, until), self.pass(ms, verdicts)?));
+            let outcome = self.pass(ms, verdicts)?;
+            return Ok((Some(Reply::Nothing), outcome));
         };
         let node = self
             .node
             .plan_asked(&actor, &asking, request, timed, ms, verdicts)?;
         let deadlines = left_without(self.alloc, self.deadlines.as_slice(), None, node.gone)?;
-        let (payloads, subs) = self.replied_over(&asking, request, timed, ms, &node.reply)?;
-        let payloads = dated(payloads, deadline_set(timed, ms, request));
-        Ok((payloads, self.outcome(ms, node, deadlines, subs)?))
+        let (full, subs) = self.replied_over(&asking, request, timed, ms, &node.reply)?;
+        let outcome = self.outcome(ms, node, deadlines, subs)?;
+        Ok((full, outcome))
     }
 
-    // The payloads of a reply over a session, with the events that the request asks for, and what is made of the
+    // The reply over a session with the events that the request asks for, None where it stays as it is, and what is made of the
     // subscriptions.
     fn replied_over(
         &self,
@@ -97,35 +100,17 @@ impl Interactions {
         timed: Option<u64>,
         ms: u64,
         reply: &Reply,
-    ) -> Result<(Payloads, SubsBehind), AllocError>
+    ) -> Result<(Option<Reply>, SubsBehind), AllocError>
         requires { IsWithinLimits request.now }
-        ensures payloads { IfOk result (λ both. both.0 ≡ chunks_of (with_wish self.now.state.node self.now.ledger (wish_in_time asking.now timed ms request.now) (with_events (events_asked self.now.state.node.entries self.now.ledger.history.rings asking.now request.now) reply.now))) }
+        ensures reply { IfOk result (λ both. unwrap_or both.0 reply.now ≡ with_wish self.now.state.node self.now.ledger (wish_in_time asking.now timed ms request.now) (with_events (events_asked self.now.state.node.entries self.now.ledger.history.rings asking.now request.now) reply.now)) }
         ensures subs { IfOk result (λ both. applied_subs both.1 ms self.now.ledger.subs ≡ behind_wish_if_any self.now.state.node self.now.ledger ms (wish_in_time asking.now timed ms request.now)) }
     {
         let Some(wish) = wish_in_time(asking, timed, ms, request)? else {
-            return Ok((
-                self.payloads_told(asking, request, reply)?,
-                SubsBehind::Same,
-            ));
+            let full = with_events(self, asking, request, reply)?;
+            return Ok((full, SubsBehind::Same));
         };
         let answered = subscribing::answer(self, wish, ms)?;
-        Ok((chunks(self.alloc, &answered.reply)?, answered.subs))
-    }
-
-    // The payloads of a reply, and of the events that the request asks for.
-    fn payloads_told(
-        &self,
-        asking: &Actor,
-        request: &Request,
-        reply: &Reply,
-    ) -> Result<Payloads, AllocError>
-        requires { IsWithinLimits request.now }
-        ensures { IfOk result (λ payloads. payloads ≡ chunks_of (with_events (events_asked self.now.state.node.entries self.now.ledger.history.rings asking.now request.now) reply.now)) }
-    {
-        match with_events(self, asking, request, reply)? {
-            Some(full) => chunks(self.alloc, &full),
-            None => chunks(self.alloc, reply),
-        }
+        Ok((Some(answered.reply), answered.subs))
     }
 
     /// Plans what a confirmation over a session brings, at this time in ms: the subscription whose report it confirms is live,
@@ -142,13 +127,30 @@ impl Interactions {
             IfOk result (λ both. IsDone given self.now.state self.now.ledger (confirms (fabric_over self.now.state.node session) subscription) ms both.1) }
     {
         let fabric = self.fabric_over(session);
-        let reply = confirm_reply(subscription, self.subs.get(fabric, subscription));
+        let (reply, outcome) = self.confirmed(fabric, subscription, ms, verdicts)?;
         let payloads = chunks(self.alloc, &reply)?;
+        Ok((payloads, outcome))
+    }
+
+    /// What the confirmation of a report to a subscription of a fabric is replied, and what comes of it.
+    pub(crate) fn confirmed<V: Verdicts>(
+        &self,
+        fabric: u8,
+        subscription: u32,
+        ms: u64,
+        verdicts: &V,
+    ) -> Result<(Reply, InteractionOutcome), AllocError>
+        ensures reply { IfOk result (λ both. both.0 ≡ confirm_reply subscription (kept_at fabric subscription self.now.ledger.subs)) }
+        ensures outcome { let given = given_to self.now (V.roots verdicts.now) (V.csrs verdicts.now) (V.joins verdicts.now) in
+            IfOk result (λ both. IsDone given self.now.state self.now.ledger (confirms fabric subscription) ms both.1) }
+    {
+        let reply = confirm_reply(subscription, self.subs.get(fabric, subscription));
         let subs = SubsBehind::Confirmed {
             fabric,
             id: subscription,
         };
-        Ok((payloads, self.passing(ms, subs, verdicts)?))
+        let outcome = self.passing(ms, subs, verdicts)?;
+        Ok((reply, outcome))
     }
 
     /// Plans that subscriptions of the fabric for which a session is live end, at this time in ms.
@@ -163,6 +165,20 @@ impl Interactions {
             IfOk result (IsDone given self.now.state self.now.ledger (ends (fabric_over self.now.state.node session) ids.items) ms) }
     {
         let fabric = self.fabric_over(session);
+        self.ended(fabric, ids, ms, verdicts)
+    }
+
+    /// What comes of it that subscriptions of a fabric end.
+    pub(crate) fn ended<V: Verdicts>(
+        &self,
+        fabric: u8,
+        ids: Vec<u32>,
+        ms: u64,
+        verdicts: &V,
+    ) -> Result<InteractionOutcome, AllocError>
+        ensures { let given = given_to self.now (V.roots verdicts.now) (V.csrs verdicts.now) (V.joins verdicts.now) in
+            IfOk result (IsDone given self.now.state self.now.ledger (ends fabric ids.items) ms) }
+    {
         self.passing(ms, SubsBehind::Ended { fabric, ids }, verdicts)
     }
 
@@ -206,6 +222,16 @@ impl Interactions {
     }
 }
 
+// What is replied: this where it is there, otherwise the reply as it is.
+fn told<'a>(full: &'a Option<Reply>, reply: &'a Reply) -> &'a Reply
+    ensures { result.now ≡ unwrap_or full.now reply.now }
+{
+    match full {
+        Some(full) => full,
+        None => reply,
+    }
+}
+
 // What a confirmation is answered.
 fn confirm_reply(id: u32, kept: Option<&Kept>) -> Reply
     ensures { result ≡ confirm_reply id (option_copied kept.entry) }
@@ -237,8 +263,9 @@ fn actor_on(session: u16) -> Actor
     }
 }
 
-// Until when the next request of an exchange must come, where a request sets that in time.
-fn deadline_set(timed: Option<u64>, ms: u64, request: &Request) -> Option<u64>
+/// Until when, in ms, the next request of an exchange must come, where a request at this time sets that in time. `timed` is until when
+/// that request itself had to come.
+pub fn deadline_set(timed: Option<u64>, ms: u64, request: &Request) -> Option<u64>
     ensures { result ≡ deadline_set timed ms (Ok request.now) }
 {
     match request {
@@ -252,8 +279,8 @@ fn deadline_set(timed: Option<u64>, ms: u64, request: &Request) -> Option<u64>
     }
 }
 
-// The payloads, which carry until when the next request must come.
-fn dated(payloads: Payloads, until: Option<u64>) -> Payloads
+/// The payloads, which carry until when the next request must come.
+pub fn dated(payloads: Payloads, until: Option<u64>) -> Payloads
     ensures { result ≡ dated until payloads }
 {
     if until.is_none() {

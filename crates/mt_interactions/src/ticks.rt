@@ -2,7 +2,9 @@
 
 ghost use Rattle.std.specs.Prelude.{◌≡◌, IfOk};
 ghost use Rattle.mt_interactions.specs.Configured.{given_to};
-ghost use Rattle.mt_interactions.specs.Plan.{IsTick};
+ghost use Rattle.mt_interactions.specs.Plan.{IsDone, IsTick};
+ghost use Rattle.mt_ledger.specs.Behind.{acts};
+ghost use Rattle.mt_model.specs.declared.node.action.Action.TheVariants.{Expire};
 
 use crate::behind::SubsBehind;
 use crate::deadlines::left_without;
@@ -19,8 +21,10 @@ pub(crate) fn planned_tick<V: Verdicts>(
     ms: u64,
     verdicts: &V,
 ) -> Result<InteractionOutcome, AllocError>
-    ensures { let given = given_to interactions.now (V.roots verdicts.now) (V.csrs verdicts.now) (V.joins verdicts.now) in
+    ensures tick { let given = given_to interactions.now (V.roots verdicts.now) (V.csrs verdicts.now) (V.joins verdicts.now) in
         IfOk result (IsTick given interactions.now.state interactions.now.ledger ms) }
+    ensures done { let given = given_to interactions.now (V.roots verdicts.now) (V.csrs verdicts.now) (V.joins verdicts.now) in
+        IfOk result (IsDone given interactions.now.state interactions.now.ledger (acts Expire) ms) }
 {
     ticks_let_the_failsafe_expire();
     interactions.node.state_is_valid();

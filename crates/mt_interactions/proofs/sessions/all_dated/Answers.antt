@@ -1,5 +1,5 @@
 use Rattle.std.proofs.Common.{◌≡◌, arith, length, ap}
-use Rattle.mt_interactions.proofs.Dated.{one_more_dated}
+use Rattle.mt_interactions.proofs.Dating.{one_more_dated}
 use Rattle.mt_interactions.proofs.sessions.all_dated.Goals as goal
 
 pub loop-payload-preserved : goal.loop-payload-preserved
