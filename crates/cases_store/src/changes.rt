@@ -12,34 +12,40 @@ use mt_tlv::{Bytes, Value};
 use std::alloc::{AllocError, Global};
 
 /// Plays a case and tells what is answered.
-pub(crate) fn play(alloc: Global, page: &mut Page, case: &str) -> Result<(), AllocError> {
+pub(crate) fn play(
+    alloc: Global,
+    page: &mut Page,
+    case: &str,
+    words: &[&str],
+) -> Result<(), AllocError> {
     page.add(case);
     page.add(":");
-    let words: Vec<&str> = case.split(' ').collect(alloc)?;
-    match words.split_first() {
-        Some((&"write", _)) => add_written(page, &change_of(alloc, word(&words, 1))?),
-        Some((&"merge", changes)) => add_merged(alloc, page, changes)?,
-        _ => add_read(alloc, page, word(&words, 1))?,
+    match words {
+        ["write", change, ..] => add_written(alloc, page, change),
+        ["merge", changes @ ..] => add_merged(alloc, page, changes),
+        _ => add_read(alloc, page, word(words, 1)),
     }
-    page.end_line();
-    Ok(())
 }
 
-fn add_written(page: &mut Page, change: &[u8]) {
+fn add_written(alloc: Global, page: &mut Page, word: &str) -> Result<(), AllocError> {
+    let change = change_of(alloc, word)?;
     if change.is_empty() {
         page.add(" none");
     } else {
         page.add(" ");
-        page.add_hex(change);
+        page.add_hex(&change);
     }
+    Ok(())
 }
 
 fn add_merged(alloc: Global, page: &mut Page, changes: &[&str]) -> Result<(), AllocError> {
     match map_of(alloc, changes)? {
-        Some(map) => add_map(alloc, page, &map)?,
-        None => page.add(" none"),
+        Some(map) => add_map(alloc, page, &map),
+        None => {
+            page.add(" none");
+            Ok(())
+        }
     }
-    Ok(())
 }
 
 fn add_read(alloc: Global, page: &mut Page, change: &str) -> Result<(), AllocError> {
@@ -70,12 +76,21 @@ pub(crate) fn change_of(alloc: Global, word: &str) -> Result<Vec<u8>, AllocError
     let mut entries = Vec::new(alloc);
     for part in word.split('+') {
         if let Some((key, value)) = part.trim_start_matches('k').split_once('=') {
-            entries.push(Entry {
-                key: Bytes::from_vec(hex_bytes(alloc, key)),
-                value: value_of(alloc, value)?,
-            })?;
+            entries.push(entry(alloc, key, value)?)?;
         }
     }
+    bytes_of(alloc, entries)
+}
+
+fn entry(alloc: Global, key: &str, value: &str) -> Result<Entry, AllocError> {
+    Ok(Entry {
+        key: Bytes::from_vec(hex_bytes(alloc, key)),
+        value: value_of(alloc, value)?,
+    })
+}
+
+// The bytes of the change with these entries; none where their keys do not ascend.
+fn bytes_of(alloc: Global, entries: Vec<Entry>) -> Result<Vec<u8>, AllocError> {
     let mut bytes = Vec::new(alloc);
     if Change::is_ascending(&entries) {
         write_change(alloc, Change::from_vec(entries), &mut bytes)?;
@@ -86,13 +101,18 @@ pub(crate) fn change_of(alloc: Global, word: &str) -> Result<Vec<u8>, AllocError
 // So many equal octets, an unsigned number, null; or no value.
 fn value_of(alloc: Global, word: &str) -> Result<Option<Value>, AllocError> {
     if let Some((count, byte)) = word.split_once(':') {
-        let mut octets = Vec::new(alloc);
-        let byte = u8::from_str_radix(byte, 16).unwrap_or(0);
-        octets.resize(count.parse::<usize>().unwrap_or(0), byte)?;
+        let octets = octets(alloc, count, byte)?;
         return Ok(Some(Value::Octets(Bytes::from_vec(octets))));
     }
     if let Some(number) = word.strip_prefix("u") {
         return Ok(Some(Value::Uint(number.parse::<u64>().unwrap_or(0))));
     }
     Ok(if word == "n" { Some(Value::Null) } else { None })
+}
+
+fn octets(alloc: Global, count: &str, byte: &str) -> Result<Vec<u8>, AllocError> {
+    let mut octets = Vec::new(alloc);
+    let byte = u8::from_str_radix(byte, 16).unwrap_or(0);
+    octets.resize(count.parse::<usize>().unwrap_or(0), byte)?;
+    Ok(octets)
 }

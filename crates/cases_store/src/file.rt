@@ -14,23 +14,29 @@ type FileJournal = Journal<FileDisk, TestForm>;
 
 /// Makes a journal on a new file, changes it, opens it anew twice, and takes the file away again.
 pub(crate) fn play(rt: &HostRuntime, page: &mut Page) -> io::Result<()> {
-    let Some(mut journal) = opened(rt, page) else {
-        return Ok(());
-    };
-    add_done(page, switched(&mut journal, &[0x16, 0x01]));
-    add_done(page, appended(&mut journal, &[0x17, 0x02]));
-    add_done(page, appended(&mut journal, &[0x17, 0x03, 0x04]));
-    let Some(mut journal) = opened(rt, page) else {
-        return Ok(());
-    };
-    add_done(page, switched(&mut journal, &[0x16, 0x05]));
-    add_done(page, appended(&mut journal, &[0x17, 0x06]));
+    play_on(
+        rt,
+        page,
+        &[0x16, 0x01],
+        &[&[0x17, 0x02], &[0x17, 0x03, 0x04]],
+    );
+    play_on(rt, page, &[0x16, 0x05], &[&[0x17, 0x06]]);
     if opened(rt, page).is_some() {
         add_file(rt, page)?;
     }
     remove_file(rt, "journal")?;
     add_absent(rt, page);
     Ok(())
+}
+
+// Opens the journal, and puts an image into it and changes behind that.
+fn play_on(rt: &HostRuntime, page: &mut Page, image: &[u8], changes: &[&[u8]]) {
+    if let Some(mut journal) = opened(rt, page) {
+        add_done(page, switched(&mut journal, image));
+        for change in changes {
+            add_done(page, appended(&mut journal, change));
+        }
+    }
 }
 
 // A disk over a file in a folder that is not there: how many calls a journal makes on it, and how many fail.

@@ -23,15 +23,18 @@ type TestJournal = Journal<MemDisk, TestForm>;
 const LONGEST: usize = 65_536;
 
 /// Plays a case and tells what is answered.
-pub(crate) fn play(alloc: Global, page: &mut Page, case: &str) -> Result<(), AllocError> {
+pub(crate) fn play(
+    alloc: Global,
+    page: &mut Page,
+    case: &str,
+    words: &[&str],
+) -> Result<(), AllocError> {
     page.add(case);
     page.add(":");
-    let words: Vec<&str> = case.split(' ').collect(alloc)?;
-    if let Some((file, calls)) = words.split_first() {
-        play_on(alloc, page, disk_of(alloc, file)?, calls)?;
+    match words {
+        [file, calls @ ..] => play_on(alloc, page, disk_of(alloc, file)?, calls),
+        [] => Ok(()),
     }
-    page.end_line();
-    Ok(())
 }
 
 // Makes the calls on the journal of a disk, as long as there is one.
@@ -90,31 +93,37 @@ fn called(
         stop(journal.disk_mut(), word);
     } else if let Some(word) = call.strip_prefix("w") {
         written(alloc, page, journal.disk_mut(), word);
-    } else if let Some(word) = call.strip_prefix("s") {
-        let outcome = switched(journal, &hex_bytes(alloc, word));
-        add_outcome(page, outcome, journal.disk().faults());
-    } else if let Some(change) = change_of(alloc, call)? {
-        let outcome = appended(journal, &change);
-        add_outcome(page, outcome, journal.disk().faults());
-    } else {
-        let count = call.trim_start_matches('d').parse::<usize>().unwrap_or(11);
+    } else if let Some(word) = call.strip_prefix("d") {
         page.add(" ");
-        add_front(page, journal.disk().bytes(), count);
+        add_front(
+            page,
+            journal.disk().bytes(),
+            word.parse::<usize>().unwrap_or(11),
+        );
+    } else {
+        let outcome = committed(alloc, journal, call)?;
+        add_outcome(page, outcome, journal.disk().faults());
     }
     Ok(())
 }
 
-// The change of a call that adds one.
-fn change_of(alloc: Global, call: &str) -> Result<Option<Vec<u8>>, AllocError> {
-    if let Some(word) = call.strip_prefix("a") {
-        return Ok(Some(hex_bytes(alloc, word)));
+// A call that puts an image in the place of all before it, or adds a change.
+fn committed(alloc: Global, journal: &mut TestJournal, call: &str) -> Result<Outcome, AllocError> {
+    if let Some(word) = call.strip_prefix("s") {
+        return Ok(switched(journal, &hex_bytes(alloc, word)));
     }
-    let Some(word) = call.strip_prefix("b") else {
-        return Ok(None);
-    };
+    Ok(appended(journal, &*change_of(alloc, call)?))
+}
+
+// The change of a call that adds one.
+fn change_of(alloc: Global, call: &str) -> Result<Vec<u8>, AllocError> {
+    if let Some(word) = call.strip_prefix("a") {
+        return Ok(hex_bytes(alloc, word));
+    }
+    let count = call.trim_start_matches('b').parse::<usize>().unwrap_or(0);
     let mut change = Vec::new(alloc);
-    change.resize(word.parse::<usize>().unwrap_or(0), 0x17)?;
-    Ok(Some(change))
+    change.resize(count, 0x17)?;
+    Ok(change)
 }
 
 // Writes bytes into the file, behind the journal's back.

@@ -18,27 +18,49 @@ mod states;
 mod stores;
 
 use cases_page::Page;
+use std::alloc::{AllocError, Global};
 use std::{fs, io};
 
 fn main(rt: HostRuntime) -> io::Result<()> {
-    let alloc = rt.alloc();
-    let mut page = Page::new(alloc);
-    let cases = fs::read_to_string(&rt, "changes.txt")?;
-    for case in cases.as_str().lines() {
-        changes::play(alloc, &mut page, case)?;
-    }
-    let cases = fs::read_to_string(&rt, "journals.txt")?;
-    for case in cases.as_str().lines() {
-        journals::play(alloc, &mut page, case)?;
-    }
-    file::play(&rt, &mut page)?;
-    let cases = fs::read_to_string(&rt, "stores.txt")?;
-    for (place, case) in cases.as_str().lines().enumerate() {
-        stores::play(alloc, &mut page, place, case)?;
-    }
-    let cases = fs::read_to_string(&rt, "states.txt")?;
-    for case in cases.as_str().lines() {
-        states::play(alloc, &mut page, case)?;
-    }
+    let mut page = Page::new(rt.alloc());
+    play_all(&rt, &mut page)?;
     print!(rt; "{}", page.whole()?)
+}
+
+fn play_all(rt: &HostRuntime, page: &mut Page) -> io::Result<()> {
+    play_file(rt, page, "changes.txt")?;
+    play_file(rt, page, "journals.txt")?;
+    file::play(rt, page)?;
+    play_file(rt, page, "stores.txt")?;
+    play_file(rt, page, "states.txt")
+}
+
+// Plays the cases of a file, a line each.
+fn play_file(rt: &HostRuntime, page: &mut Page, file: &str) -> io::Result<()> {
+    let cases = fs::read_to_string(rt, file)?;
+    let mut place = 0u64;
+    for case in cases.as_str().lines() {
+        play_case(rt.alloc(), page, file, place, case)?;
+        place = place.saturating_add(1);
+    }
+    Ok(())
+}
+
+// Plays a case and tells what is answered.
+fn play_case(
+    alloc: Global,
+    page: &mut Page,
+    file: &str,
+    place: u64,
+    case: &str,
+) -> Result<(), AllocError> {
+    let words: Vec<&str> = case.split(' ').collect(alloc)?;
+    match file {
+        "changes.txt" => changes::play(alloc, page, case, &words)?,
+        "journals.txt" => journals::play(alloc, page, case, &words)?,
+        "stores.txt" => stores::play(alloc, page, place, &words)?,
+        _ => states::play(alloc, page, &words)?,
+    }
+    page.end_line();
+    Ok(())
 }

@@ -8,7 +8,7 @@ use crate::changes::map_of;
 use crate::disks::disk_of;
 use crate::shown::{Outcome, add_map, add_outcome};
 use crate::stores::recovered;
-use cases_page::{Page, hex_bytes};
+use cases_page::{Page, hex_bytes, word};
 use mt_durable::Keeper;
 use mt_grammar::{States, is_in_grammar};
 use mt_outside::MemDisk;
@@ -18,18 +18,14 @@ use std::alloc::{AllocError, Global};
 type StateStore = Store<MemDisk, MapsOf<States>>;
 
 /// Plays a case and tells what is answered.
-pub(crate) fn play(alloc: Global, page: &mut Page, case: &str) -> Result<(), AllocError> {
-    let Some((name, bytes)) = case.split_once(' ') else {
-        return Ok(());
-    };
+pub(crate) fn play(alloc: Global, page: &mut Page, words: &[&str]) -> Result<(), AllocError> {
+    let name = word(words, 0);
     page.add(name);
     page.add(":");
     if name.starts_with("file") {
-        play_store(alloc, page, bytes)?;
-    } else {
-        page.add(told(alloc, bytes)?);
+        return play_store(alloc, page, words);
     }
-    page.end_line();
+    page.add(told(alloc, word(words, 1))?);
     Ok(())
 }
 
@@ -45,22 +41,32 @@ fn told(alloc: Global, image: &str) -> Result<&'static str, AllocError> {
     })
 }
 
-// Recovers a store from a file, and commits changes, a word each.
-fn play_store(alloc: Global, page: &mut Page, words: &str) -> Result<(), AllocError> {
-    let words: Vec<&str> = words.split(' ').collect(alloc)?;
-    let Some((file, changes)) = words.split_first() else {
+// Recovers a store from a file, and commits changes, a word each: those behind the case's name and the file.
+fn play_store(alloc: Global, page: &mut Page, words: &[&str]) -> Result<(), AllocError> {
+    let disk = disk_of(alloc, word(words, 1))?;
+    let Some(mut store) = recovered::<MapsOf<States>>(alloc, page, disk)? else {
         return Ok(());
     };
-    let Some(mut store) = recovered::<MapsOf<States>>(alloc, page, disk_of(alloc, file)?)? else {
-        return Ok(());
-    };
-    for change in changes {
-        match committed(alloc, &mut store, &hex_bytes(alloc, change)) {
-            Outcome::Done => add_map(alloc, page, &store.image().map(alloc)?)?,
-            outcome => add_outcome(page, outcome, store.faults()),
-        }
+    for place in 2..words.len() {
+        add_committed(alloc, page, &mut store, word(words, place))?;
     }
     Ok(())
+}
+
+// Commits a change in hex, and tells the map to which it led, or what became of it.
+fn add_committed(
+    alloc: Global,
+    page: &mut Page,
+    store: &mut StateStore,
+    change: &str,
+) -> Result<(), AllocError> {
+    match committed(alloc, store, &hex_bytes(alloc, change)) {
+        Outcome::Done => add_map(alloc, page, &store.image().map(alloc)?),
+        outcome => {
+            add_outcome(page, outcome, store.faults());
+            Ok(())
+        }
+    }
 }
 
 // Commits a change, if it is one that leads to a state, and there is room.

@@ -27,20 +27,18 @@ type TestStore = Store<MemDisk, Maps>;
 pub(crate) fn play(
     alloc: Global,
     page: &mut Page,
-    place: usize,
-    case: &str,
+    place: u64,
+    words: &[&str],
 ) -> Result<(), AllocError> {
-    page.add_number(place as u64);
+    page.add_number(place);
     page.add(":");
-    let words: Vec<&str> = case.split(' ').collect(alloc)?;
-    if let Some((first, calls)) = words.split_first() {
-        match first.strip_prefix("keeper:") {
-            Some(fail) => play_keeper(alloc, page, fail, calls)?,
-            None => play_store(alloc, page, disk_of(alloc, first)?, calls)?,
-        }
+    let [first, calls @ ..] = words else {
+        return Ok(());
+    };
+    match first.strip_prefix("keeper:") {
+        Some(fail) => play_keeper(alloc, page, fail, calls),
+        None => play_store(alloc, page, disk_of(alloc, first)?, calls),
     }
-    page.end_line();
-    Ok(())
 }
 
 // Makes the calls on the store of a disk, as long as there is one.
@@ -91,26 +89,40 @@ fn called(
     store: &mut TestStore,
     call: &str,
 ) -> Result<(), AllocError> {
-    if let Some(word) = call.strip_prefix("x") {
-        stop(store.disk_mut(), word);
-        return Ok(());
-    }
     match call {
-        "f" => {
-            page.add(" ");
-            add_sum(page, store.journal().disk().bytes());
-        }
-        "d" => {
-            page.add(" ");
-            page.add_hex(store.journal().disk().bytes());
-        }
+        "f" | "d" => add_bytes(page, call, store.journal().disk().bytes()),
         "o" => store.disk_mut().forget(),
         "m" => add_map(alloc, page, &store.image().map(alloc)?)?,
         _ => {
-            let outcome = committed(alloc, store, &change_of(alloc, call)?);
-            add_outcome(page, outcome, store.faults());
+            if let Some(word) = call.strip_prefix("x") {
+                stop(store.disk_mut(), word);
+            } else {
+                add_committed(alloc, page, store, call)?;
+            }
         }
     }
+    Ok(())
+}
+
+// The bytes of a file, or how many they are, and their sum.
+fn add_bytes(page: &mut Page, call: &str, bytes: &[u8]) {
+    page.add(" ");
+    if call == "f" {
+        add_sum(page, bytes);
+    } else {
+        page.add_hex(bytes);
+    }
+}
+
+// Commits a change, and tells what became of it.
+fn add_committed(
+    alloc: Global,
+    page: &mut Page,
+    store: &mut TestStore,
+    change: &str,
+) -> Result<(), AllocError> {
+    let outcome = committed(alloc, store, &change_of(alloc, change)?);
+    add_outcome(page, outcome, store.faults());
     Ok(())
 }
 
@@ -123,26 +135,42 @@ fn committed(alloc: Global, store: &mut TestStore, change: &[u8]) -> Outcome {
     }
 }
 
-// Makes the calls on a keeper in memory, whose calls of these numbers fail.
+// Makes the calls on a keeper.
 fn play_keeper(
     alloc: Global,
     page: &mut Page,
     fail: &str,
     calls: &[&str],
 ) -> Result<(), AllocError> {
-    let mut numbers = Vec::new(alloc);
-    for word in fail.split(',') {
-        numbers.push(word.parse::<u64>().unwrap_or(0))?;
-    }
-    let mut keeper = ListKeeper::new(alloc, &Durable::new(alloc), &numbers)?;
+    let mut keeper = keeper_of(alloc, fail)?;
     for call in calls {
         if *call == "m" {
             add_map(alloc, page, keeper.map())?;
         } else {
-            let outcome = kept(alloc, &mut keeper, &change_of(alloc, call)?)?;
-            add_outcome(page, outcome, keeper.faults());
+            add_kept(alloc, page, &mut keeper, call)?;
         }
     }
+    Ok(())
+}
+
+// A keeper in memory, whose calls of these numbers fail.
+fn keeper_of(alloc: Global, fail: &str) -> Result<ListKeeper, AllocError> {
+    let mut numbers = Vec::new(alloc);
+    for word in fail.split(',') {
+        numbers.push(word.parse::<u64>().unwrap_or(0))?;
+    }
+    ListKeeper::new(alloc, &Durable::new(alloc), &numbers)
+}
+
+// Commits a change to the keeper, and tells what became of it.
+fn add_kept(
+    alloc: Global,
+    page: &mut Page,
+    keeper: &mut ListKeeper,
+    change: &str,
+) -> Result<(), AllocError> {
+    let outcome = kept(alloc, keeper, &change_of(alloc, change)?)?;
+    add_outcome(page, outcome, keeper.faults());
     Ok(())
 }
 

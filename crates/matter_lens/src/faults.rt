@@ -2,8 +2,9 @@
 
 use crate::options::Options;
 use crate::rows::{Row, faulty_row};
-use mt_files::{ConfigField, LineFault};
+use mt_files::ConfigField;
 use mt_lens::{Page, show_faulty_line};
+use mt_model::LineFault;
 use mt_model::limits::{LINE_BYTES, RECORDING_BYTES};
 use serde_json::Value as Json;
 use std::alloc::{AllocError, AllocFailed, Global};

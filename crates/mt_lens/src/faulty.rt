@@ -3,7 +3,7 @@
 ghost use Rattle.std.specs.Io.{StartsWith};
 
 use crate::page::Page;
-use mt_files::LineKind;
+use mt_model::LineKind;
 
 /// The most bytes of a faulty line that are shown.
 const SHOWN: usize = 120;

@@ -9,6 +9,32 @@ use crate::values::{Shows, Where, show_number, show_value};
 use crate::words::{ITEM, Leaf};
 use mt_model::Path;
 
+const ATTRIBUTES: [u8; 2] = [FIELD + ARRAY, 1];
+
+const EVENTS: [u8; 2] = [FIELD + ARRAY, 2];
+
+const MORE: [u8; 2] = [FIELD + TRUE, 3];
+
+const SILENT: [u8; 2] = [FIELD + TRUE, 4];
+
+const ENDED: [u8; 1] = [END];
+
+const ENDED_TWICE: [u8; 2] = [END, END];
+
+const DATA: [u8; 3] = [STRUCTURE, FIELD + STRUCTURE, 1];
+
+const STATUS: [u8; 3] = [STRUCTURE, FIELD + STRUCTURE, 0];
+
+const STATUSES: [u8; 2] = [FIELD + ARRAY, 0];
+
+const BEGUN: [u8; 1] = [STRUCTURE];
+
+const RESPONSES: [u8; 5] = [FIELD + FALSE, 0, FIELD + ARRAY, 1, STRUCTURE];
+
+const RESPONSE: [u8; 2] = [FIELD + STRUCTURE, 0];
+
+const RESPONSE_STATUS: [u8; 2] = [FIELD + STRUCTURE, 1];
+
 /// An event that happened, but for its value.
 #[derive(Drop)]
 pub(crate) struct Happening {
@@ -72,16 +98,16 @@ pub(crate) fn hear_report<H: Hears>(
     fronts: &mut Fronts<'_>,
 ) -> Result<Report, Unread> {
     let subscription = fronts.word(0).ok();
-    if fronts.passes(&[FIELD + ARRAY, 1]) {
+    if fronts.passes(&ATTRIBUTES) {
         hear_attributes(out, fronts)?;
     }
-    if fronts.passes(&[FIELD + ARRAY, 2]) {
+    if fronts.passes(&EVENTS) {
         hear_events(out, fronts)?;
     }
     let report = Report {
         subscription,
-        follows: fronts.passes(&[FIELD + TRUE, 3]),
-        suppress: fronts.passes(&[FIELD + TRUE, 4]),
+        follows: fronts.passes(&MORE),
+        suppress: fronts.passes(&SILENT),
     };
     fronts.close()?;
     Ok(report)
@@ -89,7 +115,7 @@ pub(crate) fn hear_report<H: Hears>(
 
 fn hear_attributes<H: Hears>(out: &mut H, fronts: &mut Fronts<'_>) -> Result<(), Unread> {
     for _ in 0..fronts.len() {
-        if fronts.passes(&[END]) {
+        if fronts.passes(&ENDED) {
             return Ok(());
         }
         hear_attribute(out, fronts)?;
@@ -99,10 +125,10 @@ fn hear_attributes<H: Hears>(out: &mut H, fronts: &mut Fronts<'_>) -> Result<(),
 
 // An AttributeReport, which has data (1) or a status (0).
 fn hear_attribute<H: Hears>(out: &mut H, fronts: &mut Fronts<'_>) -> Result<(), Unread> {
-    if !fronts.passes(&[STRUCTURE, FIELD + STRUCTURE, 1]) {
-        fronts.pass(&[STRUCTURE, FIELD + STRUCTURE, 0])?;
+    if !fronts.passes(&DATA) {
+        fronts.pass(&STATUS)?;
         hear_refused(out, fronts, 2, Leaf::Attribute)?;
-        return fronts.pass(&[END]);
+        return fronts.pass(&ENDED);
     }
     let version = fronts.word(0)?;
     let path = fronts.path(1, 2)?;
@@ -115,7 +141,7 @@ fn hear_attribute<H: Hears>(out: &mut H, fronts: &mut Fronts<'_>) -> Result<(), 
         }
     }
     out.end_attribute(version);
-    fronts.pass(&[END, END])
+    fronts.pass(&ENDED_TWICE)
 }
 
 // What the structures in an attribute's value are. It is not looked up for a value that has no members.
@@ -136,12 +162,12 @@ fn hear_refused<H: Hears>(
     let path = fronts.path(0, first)?;
     let refusal = fronts.refusal()?;
     out.refused(&path, leaf, refusal);
-    fronts.pass(&[END])
+    fronts.pass(&ENDED)
 }
 
 fn hear_events<H: Hears>(out: &mut H, fronts: &mut Fronts<'_>) -> Result<(), Unread> {
     for _ in 0..fronts.len() {
-        if fronts.passes(&[END]) {
+        if fronts.passes(&ENDED) {
             return Ok(());
         }
         hear_event(out, fronts)?;
@@ -151,10 +177,10 @@ fn hear_events<H: Hears>(out: &mut H, fronts: &mut Fronts<'_>) -> Result<(), Unr
 
 // An EventReport, which has data (1), namely path (0), number (1), priority (2), time (4) and value (7), or a status (0).
 fn hear_event<H: Hears>(out: &mut H, fronts: &mut Fronts<'_>) -> Result<(), Unread> {
-    if !fronts.passes(&[STRUCTURE, FIELD + STRUCTURE, 1]) {
-        fronts.pass(&[STRUCTURE, FIELD + STRUCTURE, 0])?;
+    if !fronts.passes(&DATA) {
+        fronts.pass(&STATUS)?;
         hear_refused(out, fronts, 1, Leaf::Event)?;
-        return fronts.pass(&[END]);
+        return fronts.pass(&ENDED);
     }
     let event = Happening {
         path: fronts.path(0, 1)?,
@@ -166,17 +192,17 @@ fn hear_event<H: Hears>(out: &mut H, fronts: &mut Fronts<'_>) -> Result<(), Unre
     out.begin_event(&event);
     show_value(out, value, Where::whole(shape_of_event(&event.path), ITEM))?;
     out.end_event();
-    fronts.pass(&[END, END])
+    fronts.pass(&ENDED_TWICE)
 }
 
 /// The body of a WriteResponse: statuses (0).
 pub(crate) fn hear_written<H: Hears>(out: &mut H, fronts: &mut Fronts<'_>) -> Result<(), Unread> {
-    fronts.pass(&[FIELD + ARRAY, 0])?;
+    fronts.pass(&STATUSES)?;
     for _ in 0..fronts.len() {
-        if fronts.passes(&[END]) {
+        if fronts.passes(&ENDED) {
             return fronts.close();
         }
-        fronts.pass(&[STRUCTURE])?;
+        fronts.pass(&BEGUN)?;
         hear_refused(out, fronts, 2, Leaf::Attribute)?;
     }
     Err(Unread)
@@ -185,18 +211,18 @@ pub(crate) fn hear_written<H: Hears>(out: &mut H, fronts: &mut Fronts<'_>) -> Re
 /// The body of an InvokeResponse: whether no answer is wanted (0), and an array (1) of one answer, which has data (0),
 /// namely path (0) and fields (1), or a status (1).
 pub(crate) fn hear_invoked<H: Hears>(out: &mut H, fronts: &mut Fronts<'_>) -> Result<(), Unread> {
-    fronts.pass(&[FIELD + FALSE, 0, FIELD + ARRAY, 1, STRUCTURE])?;
-    if fronts.passes(&[FIELD + STRUCTURE, 0]) {
+    fronts.pass(&RESPONSES)?;
+    if fronts.passes(&RESPONSE) {
         let path = fronts.path(0, 0)?;
         let fields = fronts.value(1)?;
         out.begin_response(&path);
         show_value(out, fields, Where::whole(shape_of_response(&path), ITEM))?;
         out.end_response();
-        fronts.pass(&[END])?;
+        fronts.pass(&ENDED)?;
     } else {
-        fronts.pass(&[FIELD + STRUCTURE, 1])?;
+        fronts.pass(&RESPONSE_STATUS)?;
         hear_refused(out, fronts, 0, Leaf::Command)?;
     }
-    fronts.pass(&[END, END])?;
+    fronts.pass(&ENDED_TWICE)?;
     fronts.close()
 }

@@ -5,7 +5,7 @@ use Rattle.mt_config.specs.Configuration.{configuration}
 use Rattle.mt_model.specs.declared.limits.TheConstants.{CONFIGURATION_BYTES}
 use Rattle.mt_model.specs.texts.Contents.{Contents}
 use Rattle.mt_words.specs.declared.asked.Asked.{Asked}
-use Rattle.mt_words.specs.declared.asked.Asked.TheVariants.{Compare, Replay, Settle, Soak}
+use Rattle.mt_words.specs.declared.asked.Asked.TheVariants.{Ask, Compare, Replay, Settle, Show, Soak}
 use Rattle.mt_endings.specs.Endings.{Ending, Recordings, of_files}
 use Rattle.mt_endings.specs.Laws.{EndingLaws}
 use Rattle.mt_endings.specs.Moments.{HasRead, Input, Moment, in_hand, moment}
@@ -21,6 +21,8 @@ module _ (laws : EndingLaws) (disk_laws : DiskEndingLaws) where
   untouched (Compare fabric) status disk old new h = (h (comes_to (Compare fabric) []), refl)
   untouched (Soak begin count) status disk old new h = (h (comes_to (Soak begin count) []), refl)
   untouched Settle status disk old new h = disk_laws.untouched (λ journal. of_files (settles journal)) status disk old new (λ journal. h (settles journal))
+  untouched (Ask session) status disk old new h = (h (comes_to (Ask session) []), refl)
+  untouched (Show session) status disk old new h = (h (comes_to (Show session) []), refl)
 
   -- there was no memory before anything was read
   pub no_memory : (found : Option Asked) (disk : Input) (old new : Moment) → ((asked : Option (List ℕ → Recordings → Ending)) → Ends 7 asked old new) → EndsAs 7 (option_map asks_for found) disk disk old new
@@ -51,3 +53,7 @@ module _ (laws : EndingLaws) (disk_laws : DiskEndingLaws) where
     carried_out (Soak begin count) carried =
         (laws.configured (comes_to (Soak begin count) []) contents bytes old now first_old first_new second_old second_new before after old_faults new_faults status is read calm carried.0, carried.1)
     carried_out Settle carried = same_left first_new second_new carried.1 carried.2 carried.0
+    carried_out (Ask session) carried =
+        (laws.configured (comes_to (Ask session) []) contents bytes old now first_old first_new second_old second_new before after old_faults new_faults status is read calm carried.0, carried.1)
+    carried_out (Show session) carried =
+        (laws.configured (comes_to (Show session) []) contents bytes old now first_old first_new second_old second_new before after old_faults new_faults status is read calm carried.0, carried.1)

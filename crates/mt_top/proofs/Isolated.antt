@@ -8,7 +8,7 @@ use Rattle.mt_config.specs.Configuration.{IsConfiguration}
 use Rattle.mt_files.specs.Output.{sent_line}
 use Rattle.mt_files.specs.Event.{line_event}
 use Rattle.mt_files.specs.Recording.{IsRecording, recording_of}
-use Rattle.mt_files.specs.declared.line_fault.LineKind.{LineKind}
+use Rattle.mt_model.specs.declared.texts.line_fault.LineKind.{LineKind}
 use Rattle.mt_model.specs.declared.texts.config.Config.{Config}
 use Rattle.mt_model.specs.declared.texts.config.CsrRow.{CsrRow}
 use Rattle.mt_model.specs.declared.texts.config.JoinRow.{JoinRow}

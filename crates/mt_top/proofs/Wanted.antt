@@ -3,11 +3,11 @@ use Rattle.std.specs.Prelude.{⊤}
 use Rattle.std.proofs.Common.{◌≡◌, ℕ, Bool, true, false, cond, nat_le, List, [], ◌∷◌, Option, Some, None, refl, subst}
 use Rattle.std.specs.Option.{option_and_then, option_map}
 use Rattle.mt_files.specs.Field.{at_least, number_of, up_to}
-use Rattle.mt_words.specs.Words.{asked, asked_by, begin_of, command_of, count_of, fabric_of, names_of, soak_of}
+use Rattle.mt_words.specs.Words.{asked, asked_by, begin_of, command_of, count_of, fabric_of, names_of, session_of, soak_of}
 use Rattle.mt_words.specs.declared.asked.Asked.{Asked}
 use Rattle.mt_words.specs.declared.asked.Asked.TheVariants as asks
 use Rattle.mt_words.specs.declared.command.Command.{Command}
-use Rattle.mt_words.specs.declared.command.Command.TheVariants.{Compare, Replay, Settle, Soak}
+use Rattle.mt_words.specs.declared.command.Command.TheVariants.{Ask, Compare, Replay, Settle, Show, Soak}
 use Rattle.mt_top.specs.Asked.{is_within}
 
 -- whatever is wanted is within
@@ -43,6 +43,16 @@ unfolding Within
 fabric_within None = tt
 fabric_within (Some fabric) = refl
 
+ask_within : (session : Option ℕ) → Within (option_map asks.Ask session)
+unfolding Within
+ask_within None = tt
+ask_within (Some session) = refl
+
+show_within : (session : Option ℕ) → Within (option_map asks.Show session)
+unfolding Within
+show_within None = tt
+show_within (Some session) = refl
+
 by_within : (command : Command) (words : List (List ℕ)) → Within (asked_by command words)
 unfolding Within
 by_within Replay [] = tt
@@ -64,6 +74,16 @@ by_within Settle [] = tt
 by_within Settle (a ∷ []) = tt
 by_within Settle (a ∷ b ∷ []) = refl
 by_within Settle (a ∷ b ∷ c ∷ others) = tt
+by_within Ask [] = tt
+by_within Ask (a ∷ []) = tt
+by_within Ask (a ∷ b ∷ []) = tt
+by_within Ask (a ∷ b ∷ c ∷ []) = ask_within (session_of a)
+by_within Ask (a ∷ b ∷ c ∷ d ∷ others) = tt
+by_within Show [] = tt
+by_within Show (a ∷ []) = tt
+by_within Show (a ∷ b ∷ []) = tt
+by_within Show (a ∷ b ∷ c ∷ []) = show_within (session_of a)
+by_within Show (a ∷ b ∷ c ∷ d ∷ others) = tt
 
 then_within : {X : Type 0} (found : X → Option Asked) (o : Option X) → ((x : X) → Within (found x)) → Within (option_and_then found o)
 unfolding Within

@@ -9,9 +9,10 @@ use Rattle.mt_soak.specs.Generated.{generated}
 use Rattle.mt_soak.specs.Summary.{summary_lines}
 use Rattle.mt_words.specs.Words.{asked}
 use Rattle.mt_words.specs.declared.asked.Asked.{Asked}
-use Rattle.mt_words.specs.declared.asked.Asked.TheVariants.{Compare, Replay, Settle, Soak}
+use Rattle.mt_words.specs.declared.asked.Asked.TheVariants.{Ask, Compare, Replay, Settle, Show, Soak}
 use Rattle.mt_marks.specs.differences.Difference.{Difference, difference}
 use Rattle.mt_compare.specs.Text.{comparison_lines}
+use Rattle.mt_asking.specs.Asked.{asking, showing}
 use Rattle.mt_settle.specs.Settled.{settled}
 use Rattle.mt_endings.specs.Endings.{Ending, Played, Recordings, in_hand_of, of_files, of_none, of_recording, of_recordings}
 use Rattle.mt_endings.specs.Moments.{Input, Moment}
@@ -61,12 +62,16 @@ compared fabric contents = of_recordings (compared_by fabric (begun_with content
 abbrev pub settles : List ℕ → Contents → Recordings → Ending
 settles journal contents = of_none (settled contents journal)
 
+-- ASK and SHOW: what a script, or an output, comes to on a session, is `asking` and `showing` of mt_asking.
+
 -- What is asked for comes to this, by the bytes of a journal, with what the configuration says, and by the bytes of the recordings.
 abbrev pub comes_to : Asked → List ℕ → Contents → Recordings → Ending
 comes_to Replay journal = replayed
 comes_to (Compare fabric) journal = compared fabric
 comes_to (Soak begin count) journal = soaked begin count
 comes_to Settle journal = settles journal
+comes_to (Ask session) journal = asking session
+comes_to (Show session) journal = showing session
 
 -- whether the journal is looked at
 abbrev pub reads_journal : Asked → Bool
@@ -79,6 +84,8 @@ is_within Replay = true
 is_within (Compare fabric) = true
 is_within (Soak begin count) = nat_le count 100000
 is_within Settle = true
+is_within (Ask session) = true
+is_within (Show session) = true
 
 -- what is asked for, by the bytes of the files
 abbrev pub asks_for : Asked → Asks

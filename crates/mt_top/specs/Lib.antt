@@ -1,5 +1,6 @@
 pub mod Asked
 pub mod Begun
+pub mod Clusters
 pub mod Compared
 pub mod Denials
 pub mod Isolated

@@ -1,11 +1,13 @@
 -- What is promised of a run of the program, watched or not.
 use Rattle.std.specs.Prelude.{ℕ, List}
 use Rattle.mt_endings.specs.Moments.{Input, Moment}
+use Rattle.mt_asking.specs.Laws.{AskedIsOpened, ShownIsExact}
 use Rattle.mt_endings.specs.OnDisk.{EndsAs}
 use Rattle.mt_runs.specs.Expiries.{ExpiriesAreRollbacks}
 use Rattle.mt_runs.specs.Replies.{RepliesAreExact}
 use Rattle.mt_runs.specs.Restarts.{ReopeningsAreExact}
 use Rattle.mt_top.specs.Asked.{asked_of}
+use Rattle.mt_top.specs.Clusters.{KeySetsAreTheirOwn, KeysAreSecret, WindowsAreExact}
 use Rattle.mt_top.specs.Compared.{ComparisonsAreExact}
 use Rattle.mt_top.specs.Denials.{DenialsAreExact}
 use Rattle.mt_top.specs.Isolated.{RunsAreIsolated}
@@ -27,3 +29,13 @@ pub record IsRun (words : List (List ℕ)) (status : ℕ) (disk_before disk_afte
   pub reopened : ReopeningsAreExact
   -- what a comparison tells is what the marks say
   pub compared : ComparisonsAreExact
+  -- what is asked for a script is a recording, whose datagrams a new session of the node opens to exactly the script's headers and payloads
+  pub asked : AskedIsOpened
+  -- what is shown of a datagram is the message that is sealed in it, or the first test that it fails; what a session of the node sealed is shown exactly
+  pub shown : ShownIsExact
+  -- a commissioning window is open from the line that opens it up to the line that closes it, and is refused exactly where a cause stands
+  pub windows : WindowsAreExact
+  -- a fabric's group key sets are what its own commands made of them
+  pub key_sets : KeySetsAreTheirOwn
+  -- no epoch key of a key set is ever sent
+  pub secret : KeysAreSecret

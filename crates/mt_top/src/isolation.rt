@@ -1,5 +1,6 @@
 //! Laws of every run. The functions do nothing, and their contracts are the laws.
 
+ghost use Rattle.mt_top.specs.Clusters.{KeySetsAreTheirOwn, KeysAreSecret, WindowsAreExact};
 ghost use Rattle.mt_top.specs.Compared.{ComparisonsAreExact};
 ghost use Rattle.mt_top.specs.Denials.{DenialsAreExact};
 ghost use Rattle.mt_top.specs.Isolated.{RunsAreIsolated};
@@ -37,4 +38,27 @@ pub fn comparisons_are_exact()
     ensures { ComparisonsAreExact }
 {
     equal_marks_do_not_differ();
+}
+
+/// A commissioning window is open from the line that opens it up to the line that closes it, in whatever run, and its commands are refused
+/// exactly where a cause stands.
+pub fn windows_are_exact()
+    ensures { WindowsAreExact }
+{
+    mt_windows::windows_are_as_commands_leave_them();
+    mt_windows::refusals_of_windows_are_exact();
+}
+
+/// The group key sets of a fabric are what its own commands made of them, in whatever run.
+pub fn key_sets_are_their_own()
+    ensures { KeySetsAreTheirOwn }
+{
+    mt_keysets::key_sets_are_their_fabrics_own();
+}
+
+/// No epoch key of a group key set is ever sent: two recordings that say the same but for such keys come to the same output.
+pub fn keys_are_secret()
+    ensures { KeysAreSecret }
+{
+    mt_secrecy::keys_are_never_sent();
 }

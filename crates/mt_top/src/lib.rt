@@ -6,7 +6,8 @@
 //! - `comparing`: two recordings, compared by what a fabric sees of them;
 //! - `soaking`: a long input made from a number, and the summary of what is sent for it;
 //! - `running`: what the words ask for;
-//! - `isolation`: laws of every run: what each fabric is sent of it is its own matter, denials are exact, and so are comparisons.
+//! - `isolation`: laws of every run: what each fabric is sent of it is its own matter, denials are exact, and so are
+//!   comparisons; and what holds of windows and key sets.
 #![tactic(auto)]
 
 mod comparing;
@@ -16,7 +17,10 @@ mod replaying;
 mod running;
 mod soaking;
 
-pub use isolation::{comparisons_are_exact, denials_are_exact, runs_are_isolated};
+pub use isolation::{
+    comparisons_are_exact, denials_are_exact, key_sets_are_their_own, keys_are_secret,
+    runs_are_isolated, windows_are_exact,
+};
 pub use mt_soak::Generator;
 pub use mt_words::{BadWords, Files, files_of};
 pub use replaying::replay_with;

@@ -9,9 +9,13 @@ ghost use Rattle.mt_top.specs.Asked.{CarriesOut, is_within};
 ghost use Rattle.mt_top.specs.Runs.{IsRun};
 
 use crate::comparing::compare_with;
-use crate::isolation::{comparisons_are_exact, denials_are_exact, runs_are_isolated};
+use crate::isolation::{
+    comparisons_are_exact, denials_are_exact, key_sets_are_their_own, keys_are_secret,
+    runs_are_isolated, windows_are_exact,
+};
 use crate::replaying::replay_with;
 use crate::soaking::soak_with;
+use mt_asking::{ask_with, asked_is_opened, show_with, shown_is_exact};
 use mt_endings::{
     endings_add_up, endings_on_disk_add_up, finish, read_configuration, tell_bad_words, tell_memory,
 };
@@ -29,12 +33,15 @@ use std::alloc::Global;
 /// whether they are alike by what fabric F sees of them, or where they first differ;
 /// `soak BEGIN COUNT CONFIG` runs COUNT events that are made from the number BEGIN, and writes a
 /// summary of what is sent; `settle CONFIG JOURNAL` recovers the journal on `disk`, and writes a line for each key of the
-/// map with which a node goes on. The answer is the exit status.
+/// map with which a node goes on; `ask S CONFIG SCRIPT` writes the recording of what a controller sends on session S for the
+/// script that `first` gives, and `show S CONFIG OUTPUT` a line for each datagram of the output that `first` gives, opened on
+/// session S. The answer is the exit status.
 ///
 /// Status 0 means that all was written; 2 that the words have no form; 3 that the configuration is
-/// none; 4 that a recording is none; 5 that `config`, `first` or `second` failed; 6 that `out` failed; 7 that
-/// there was no memory; 8 that `disk` failed; 9 that the journal is none; 10 that a recording is too long; 11 that two
-/// recordings differ. All but 0, 6 and 11 end the output with a line that names the fault.
+/// none; 4 that a recording, a script or an output is none; 5 that `config`, `first` or `second` failed; 6 that `out` failed; 7 that
+/// there was no memory; 8 that `disk` failed; 9 that the journal is none; 10 that a recording, a script or an
+/// output is too long; 11 that two recordings differ; 15 that no session of boot 1 has the id S; 16 that no counter is left for
+/// the message of a script. All but 0, 6 and 11 end the output with a line that names the fault.
 pub fn run<C: Source, A: Source, B: Source, D: Disk, W: Sink>(
     alloc: Global,
     words: &[String],
@@ -87,6 +94,11 @@ pub fn run_watched<C: Source, A: Source, B: Source, D: Disk, W: Sink, P: Progres
     expiries_are_rollbacks();
     reopenings_are_exact();
     comparisons_are_exact();
+    windows_are_exact();
+    key_sets_are_their_own();
+    keys_are_secret();
+    asked_is_opened();
+    shown_is_exact();
     endings_add_up();
     endings_on_disk_add_up();
     let asked = match asked_of(alloc, words) {
@@ -123,5 +135,7 @@ fn carry_out<A: Source, B: Source, D: Disk, W: Sink, P: Progress>(
         Asked::Compare { fabric } => compare_with(alloc, fabric, config, first, second, out),
         Asked::Soak { begin, count } => soak_with(alloc, config, begin, count, out, progress),
         Asked::Settle => settle_with(alloc, config, disk, out),
+        Asked::Ask { session } => ask_with(alloc, session, config, first, out),
+        Asked::Show { session } => show_with(alloc, session, config, first, out),
     }
 }

@@ -2,9 +2,10 @@
 //! recordings of growing length; and what is read at the limits.
 
 use crate::data::{repeated, text_of};
-use crate::rates::{a_second, since};
-use mt_files::{LineFault, events, write_event};
-use mt_model::Events;
+use crate::rates::rate;
+use cases_page::Page;
+use mt_files::{events, write_event};
+use mt_model::{Events, LineFault};
 use std::alloc::{AllocError, Global};
 use std::time::Instant;
 use std::{fs, io};
@@ -17,49 +18,96 @@ const AMOUNT: u64 = 4_000_000;
 
 const HEAD: &[u8] = b"matter-record 1\n";
 
-/// Writes each recording, reads it and writes it again, and prints what came of it, with the speeds where they
+/// Writes each recording, reads it and writes it again, and tells what came of it, with the speeds where they
 /// are asked for; then what is read at the limits of lines and bytes. The lines are of four kinds: requests,
 /// datagrams, steps of time and report steps.
-pub(crate) fn measure(rt: &HostRuntime, timed: bool) -> io::Result<()> {
+pub(crate) fn measure(rt: &HostRuntime, page: &mut Page, timed: bool) -> io::Result<()> {
     let alloc = rt.alloc();
-    let mixed = text_of(rt, "mixed.txt")?;
-    for lines in SIZES {
-        let recording = repeated(alloc, mixed.as_str(), lines)?;
-        let text = recording.as_bytes();
-        let kilobytes = if timed { memory(rt, text)? } else { 0 };
-        println!(rt;
-            "{lines} lines, {} bytes: {}",
-            text.len(),
-            told(alloc, text)?
-        )?;
-        if timed {
-            time(rt, lines, text)?;
-            println!(rt; "the events take {kilobytes} kB of new memory")?;
-        }
+    measure_sizes(rt, page, timed)?;
+    for lines in &[1_048_576, 1_048_577] {
+        tell_lines(alloc, page, *lines)?;
     }
-    for lines in [1_048_576, 1_048_577] {
-        let recording = repeated(alloc, "matter-record 1\nT 0\n", lines)?;
-        println!(rt; "{lines} lines: {}", told(alloc, recording.as_bytes())?)?;
-    }
-    for bytes in [67_108_864, 67_108_865] {
-        let mut text = Vec::from_slice(alloc, HEAD)?;
-        text.resize(bytes, b'\n')?;
-        println!(rt; "{bytes} bytes: {}", told(alloc, &text)?)?;
+    for bytes in &[67_108_864, 67_108_865] {
+        tell_bytes(alloc, page, *bytes)?;
     }
     Ok(())
 }
 
-// What is read, and whether it is written as it was.
-fn told(alloc: Global, text: &[u8]) -> Result<String, AllocError> {
-    match events(alloc, text) {
-        Ok(events) => {
-            let count = events.len();
-            let same = rewritten(alloc, &events)?.as_slice() == text;
-            format!(in alloc; "{count} events, written the same: {same}")
-        }
-        Err(LineFault::Memory) => Err(AllocError),
-        Err(fault) => format!(in alloc; "fault {fault}"),
+fn measure_sizes(rt: &HostRuntime, page: &mut Page, timed: bool) -> io::Result<()> {
+    let mixed = text_of(rt, "mixed.txt")?;
+    for lines in &SIZES {
+        measure_size(rt, page, mixed.as_str(), *lines, timed)?;
     }
+    Ok(())
+}
+
+// A recording of so many lines.
+fn measure_size(
+    rt: &HostRuntime,
+    page: &mut Page,
+    mixed: &str,
+    lines: u64,
+    timed: bool,
+) -> io::Result<()> {
+    let recording = repeated(rt.alloc(), mixed, lines)?;
+    let text = recording.whole()?.as_bytes();
+    if timed {
+        time(rt, page, lines, text)
+    } else {
+        Ok(tell_size(rt.alloc(), page, lines, text)?)
+    }
+}
+
+fn tell_size(alloc: Global, page: &mut Page, lines: u64, text: &[u8]) -> Result<(), AllocError> {
+    page.add_number(lines);
+    page.add(" lines, ");
+    page.add_number(text.len() as u64);
+    page.add(" bytes: ");
+    tell_read(alloc, page, text)
+}
+
+// A recording with so many steps of time.
+fn tell_lines(alloc: Global, page: &mut Page, lines: u64) -> Result<(), AllocError> {
+    let recording = repeated(alloc, "matter-record 1\nT 0\n", lines)?;
+    page.add_number(lines);
+    page.add(" lines: ");
+    tell_read(alloc, page, recording.whole()?.as_bytes())
+}
+
+// A text of so many bytes, all line ends.
+fn tell_bytes(alloc: Global, page: &mut Page, bytes: usize) -> Result<(), AllocError> {
+    let mut text = Vec::from_slice(alloc, HEAD)?;
+    text.resize(bytes, b'\n')?;
+    page.add_number(bytes as u64);
+    page.add(" bytes: ");
+    tell_read(alloc, page, &text)
+}
+
+// What is read, and whether it is written as it was.
+fn tell_read(alloc: Global, page: &mut Page, text: &[u8]) -> Result<(), AllocError> {
+    match events(alloc, text) {
+        Ok(events) => tell_events(alloc, page, &events, text)?,
+        Err(LineFault::Memory) => return Err(AllocError),
+        Err(fault) => {
+            page.add("fault ");
+            page.add_shown(&fault);
+        }
+    }
+    page.end_line();
+    Ok(())
+}
+
+fn tell_events(
+    alloc: Global,
+    page: &mut Page,
+    events: &Events,
+    text: &[u8],
+) -> Result<(), AllocError> {
+    let same = rewritten(alloc, events)?.as_slice() == text;
+    page.add_number(events.len() as u64);
+    page.add(" events, written the same: ");
+    page.add_shown(&same);
+    Ok(())
 }
 
 fn rewritten(alloc: Global, events: &Events) -> Result<Vec<u8>, AllocError> {
@@ -70,29 +118,59 @@ fn rewritten(alloc: Global, events: &Events) -> Result<Vec<u8>, AllocError> {
     Ok(text)
 }
 
-fn time(rt: &HostRuntime, lines: u64, text: &[u8]) -> io::Result<()> {
-    let alloc = rt.alloc();
+// What is read of a recording, with the speeds, and what its events take.
+fn time(rt: &HostRuntime, page: &mut Page, lines: u64, text: &[u8]) -> io::Result<()> {
     let rounds = AMOUNT / lines.max(1);
+    let kilobytes = memory(rt, text)?;
+    tell_size(rt.alloc(), page, lines, text)?;
+    let reading = reading(rt, text, rounds)?;
+    let writing = writing(rt, text, rounds)?;
+    page.add("read ");
+    page.add_number(reading);
+    page.add(", written ");
+    page.add_number(writing);
+    page.line(" lines/s");
+    page.add("the events take ");
+    page.add_number(kilobytes);
+    page.line(" kB of new memory");
+    Ok(())
+}
+
+// How many events are read in a second.
+fn reading(rt: &HostRuntime, text: &[u8], rounds: u64) -> io::Result<u64> {
     let start = Instant::now(rt)?;
     let mut read = 0_u64;
     for _ in 0..rounds {
-        if let Ok(events) = events(alloc, text) {
-            read = read.saturating_add(events.len() as u64);
-        }
+        read = read.saturating_add(count_of(rt.alloc(), text));
     }
-    let reading = a_second(read, since(rt, start)?);
-    let Ok(list) = events(alloc, text) else {
-        return Ok(());
-    };
+    rate(rt, start, read)
+}
+
+// How many events a text has.
+fn count_of(alloc: Global, text: &[u8]) -> u64 {
+    match events(alloc, text) {
+        Ok(events) => events.len() as u64,
+        Err(_) => 0,
+    }
+}
+
+// How many events are written in a second.
+fn writing(rt: &HostRuntime, text: &[u8], rounds: u64) -> io::Result<u64> {
+    match events(rt.alloc(), text) {
+        Ok(events) => writing_of(rt, &events, text.len(), rounds),
+        Err(_) => Ok(0),
+    }
+}
+
+fn writing_of(rt: &HostRuntime, events: &Events, length: usize, rounds: u64) -> io::Result<u64> {
     let start = Instant::now(rt)?;
     let mut written = 0_u64;
     for _ in 0..rounds {
-        if rewritten(alloc, &list)?.len() == text.len() {
-            written = written.saturating_add(lines);
+        if rewritten(rt.alloc(), events)?.len() == length {
+            written = written.saturating_add(events.len() as u64);
         }
     }
-    let writing = a_second(written, since(rt, start)?);
-    println!(rt; "read {reading}, written {writing} lines/s")
+    rate(rt, start, written)
 }
 
 // By how many kilobytes the process grows for the events; what was used and freed before is used again.
@@ -107,10 +185,12 @@ fn memory(rt: &HostRuntime, text: &[u8]) -> io::Result<u64> {
 // How much memory the process has, in kilobytes, where the system tells it.
 fn resident(rt: &HostRuntime) -> io::Result<u64> {
     let text = fs::read_to_string(rt, "/proc/self/statm")?;
-    let fields: Vec<&str> = text.as_str().split(' ').collect(rt.alloc())?;
-    let pages = match fields.get(1) {
-        Some(pages) => pages.parse::<u64>().unwrap_or(0),
-        None => 0,
-    };
-    Ok(pages.saturating_mul(4))
+    Ok(second(text.as_str()).saturating_mul(4))
+}
+
+// The second number of a line.
+fn second(line: &str) -> u64 {
+    let (_, rest) = line.split_once(' ').unwrap_or(("", ""));
+    let (number, _) = rest.split_once(' ').unwrap_or(("", ""));
+    number.parse::<u64>().unwrap_or(0)
 }

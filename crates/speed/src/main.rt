@@ -21,6 +21,7 @@ mod rates;
 mod store;
 mod tlv;
 
+use cases_page::Page;
 use std::{env, io};
 
 // How many turns there are where no word says.
@@ -28,20 +29,7 @@ const FEW: u32 = 20;
 
 fn main(rt: HostRuntime) -> io::Result<()> {
     let words: Vec<String> = env::args(&rt)?.skip(1).collect(rt.alloc())?;
-    let word = word_at(&words, 1);
-    let timed = !word.is_empty();
-    let turns = word.parse::<u32>().unwrap_or(FEW);
-    match word_at(&words, 0) {
-        "" => short(&rt),
-        "ccm" => ccm::measure(&rt, turns),
-        "files" => files::measure(&rt, timed),
-        "im" => im::measure(&rt, timed),
-        "journal" => journal::measure(&rt, turns),
-        "keep" => store::keep(&rt, word),
-        "store" => store::measure(&rt, turns),
-        "tlv" => tlv::measure(&rt, timed),
-        _ => eprintln!(rt; "there is no such matter"),
-    }
+    measure(&rt, word_at(&words, 0), word_at(&words, 1))
 }
 
 // The word at this place, which is empty where there is none.
@@ -52,12 +40,49 @@ fn word_at(words: &[String], place: usize) -> &str {
     }
 }
 
+// Measures a matter, and prints what came of it.
+fn measure(rt: &HostRuntime, matter: &str, word: &str) -> io::Result<()> {
+    match matter {
+        "" => short(rt),
+        "keep" => store::keep(rt, word),
+        "ccm" | "journal" | "store" => measure_turns(
+            rt,
+            matter,
+            word.parse::<u32>().unwrap_or(FEW),
+        ),
+        "files" | "im" | "tlv" => measure_texts(rt, matter, !word.is_empty()),
+        _ => eprintln!(rt; "there is no such matter"),
+    }
+}
+
+// What goes to standard error.
+fn measure_turns(rt: &HostRuntime, matter: &str, turns: u32) -> io::Result<()> {
+    let mut page = Page::new(rt.alloc());
+    match matter {
+        "ccm" => ccm::measure(rt, &mut page, turns)?,
+        "journal" => journal::measure(rt, &mut page, turns)?,
+        _ => store::measure(rt, &mut page, turns)?,
+    }
+    eprint!(rt; "{}", page.whole()?)
+}
+
+// What goes to standard output.
+fn measure_texts(rt: &HostRuntime, matter: &str, timed: bool) -> io::Result<()> {
+    let mut page = Page::new(rt.alloc());
+    match matter {
+        "files" => files::measure(rt, &mut page, timed)?,
+        "im" => im::measure(rt, &mut page, timed)?,
+        _ => tlv::measure(rt, &mut page, timed)?,
+    }
+    print!(rt; "{}", page.whole()?)
+}
+
 // Each matter, short.
 fn short(rt: &HostRuntime) -> io::Result<()> {
-    ccm::measure(rt, FEW)?;
-    files::measure(rt, false)?;
-    im::measure(rt, false)?;
-    journal::measure(rt, FEW)?;
-    store::measure(rt, FEW)?;
-    tlv::measure(rt, false)
+    measure_turns(rt, "ccm", FEW)?;
+    measure_texts(rt, "files", false)?;
+    measure_texts(rt, "im", false)?;
+    measure_turns(rt, "journal", FEW)?;
+    measure_turns(rt, "store", FEW)?;
+    measure_texts(rt, "tlv", false)
 }

@@ -2,7 +2,9 @@
 //! next, and how long it takes to recover a file whose slot is full: what is found goes to standard error. And a
 //! count that is kept in a file.
 
-use crate::rates::{a_second, since};
+use crate::journal::{tell_committing, tell_recovering};
+use crate::rates::{rate, since};
+use cases_page::Page;
 use mt_durable::{Change, Entry, Keeper, write_change};
 use mt_os::FileDisk;
 use mt_store::{Maps, Store};
@@ -26,9 +28,9 @@ const OCTETS: u8 = 2;
 const SIZE: usize = 4_000;
 
 /// Commits so many changes of each size.
-pub(crate) fn measure(rt: &HostRuntime, turns: u32) -> io::Result<()> {
-    commit_all(rt, "small", turns, 100)?;
-    commit_all(rt, "large", turns, 4_000)
+pub(crate) fn measure(rt: &HostRuntime, page: &mut Page, turns: u32) -> io::Result<()> {
+    commit_all(rt, page, "small", turns, 100)?;
+    commit_all(rt, page, "large", turns, 4_000)
 }
 
 /// The disk that is the file of this name, which is made where there is none.
@@ -55,20 +57,36 @@ fn octets(alloc: Global, byte: u8, count: usize) -> Result<Value, AllocError> {
     Ok(Value::Octets(Bytes::from_vec(octets)))
 }
 
-// The bytes of a change that puts values under keys of one byte, which ascend.
-fn change_of<const N: usize>(alloc: Global, puts: [(u8, Value); N]) -> Result<Vec<u8>, AllocError> {
-    let mut entries = Vec::with_capacity(alloc, N)?;
-    for (key, value) in puts {
-        entries.push(Entry {
-            key: Bytes::from_slice(alloc, &[key])?,
-            value: Some(value),
-        })?;
-    }
+// An entry that puts a value under a key of one byte.
+fn entry(alloc: Global, key: u8, value: Value) -> Result<Entry, AllocError> {
+    Ok(Entry {
+        key: Bytes::from_slice(alloc, &[key])?,
+        value: Some(value),
+    })
+}
+
+// The bytes of the change with these entries, whose keys ascend.
+fn change_of(alloc: Global, entries: Vec<Entry>) -> Result<Vec<u8>, AllocError> {
     let mut bytes = Vec::new(alloc);
     if Change::is_ascending(&entries) {
         write_change(alloc, Change::from_vec(entries), &mut bytes)?;
     }
     Ok(bytes)
+}
+
+// The bytes of a change that puts so many octets under a key.
+fn octets_under(alloc: Global, key: u8, size: usize) -> Result<Vec<u8>, AllocError> {
+    let mut entries = Vec::new(alloc);
+    entries.push(entry(alloc, key, octets(alloc, 0x5a, size)?)?)?;
+    change_of(alloc, entries)
+}
+
+// The bytes of a change that puts a count, and the octets that say its lowest byte.
+fn count_of(alloc: Global, count: u64) -> Result<Vec<u8>, AllocError> {
+    let mut entries = Vec::new(alloc);
+    entries.push(entry(alloc, COUNT, Value::Uint(count))?)?;
+    entries.push(entry(alloc, OCTETS, octets(alloc, (count % 256) as u8, SIZE)?)?)?;
+    change_of(alloc, entries)
 }
 
 // Commits a change, if there is room, and answers whether it is safe.
@@ -80,64 +98,113 @@ fn commit(alloc: Global, store: &mut FileStore, change: &[u8]) -> bool {
 }
 
 // Commits so many changes in turn, and then as many as fill the slot. The file is new, and goes.
-fn commit_all(rt: &HostRuntime, name: &str, turns: u32, size: usize) -> io::Result<()> {
-    let alloc = rt.alloc();
-    let mut changes = Vec::new(alloc);
-    for key in 0..KEYS {
-        changes.push(change_of(alloc, [(key, octets(alloc, 0x5a, size)?)])?)?;
+fn commit_all(
+    rt: &HostRuntime,
+    page: &mut Page,
+    name: &str,
+    turns: u32,
+    size: usize,
+) -> io::Result<()> {
+    let changes = changes(rt.alloc(), size)?;
+    if let Some(mut store) = opened(rt, name)? {
+        let committing = committing(rt, &mut store, turns, &changes)?;
+        tell_committing(page, turns, size, committing);
+        page.add_number(fill(rt.alloc(), &mut store, &changes));
+        page.add(" more filled the slot, ");
     }
-    let Some(mut store) = opened(rt, name)? else {
-        return Ok(());
-    };
-    let mut failed = 0u32;
-    let start = Instant::now(rt)?;
-    for (_, change) in (0..turns).zip(changes.iter().cycle()) {
-        if !commit(alloc, &mut store, change) {
-            failed = failed.saturating_add(1);
-        }
-    }
-    let rate = a_second(u64::from(turns), since(rt, start)?);
-    let filled = fill(alloc, &mut store, &changes);
-    let start = Instant::now(rt)?;
-    let again = opened(rt, name)?.is_some();
-    let recovering = since(rt, start)? / 1_000;
-    eprintln!(rt;
-        "{turns} changes of {size} bytes: {rate} a second, {failed} failed; {filled} more filled the slot, recovered {again} in {recovering} us"
-    )?;
+    tell_recovering(page, recovering(rt, name)?);
     remove_file(rt, name)
 }
 
-// Commits changes in turn until the current slot is full, and answers how many that were.
-fn fill(alloc: Global, store: &mut FileStore, changes: &[Vec<u8>]) -> u32 {
-    for (count, change) in (0..u32::MAX).zip(changes.iter().cycle()) {
-        if !store.journal().fits(change.len()) || !commit(alloc, store, change) {
-            return count;
+// A change of so many octets for each key.
+fn changes(alloc: Global, size: usize) -> Result<Vec<Vec<u8>>, AllocError> {
+    let mut changes = Vec::new(alloc);
+    for key in 0..KEYS {
+        changes.push(octets_under(alloc, key, size)?)?;
+    }
+    Ok(changes)
+}
+
+// The change that has this turn.
+fn change_at(changes: &[Vec<u8>], turn: u32) -> &[u8] {
+    match changes.get((turn % u32::from(KEYS)) as usize) {
+        Some(change) => change.as_slice(),
+        None => &[],
+    }
+}
+
+// How many changes are safe in a second, and how many failed.
+fn committing(
+    rt: &HostRuntime,
+    store: &mut FileStore,
+    turns: u32,
+    changes: &[Vec<u8>],
+) -> io::Result<(u64, u64)> {
+    let mut failed = 0_u64;
+    let start = Instant::now(rt)?;
+    for turn in 0..turns {
+        if !commit(rt.alloc(), store, change_at(changes, turn)) {
+            failed = failed.saturating_add(1);
         }
     }
-    u32::MAX
+    Ok((rate(rt, start, u64::from(turns))?, failed))
+}
+
+// Commits changes in turn until the current slot is full, and answers how many that were.
+fn fill(alloc: Global, store: &mut FileStore, changes: &[Vec<u8>]) -> u64 {
+    for turn in 0..u32::MAX {
+        let change = change_at(changes, turn);
+        if !store.journal().fits(change.len()) || !commit(alloc, store, change) {
+            return u64::from(turn);
+        }
+    }
+    u64::from(u32::MAX)
+}
+
+// Whether the store is recovered, and in how many nanoseconds.
+fn recovering(rt: &HostRuntime, name: &str) -> io::Result<(bool, u64)> {
+    let start = Instant::now(rt)?;
+    let again = opened(rt, name)?.is_some();
+    Ok((again, since(rt, start)?))
 }
 
 /// Prints the count in a file, and for each line of the input commits the next count and prints it.
 pub(crate) fn keep(rt: &HostRuntime, name: &str) -> io::Result<()> {
-    let alloc = rt.alloc();
-    let Some(mut store) = opened(rt, name)? else {
-        return println!(rt; "no journal");
-    };
-    let Some(mut count) = found(alloc, &store)? else {
-        return println!(rt; "torn");
-    };
-    println!(rt; "{count}")?;
-    for line in BufReader::new(alloc, rt.reader())?.lines(alloc) {
+    match opened(rt, name)? {
+        Some(mut store) => keep_in(rt, &mut store),
+        None => println!(rt; "no journal"),
+    }
+}
+
+fn keep_in(rt: &HostRuntime, store: &mut FileStore) -> io::Result<()> {
+    match found(rt.alloc(), store)? {
+        Some(count) => count_on(rt, store, count),
+        None => println!(rt; "torn"),
+    }
+}
+
+fn count_on(rt: &HostRuntime, store: &mut FileStore, found: u64) -> io::Result<()> {
+    let mut count = found;
+    print_count(rt, count)?;
+    for line in BufReader::new(rt.alloc(), rt.reader())?.lines(rt.alloc()) {
         let _ = line?;
         count = count.saturating_add(1);
-        let octets = octets(alloc, (count % 256) as u8, SIZE)?;
-        let change = change_of(alloc, [(COUNT, Value::Uint(count)), (OCTETS, octets)])?;
-        if !commit(alloc, &mut store, &change) {
+        if !commit_count(rt.alloc(), store, count)? {
             return println!(rt; "failed");
         }
-        println!(rt; "{count}")?;
+        print_count(rt, count)?;
     }
     Ok(())
+}
+
+fn print_count(rt: &HostRuntime, count: u64) -> io::Result<()> {
+    println!(rt; "{count}")
+}
+
+// Commits a count, and answers whether it is safe.
+fn commit_count(alloc: Global, store: &mut FileStore, count: u64) -> Result<bool, AllocError> {
+    let change = count_of(alloc, count)?;
+    Ok(commit(alloc, store, &change))
 }
 
 // The count in a store, 0 where there is none. None where the octets do not say it.

@@ -4,6 +4,7 @@
 
 use crate::data::{bytes_of, text_of};
 use crate::rates::{a_second, since};
+use cases_page::Page;
 use mt_tlv::{Cursor, Tag, Value, read, write};
 use std::alloc::{AllocError, Global};
 use std::io;
@@ -21,34 +22,77 @@ const CONTEXT_TAGS: u32 = 256;
 /// How many bytes are gone over, read and written for one speed; of many tags a 64th.
 const AMOUNT: u64 = 240_000_000;
 
-/// Prints the length and the parts of each payload and whether it is read; with its speeds, where they are
+/// Tells the length and the parts of each payload and whether it is read; with its speeds, where they are
 /// asked for.
-pub(crate) fn measure(rt: &HostRuntime, timed: bool) -> io::Result<()> {
-    let alloc = rt.alloc();
+pub(crate) fn measure(rt: &HostRuntime, page: &mut Page, timed: bool) -> io::Result<()> {
     let item = text_of(rt, "item.txt")?;
-    let (before, behind) = item.trim().split_once(' ').unwrap_or(("", ""));
-    let (before, behind) = (bytes_of(alloc, before)?, bytes_of(alloc, behind)?);
-    for size in SIZES {
-        let bytes = payload(alloc, size, &before, &behind)?;
-        let (length, parts) = (bytes.len(), parts_of(&bytes));
-        let is_read = read(alloc, &bytes).is_ok();
-        println!(rt; "{length} bytes, {parts} parts, read: {is_read}")?;
+    let (before, behind) = item.as_str().trim().split_once(' ').unwrap_or(("", ""));
+    measure_sizes(rt, page, before, behind, timed)?;
+    for count in &TAGS {
+        measure_tags(rt, page, *count, timed)?;
+    }
+    Ok(())
+}
+
+// Payloads of items that are told in these digits before and behind their number.
+fn measure_sizes(
+    rt: &HostRuntime,
+    page: &mut Page,
+    before: &str,
+    behind: &str,
+    timed: bool,
+) -> io::Result<()> {
+    let before = bytes_of(rt.alloc(), before)?;
+    let behind = bytes_of(rt.alloc(), behind)?;
+    for size in &SIZES {
+        let bytes = payload(rt.alloc(), *size, &before, &behind)?;
+        tell_payload(rt.alloc(), page, &bytes);
         if timed {
-            time(rt, &bytes)?;
+            time(rt, page, &bytes)?;
         }
     }
-    for count in TAGS {
-        let bytes = many_tags(alloc, count)?;
-        let length = bytes.len();
-        let is_read = read(alloc, &bytes).is_ok();
-        println!(rt; "{count} tags, {length} bytes, read: {is_read}")?;
-        if timed {
-            let rounds = AMOUNT / (length as u64).max(1) / 64;
-            let amount = rounds.saturating_mul(length as u64).max(1);
-            let each = reading(rt, &bytes, rounds)?.saturating_mul(1_000) / amount;
-            println!(rt; "read {each} ps/byte")?;
-        }
+    Ok(())
+}
+
+fn tell_payload(alloc: Global, page: &mut Page, bytes: &[u8]) {
+    page.add_number(bytes.len() as u64);
+    page.add(" bytes, ");
+    page.add_number(parts_of(bytes));
+    page.add(" parts, read: ");
+    tell_read(alloc, page, bytes);
+}
+
+fn tell_read(alloc: Global, page: &mut Page, bytes: &[u8]) {
+    page.add_shown(&read(alloc, bytes).is_ok());
+    page.end_line();
+}
+
+fn measure_tags(rt: &HostRuntime, page: &mut Page, count: u32, timed: bool) -> io::Result<()> {
+    let bytes = many_tags(rt.alloc(), count)?;
+    tell_tags(rt.alloc(), page, count, &bytes);
+    if timed {
+        time_tags(rt, page, &bytes)
+    } else {
+        Ok(())
     }
+}
+
+fn tell_tags(alloc: Global, page: &mut Page, count: u32, bytes: &[u8]) {
+    page.add_number(u64::from(count));
+    page.add(" tags, ");
+    page.add_number(bytes.len() as u64);
+    page.add(" bytes, read: ");
+    tell_read(alloc, page, bytes);
+}
+
+fn time_tags(rt: &HostRuntime, page: &mut Page, bytes: &[u8]) -> io::Result<()> {
+    let length = bytes.len() as u64;
+    let rounds = AMOUNT / length.max(1) / 64;
+    let amount = rounds.saturating_mul(length).max(1);
+    let took = reading(rt, bytes, rounds)?;
+    page.add("read ");
+    page.add_number(took.saturating_mul(1_000) / amount);
+    page.line(" ps/byte");
     Ok(())
 }
 
@@ -104,49 +148,81 @@ fn parts_of(bytes: &[u8]) -> u64 {
     u64::MAX
 }
 
-fn time(rt: &HostRuntime, bytes: &[u8]) -> io::Result<()> {
+fn time(rt: &HostRuntime, page: &mut Page, bytes: &[u8]) -> io::Result<()> {
     let length = bytes.len() as u64;
     let rounds = AMOUNT / length.max(1);
     let amount = rounds.saturating_mul(length);
+    let over = a_second(amount, going(rt, bytes, rounds)?) / 1_000_000;
+    let reading = a_second(amount, reading(rt, bytes, rounds)?) / 1_000_000;
+    let writing = a_second(amount, writing(rt, bytes, rounds)?) / 1_000_000;
+    page.add("Cursor ");
+    page.add_number(over);
+    page.add(" MB/s, read ");
+    page.add_number(reading);
+    page.add(" MB/s, write ");
+    page.add_number(writing);
+    page.line(" MB/s");
+    Ok(())
+}
+
+// How many nanoseconds it takes to go over bytes in these rounds.
+fn going(rt: &HostRuntime, bytes: &[u8], rounds: u64) -> io::Result<u64> {
     let start = Instant::now(rt)?;
     let mut parts = 0_u64;
     for _ in 0..rounds {
         parts = parts.wrapping_add(parts_of(bytes));
     }
-    let over = a_second(amount.min(parts.saturating_mul(length)), since(rt, start)?) / 1_000_000;
-    let reading = a_second(amount, reading(rt, bytes, rounds)?) / 1_000_000;
-    let writing = a_second(amount, writing(rt, bytes, rounds)?) / 1_000_000;
-    println!(rt; "Cursor {over} MB/s, read {reading} MB/s, write {writing} MB/s")
+    took(rt, start, parts)
 }
 
 // How many nanoseconds these rounds of `read` take.
 fn reading(rt: &HostRuntime, bytes: &[u8], rounds: u64) -> io::Result<u64> {
-    let alloc = rt.alloc();
     let start = Instant::now(rt)?;
     let mut lengths = 0_u64;
     for _ in 0..rounds {
-        if let Ok((_, _, length)) = read(alloc, bytes) {
-            lengths = lengths.wrapping_add(length as u64);
-        }
+        lengths = lengths.wrapping_add(length_read(rt.alloc(), bytes));
     }
-    let took = since(rt, start)?;
-    Ok(if lengths == 0 { u64::MAX } else { took })
+    took(rt, start, lengths)
+}
+
+// How long what `read` finds is; 0 where that is nothing.
+fn length_read(alloc: Global, bytes: &[u8]) -> u64 {
+    match read(alloc, bytes) {
+        Ok((_, _, length)) => length as u64,
+        Err(_) => 0,
+    }
 }
 
 // How many nanoseconds these rounds of `write` take, to new memory each time.
 fn writing(rt: &HostRuntime, bytes: &[u8], rounds: u64) -> io::Result<u64> {
-    let alloc = rt.alloc();
-    let Ok((tag, value, _)) = read(alloc, bytes) else {
-        return Ok(u64::MAX);
-    };
+    match read(rt.alloc(), bytes) {
+        Ok((tag, value, _)) => writing_of(rt, &tag, &value, rounds),
+        Err(_) => Ok(u64::MAX),
+    }
+}
+
+fn writing_of(rt: &HostRuntime, tag: &Tag, value: &Value, rounds: u64) -> io::Result<u64> {
     let start = Instant::now(rt)?;
     let mut lengths = 0_u64;
     for _ in 0..rounds {
-        let mut out = Vec::new(alloc);
-        if write(&tag, &value, &mut out).is_ok() {
-            lengths = lengths.wrapping_add(out.len() as u64);
-        }
+        lengths = lengths.wrapping_add(length_written(rt.alloc(), tag, value));
     }
-    let took = since(rt, start)?;
-    Ok(if lengths == 0 { u64::MAX } else { took })
+    took(rt, start, lengths)
+}
+
+// How long what `write` writes is; 0 where there was no memory.
+fn length_written(alloc: Global, tag: &Tag, value: &Value) -> u64 {
+    let mut out = Vec::new(alloc);
+    match write(tag, value, &mut out) {
+        Ok(()) => out.len() as u64,
+        Err(_) => 0,
+    }
+}
+
+// How many nanoseconds have passed since then; without end where nothing came of it.
+fn took(rt: &HostRuntime, start: Instant, count: u64) -> io::Result<u64> {
+    if count == 0 {
+        return Ok(u64::MAX);
+    }
+    since(rt, start)
 }

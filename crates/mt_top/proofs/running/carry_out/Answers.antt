@@ -54,3 +54,29 @@ returns-in-Settle-clause-ends g c =
     subst (λ (wanted : Asked). CarriesOut c.settle_with.result wanted (contents_of c.args.config.now) (input (told c.args.disk.now) (failed c.args.disk.now)) (input (told c.settle_with.new.disk) (failed c.settle_with.new.disk))
     (moment in_hand first second (written c.args.out.now) (faults c.args.out.now)) (moment in_hand first second (written c.settle_with.new.out) (faults c.settle_with.new.out)))
     (sym c.in-Settle.is) (c.settle_with.ensures.ends first second, refl, refl)
+
+pub returns-in-Ask-clause-ends : goal.returns-in-Ask-clause-ends
+returns-in-Ask-clause-ends g c =
+    let left = g.A.Source.left in
+    let reads = g.A.Source.faults in
+    let written = g.W.Sink.written in
+    let faults = g.W.Sink.faults in
+    let second = input (g.B.Source.left c.args.second.now) (g.B.Source.faults c.args.second.now) in
+    let disk = input (g.D.Disk.contents c.args.disk.now) (g.D.Disk.faults c.args.disk.now) in
+    subst (λ (wanted : Asked). CarriesOut c.ask_with.result wanted (contents_of c.args.config.now) disk disk
+    (moment in_hand (input (left c.args.first.now) (reads c.args.first.now)) second (written c.args.out.now) (faults c.args.out.now))
+    (moment in_hand (input (left c.ask_with.new.first) (reads c.ask_with.new.first)) second (written c.ask_with.new.out) (faults c.ask_with.new.out)))
+    (sym c.in-Ask.is) (c.ask_with.ensures.ends second, refl)
+
+pub returns-in-Show-clause-ends : goal.returns-in-Show-clause-ends
+returns-in-Show-clause-ends g c =
+    let left = g.A.Source.left in
+    let reads = g.A.Source.faults in
+    let written = g.W.Sink.written in
+    let faults = g.W.Sink.faults in
+    let second = input (g.B.Source.left c.args.second.now) (g.B.Source.faults c.args.second.now) in
+    let disk = input (g.D.Disk.contents c.args.disk.now) (g.D.Disk.faults c.args.disk.now) in
+    subst (λ (wanted : Asked). CarriesOut c.show_with.result wanted (contents_of c.args.config.now) disk disk
+    (moment in_hand (input (left c.args.first.now) (reads c.args.first.now)) second (written c.args.out.now) (faults c.args.out.now))
+    (moment in_hand (input (left c.show_with.new.first) (reads c.show_with.new.first)) second (written c.show_with.new.out) (faults c.show_with.new.out)))
+    (sym c.in-Show.is) (c.show_with.ensures.ends second, refl)

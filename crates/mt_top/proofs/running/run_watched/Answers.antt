@@ -25,6 +25,11 @@ returns-in-Err-Bad-clause-run g c =
       expired = c.expiries_are_rollbacks.ensures;
       reopened = c.reopenings_are_exact.ensures;
       compared = c.comparisons_are_exact.ensures;
+      asked = c.asked_is_opened.ensures;
+      shown = c.shown_is_exact.ensures;
+      windows = c.windows_are_exact.ensures;
+      key_sets = c.key_sets_are_their_own.ensures;
+      secret = c.keys_are_secret.ensures;
     }
 
 pub carry_out-requires : goal.carry_out-requires
@@ -49,6 +54,11 @@ returns-in-Ok-read_configuration-clause-run g c =
       expired = c.expiries_are_rollbacks.ensures;
       reopened = c.reopenings_are_exact.ensures;
       compared = c.comparisons_are_exact.ensures;
+      asked = c.asked_is_opened.ensures;
+      shown = c.shown_is_exact.ensures;
+      windows = c.windows_are_exact.ensures;
+      key_sets = c.key_sets_are_their_own.ensures;
+      secret = c.keys_are_secret.ensures;
     }
 
 pub returns-in-Err-clause-run : goal.returns-in-Err-clause-run
@@ -71,6 +81,11 @@ returns-in-Err-clause-run g c =
       expired = c.expiries_are_rollbacks.ensures;
       reopened = c.reopenings_are_exact.ensures;
       compared = c.comparisons_are_exact.ensures;
+      asked = c.asked_is_opened.ensures;
+      shown = c.shown_is_exact.ensures;
+      windows = c.windows_are_exact.ensures;
+      key_sets = c.key_sets_are_their_own.ensures;
+      secret = c.keys_are_secret.ensures;
     }
 
 pub returns-in-Err-Memory-clause-run : goal.returns-in-Err-Memory-clause-run
@@ -90,4 +105,9 @@ returns-in-Err-Memory-clause-run g c =
       expired = c.expiries_are_rollbacks.ensures;
       reopened = c.reopenings_are_exact.ensures;
       compared = c.comparisons_are_exact.ensures;
+      asked = c.asked_is_opened.ensures;
+      shown = c.shown_is_exact.ensures;
+      windows = c.windows_are_exact.ensures;
+      key_sets = c.key_sets_are_their_own.ensures;
+      secret = c.keys_are_secret.ensures;
     }

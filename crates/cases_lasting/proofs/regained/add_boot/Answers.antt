@@ -4,7 +4,7 @@ use Rattle.std.specs.Prelude.{IfSome, is_some}
 use Rattle.mt_model.specs.declared.node.state.NodeState.{NodeState}
 use Rattle.mt_model.specs.declared.tables.network.Armed.{Armed}
 use Rattle.mt_regained.specs.Begun.{IsValidWhereRolled}
-use Rattle.cases_runs.proofs.regained.add_boot.Goals as goal
+use Rattle.cases_lasting.proofs.regained.add_boot.Goals as goal
 
 -- what is not there is None
 unarmed : (armed : Option Armed) → is_some armed ≡ false → armed ≡ None

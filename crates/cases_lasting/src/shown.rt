@@ -4,9 +4,9 @@ ghost use Rattle.std.specs.Prelude.{OnOk};
 ghost use Rattle.mt_play.specs.Plays.{IsOnJournal};
 
 use cases_page::{Page, byte, word};
-use mt_files::{LineFault, config as configuration, events};
+use mt_files::{config as configuration, events};
 use mt_lens::{Came, DiskStop, Line, Teller, show_faulty_line, show_words};
-use mt_model::{Config, Event};
+use mt_model::{Config, Event, LineFault};
 use mt_play::{Course, Planned, Playing};
 use std::alloc::{AllocError, Global};
 use std::{fs, io};
