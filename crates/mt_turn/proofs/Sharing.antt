@@ -74,6 +74,7 @@ module _ {T E O : Type 0} (book : T → List E) (origin : T → O) where
         drawn = r.drawn;
         now = r.now;
         base = r.base;
+        others = r.others;
         words = r.words;
         tickets = λ t. omega (arith, sum (has_ticket t), no_ticket book origin t v idle, no_ticket book origin t kept idle, no_ticket book origin t given refl, r.tickets t);
         line = omega (arith, sum (λ (u : N). u.queued), r.line);
@@ -112,6 +113,7 @@ module _ {T E O : Type 0} (book : T → List E) (origin : T → O) where
         drawn = r.drawn;
         now = r.now;
         base = r.base;
+        others = r.others;
         words = r.words;
         tickets = λ t. omega (arith, sum (has_ticket t), no_ticket book origin t v idle, no_ticket book origin t u idle', no_ticket book origin t one idle, no_ticket book origin t spent refl, r.tickets t);
         line = omega (arith, sum (λ (z : N). z.queued), r.line);
@@ -196,14 +198,15 @@ module _ {T E O : Type 0} (book : T → List E) (origin : T → O) where
   no_second a b zero n e = n refl
   no_second a b (suc j) n e = some-ne-none b (sym e)
 
-  pub begins : (x : T) → book x ≡ [] → K (opening (0 ∷ 0 ∷ []) (Some x ∷ []) (first_notes (origin x)))
-  begins x empty =
+  pub begins : (x : T) (others : List ℕ) → book x ≡ [] → K (opening (0 ∷ 0 ∷ others) (Some x ∷ []) (first_notes (origin x)))
+  begins x others empty =
       let v : N = first_notes (origin x) in
       record {
         ended = 0;
         drawn = 0;
         now = [];
         base = origin x;
+        others = others;
         words = refl;
         tickets = λ t. omega (arith, no_ticket book origin t v refl);
         line = refl;

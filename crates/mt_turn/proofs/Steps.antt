@@ -1,22 +1,32 @@
 -- Each step of a turn keeps the rule.
-use Rattle.std.proofs.Common.{◌≡◌, ℕ, suc, ◌+◌, ◌%◌, ◌<◌, cond, eqb, List, [], ◌∷◌, ◌++◌, length, get_or, set, sym, refl, ap, ◌∙◌, subst, inl, inr, ⊎_elim, arith, Bool, Option, Some, None, length-append, eq-eqb, ne_eqb, lt-ltb, le-ltb}
+use Rattle.std.proofs.Common.{◌≡◌, ℕ, zero, suc, ◌+◌, ◌-◌, ◌%◌, ◌<◌, ◌≤◌, cond, eqb, List, [], ◌∷◌, ◌++◌, length, get_or, set, sym, refl, ap, ◌∙◌, subst, inl, inr, ⊎_elim, arith, Bool, Option, Some, None, length-append, eq-eqb, ne_eqb, lt-ltb, le-ltb}
 use mathlib.Core.Logic.{dite}
 use mathlib.Core.Option.{Option as Maybe, none, some}
 use mathlib.Core.List.{IsPrefix}
 use native.Mathlib.Decide.{ℕ_discrete}
 use lib.ListN.{get_elem?}
 use Rattle.atomic_table.specs.Table.{State, Step, Act, keeps, takes, gives, Valid, carried_after, homes_after, step, Allows}
-use Rattle.atomic_table.proofs.Lists.{one_turn}
+use Rattle.atomic_table.proofs.Lists.{one_turn, set_again}
 use Rattle.mt_turn.specs.declared.rule.Notes.{Notes}
 use Rattle.mt_turn.specs.Counts.{total, is_it, how_often, once_below}
 use Rattle.mt_turn.specs.Known.{GrowsByOne, places_after}
-use Rattle.mt_turn.specs.Rule.{in_line, served_with, slot_back, slot_out, turn_over, compared, has_ticket, Holding, Fits, IsOut, IsEmptied, Lies, IsKept, Draws, Looks, IsServed, PutsBack, TakesOut, Ends, Compares}
+use Rattle.mt_turn.specs.Rule.{in_line, served_with, slot_back, slot_out, turn_over, compared, has_ticket, Holding, Fits, IsOut, IsEmptied, Lies, IsKept, Draws, Looks, IsServed, PutsBack, TakesOut, Rings, Ends, Compares}
 use Rattle.mt_turn.proofs.Sums.{total-set, two-le-total, total-le, is_it-other, how_often-push}
 use Rattle.mt_turn.proofs.Beginnings.{begins_itself, begins_further, begins-length}
 use Rattle.mt_turn.proofs.InLine.{no_ticket, each_set, ticket_range, served_at_home, slot_is_out, slot_is_empty}
 
 one_more : (n : ℕ) → (n % 18446744073709551616 + 1) % 18446744073709551616 ≡ suc n % 18446744073709551616
 one_more n = omega arith
+
+set_same : (words : List ℕ) (i : ℕ) → set words i (get_or words i 0) ≡ words
+set_same [] i = refl
+set_same (x ∷ xs) zero = refl
+set_same (x ∷ xs) (suc i) = ap (λ (l : List ℕ). x ∷ l) (set_same xs i)
+
+set_bell : (a b : ℕ) (rest : List ℕ) (i n : ℕ) → 2 ≤ i → set (a ∷ b ∷ rest) i n ≡ a ∷ b ∷ set rest (i - 2) n
+set_bell a b rest zero n le = absurd (omega arith)
+set_bell a b rest (suc zero) n le = absurd (omega arith)
+set_bell a b rest (suc (suc i)) n le = let e : suc (suc i) - 2 ≡ i = omega arith in rw e refl
 
 -- the value in the first slot, or another where there is none
 abbrev value_in : {T : Type 0} → T → List (ℕ × Option T) → T
@@ -54,16 +64,17 @@ module _ {T E O : Type 0} (book : T → List E) (origin : T → O) where
       (λ h. inl (h.0, h.1, h.2, h.3, same_in ∙ h.4))
       (λ rest. inr (⊎_elim (λ (h : IsOut homes old). inl (h.0, same_in ∙ h.1, same_empty ∙ h.2)) (λ (h : IsEmptied homes old). inr (h.0, same_in ∙ h.1, same_empty ∙ h.2)) rest)) lies
 
-  -- a step that leaves the ticket, the share and the places of its pass, and both words
+  -- a step that leaves the ticket, the share and the places of its pass, and all words
   same_line : (s : S) (r : K s) (id : ℕ) (v w : N) (homes : List Slot) → get_elem? s.views id ≡ some v
       → ((t : ℕ) → has_ticket t w ≡ has_ticket t v) → w.queued ≡ v.queued → w.share ≡ v.share → w.places ≡ v.places
       → Lies book origin homes (set s.views id w) r.now r.base → Fits book origin r.ended r.now r.base w
-      → K record { words = r.drawn % 18446744073709551616 ∷ r.ended % 18446744073709551616 ∷ []; homes = homes; views = set s.views id w }
+      → K record { words = r.drawn % 18446744073709551616 ∷ r.ended % 18446744073709551616 ∷ r.others; homes = homes; views = set s.views id w }
   same_line s r id v w homes at ticket queued share places lies fits = record {
     ended = r.ended;
     drawn = r.drawn;
     now = r.now;
     base = r.base;
+    others = r.others;
     words = refl;
     tickets = λ t. omega (arith, total-set (has_ticket t) s.views id v w at, ticket t, r.tickets t);
     line = omega (arith, total-set (λ (u : N). u.queued) s.views id v w at, queued, r.line);
@@ -91,7 +102,8 @@ module _ {T E O : Type 0} (book : T → List E) (origin : T → O) where
           drawn = suc r.drawn;
           now = r.now;
           base = r.base;
-          words = ap (λ k. k ∷ r.ended % 18446744073709551616 ∷ []) (one_more r.drawn);
+          others = r.others;
+          words = ap (λ k. k ∷ r.ended % 18446744073709551616 ∷ r.others) (one_more r.drawn);
           tickets = λ t. omega (arith, total-set (has_ticket t) s.views id v w at, no_ticket book origin t v idle, r.tickets t);
           line = omega (arith, total-set (λ (u : N). u.queued) s.views id v w at, r.line);
           shares = omega (arith, total-set (λ (u : N). u.share) s.views id v w at, r.shares);
@@ -161,17 +173,16 @@ module _ {T E O : Type 0} (book : T → List E) (origin : T → O) where
       )))
 
   -- the slot goes back once the value is out of it
-  pub puts_back : (slots id : ℕ) (v : N) (m : Holding T E O) → m ≡ (v, (0, None) ∷ []) → v.inside ≡ 1 → v.emptied ≡ 0
-      → Allows K slots id m 0 (λ n. n) (PutsBack (step slots 0 0 0 none) m)
-  puts_back slots id v m holds is_in full = subst (λ (n : Holding T E O). Allows K slots id n 0 (λ k. k) (PutsBack (step slots 0 0 0 none) n)) (sym holds) (λ s r len at small.
+  pub puts_back : (slots id i : ℕ) (v : N) (m : Holding T E O) → m ≡ (v, (0, None) ∷ []) → v.inside ≡ 1 → v.emptied ≡ 0
+      → Allows K slots id m i (λ n. n) (PutsBack (step slots i 0 0 none) m)
+  puts_back slots id i v m holds is_in full = subst (λ (n : Holding T E O). Allows K slots id n i (λ k. k) (PutsBack (step slots i 0 0 none) n)) (sym holds) (λ s r len at small.
       let w : N = slot_back v in
       let mine = r.each id v at in
-      let out = slot_is_out book origin s r id v at is_in full in
-      subst (Keeps 0 (λ n. n) (PutsBack (step slots 0 0 0 none) (v, (0, None) ∷ [])) s id (v, (0, None) ∷ [])) (sym r.words) (
+      let out = slot_is_out book origin s r id v at is_in full in (
         w,
         gives,
         tt,
-        same_line s r id v w (set s.homes 0 (some None)) at (λ t. refl) refl refl refl
+        subst (λ (ws : List ℕ). K record { words = ws; homes = set s.homes 0 (some None); views = set s.views id w }) (sym (set_same s.words i ∙ r.words)) (same_line s r id v w (set s.homes 0 (some None)) at (λ t. refl) refl refl refl
             (inr (inr (ap (λ (l : List Slot). set l 0 (some None)) out.0, omega (arith, total-set (λ (u : N). u.inside) s.views id v w at, out.1), omega (arith, total-set (λ (u : N). u.emptied) s.views id v w at, out.2))))
             record {
               emptied_inside = omega arith;
@@ -184,22 +195,21 @@ module _ {T E O : Type 0} (book : T → List E) (origin : T → O) where
               own = mine.own;
               spent_has_none = mine.spent_has_none;
               origin_is = mine.origin_is;
-            },
+            }),
         refl,
       ))
 
   -- the slot comes out again, with nothing in it
-  pub takes_out : (slots id : ℕ) (v : N) (m : Holding T E O) → m ≡ (v, []) → v.inside ≡ 1 → v.emptied ≡ 1
-      → Allows K slots id m 0 (λ n. n) (TakesOut (step slots 0 0 0 none) m)
-  takes_out slots id v m holds is_in empty = subst (λ (n : Holding T E O). Allows K slots id n 0 (λ k. k) (TakesOut (step slots 0 0 0 none) n)) (sym holds) (λ s r len at small.
+  pub takes_out : (slots id i : ℕ) (v : N) (m : Holding T E O) → m ≡ (v, []) → v.inside ≡ 1 → v.emptied ≡ 1
+      → Allows K slots id m i (λ n. n) (TakesOut (step slots i 0 0 none) m)
+  takes_out slots id i v m holds is_in empty = subst (λ (n : Holding T E O). Allows K slots id n i (λ k. k) (TakesOut (step slots i 0 0 none) n)) (sym holds) (λ s r len at small.
       let w : N = slot_out v in
       let mine = r.each id v at in
-      let back = slot_is_empty book origin s r id v at is_in empty in
-      subst (Keeps 0 (λ n. n) (TakesOut (step slots 0 0 0 none) (v, [])) s id (v, [])) (sym r.words) (
+      let back = slot_is_empty book origin s r id v at is_in empty in (
         w,
         takes 0 None,
         ap (λ (l : List Slot). get_elem? l 0) back.0,
-        same_line s r id v w (set s.homes 0 none) at (λ t. refl) refl refl refl
+        subst (λ (ws : List ℕ). K record { words = ws; homes = set s.homes 0 none; views = set s.views id w }) (sym (set_same s.words i ∙ r.words)) (same_line s r id v w (set s.homes 0 none) at (λ t. refl) refl refl refl
             (inr (inl (ap (λ (l : List Slot). set l 0 none) back.0, omega (arith, total-set (λ (u : N). u.inside) s.views id v w at, back.1), omega (arith, total-set (λ (u : N). u.emptied) s.views id v w at, back.2))))
             record {
               emptied_inside = omega arith;
@@ -212,9 +222,34 @@ module _ {T E O : Type 0} (book : T → List E) (origin : T → O) where
               own = mine.own;
               spent_has_none = mine.spent_has_none;
               origin_is = mine.origin_is;
-            },
+            }),
         refl,
       ))
+
+  -- a bell changes, and nothing else
+  pub rings : (slots id i n : ℕ) (v : N) (held : List (ℕ × Option T)) → 2 ≤ i
+      → Allows K slots id (v, held) i (λ _. n) (λ _. Rings (step slots i n 0 none) (v, held) n)
+  rings slots id i n v held bell s r len at small =
+      subst (Keeps i (λ _. n) (λ _. Rings (step slots i n 0 none) (v, held) n) s id (v, held)) (sym r.words) (
+        v,
+        keeps,
+        tt,
+        subst (λ (vs : List N). K record { words = set (r.drawn % 18446744073709551616 ∷ r.ended % 18446744073709551616 ∷ r.others) i n; homes = s.homes; views = vs }) (sym (set_again s.views id v at)) record {
+          ended = r.ended;
+          drawn = r.drawn;
+          now = r.now;
+          base = r.base;
+          others = set r.others (i - 2) n;
+          words = set_bell (r.drawn % 18446744073709551616) (r.ended % 18446744073709551616) r.others i n bell;
+          tickets = r.tickets;
+          line = r.line;
+          shares = r.shares;
+          once = r.once;
+          lies = r.lies;
+          each = r.each;
+        },
+        refl,
+      )
 
   -- what was told is compared with what was seen
   pub compares : (slots id : ℕ) (v : N) (held : List (ℕ × Option T))
@@ -300,7 +335,8 @@ module _ {T E O : Type 0} (book : T → List E) (origin : T → O) where
           drawn = r.drawn;
           now = book x;
           base = r.base;
-          words = ap (λ k. r.drawn % 18446744073709551616 ∷ k ∷ []) (one_more r.ended);
+          others = r.others;
+          words = ap (λ k. r.drawn % 18446744073709551616 ∷ k ∷ r.others) (one_more r.ended);
           tickets = λ t.
               let it : has_ticket t v ≡ is_it t r.ended = ap (λ (k : ℕ). cond (eqb k t) v.queued 0) served.0 ∙ ap (λ (k : ℕ). cond (eqb r.ended t) k 0) one in
               omega (arith, total-set (has_ticket t) s.views id v w at, no_ticket book origin t w refl, it, r.tickets t);

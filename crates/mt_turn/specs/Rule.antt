@@ -1,5 +1,6 @@
 -- The rule of the lock, and what each step tells its pass.
--- Word 0 is the next ticket and word 1 the number of turns that have ended, both modulo 2^64. The one slot has the value.
+-- Word 0 is the next ticket and word 1 the number of turns that have ended, both modulo 2^64. Of the
+-- others, the bells and one that never changes, the rule says nothing. The one slot has the value.
 use Rattle.std.specs.Prelude.{◌≡◌, ℕ, ◌+◌, ◌-◌, ◌%◌, ◌<◌, ◌≤◌, ◌⊎◌, ◌∷◌, ◌++◌, cond, eqb, List, [], Option, Some, None, length}
 use mathlib.Core.Option.{Option as Maybe, none, some}
 use mathlib.Core.List.{IsPrefix}
@@ -62,9 +63,9 @@ module _ {E O : Type 0} where
 abbrev pub Holding : Type 0 → Type 0 → Type 0 → Type 0
 Holding T E O = Me (Option T) (Notes E O)
 
--- the words of a lock, and its slot
+-- the words of a lock, 64 of them bells, and its slot
 abbrev pub IsLock : TableId → Type 0
-IsLock id = (id.words ≡ 2) × (id.slots ≡ 1)
+IsLock id = (id.words ≡ 67) × (id.slots ≡ 1)
 
 module _ {E O : Type 0} where
   -- inside, with the value in the caller's hands; the ticket may be any
@@ -95,6 +96,10 @@ module _ {T E O : Type 0} where
   -- the slot is out again, with nothing in it
   abbrev pub TakesOut : Step (Option T) → Holding T E O → ℕ → Holding T E O → Type 0
   TakesOut s m r n = n ≡ (slot_out m.0, (0, None) ∷ [])
+
+  -- nothing is told
+  abbrev pub Rings : Step (Option T) → Holding T E O → ℕ → Holding T E O → Type 0
+  Rings s m r n = n ≡ m
 
   -- what was told begins what was seen
   abbrev pub Compares : Step (Option T) → Holding T E O → ℕ → Holding T E O → Type 0
@@ -129,7 +134,8 @@ module _ {T E O : Type 0} (book : T → List E) (origin : T → O) where
     pub drawn : ℕ
     pub now : List E
     pub base : O
-    pub words : s.words ≡ drawn % 18446744073709551616 ∷ ended % 18446744073709551616 ∷ []
+    pub others : List ℕ
+    pub words : s.words ≡ drawn % 18446744073709551616 ∷ ended % 18446744073709551616 ∷ others
     pub tickets : (t : ℕ) → total (has_ticket t) s.views + once_below t ended ≡ once_below t drawn
     pub line : ended + total (λ v. v.queued) s.views ≡ drawn
     pub shares : total (λ v. v.share) s.views ≡ 64

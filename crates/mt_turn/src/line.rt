@@ -1,17 +1,18 @@
 //! The steps of a turn, over the lock's words and its slot.
 
-ghost use Rattle.std.specs.Prelude.{◌≡◌, ℕ, ◌%◌, ◌^◌, ◌<◌, length, ◌∷◌, [], Some, None, MatchBool};
+ghost use Rattle.std.specs.Prelude.{◌≡◌, ℕ, ◌%◌, ◌^◌, ◌<◌, ◌≤◌, length, ◌∷◌, [], Some, None, MatchBool};
 ghost use mathlib.Core.List.{IsPrefix};
 ghost use Rattle.mt_turn.specs.Counts.{how_often};
 ghost use Rattle.mt_turn.specs.Known.{GrowsByOne};
 ghost use Rattle.mt_turn.specs.Rule.{in_line, slot_back, slot_out, turn_over, IsServed, IsTaken, IsLock, IsSame};
 
 use crate::booked::Booked;
-use crate::rule::{Draw, End, Law, Look, Notes, PutBack, TakeOut};
+use crate::rule::{Draw, End, Law, Look, Notes, PutBack, Ring, TakeOut};
 use atomic_table::{Seat, Shared};
 use std::hint::spin_loop;
 use std::snapshot::Snapshot;
 use std::sync::Wait;
+use std::thread::yield_now;
 
 /// The words and the slot of a lock.
 pub type Board<T> = Shared<
@@ -28,10 +29,32 @@ const NEXT_TICKET: usize = 0;
 
 const TURNS_ENDED: usize = 1;
 
+// A pass that sleeps until its ticket is served sleeps on the bell of the ticket. As many passes wait as
+// there are bells at most, and their tickets follow one another, so each has a bell of its own.
+const FIRST_BELL: usize = 2;
+
+const BELLS: u64 = 64;
+
+// Never changes, so a load of it waits for no other processor. A pass that gives the slot back or takes it
+// out does so at a load.
+const STILL: usize = 66;
+
+/// How many words a lock has.
+pub const WORDS: usize = 67;
+
 const VALUE: usize = 0;
 
-// How often the pass that is next looks again before it sleeps.
-const LOOKS: u32 = 100;
+// What a bell says: that a pass sleeps on it, or is about to.
+const ASLEEP: u64 = 1;
+
+// That none does.
+const AWAKE: u64 = 0;
+
+// How often a pass that waits looks again at once.
+const LOOKS: u32 = 20;
+
+// How often it then lets other threads run before it looks again. After that it sleeps.
+const YIELDS: u32 = 200;
 
 // Draws the next ticket.
 fn draw<T: Booked>(board: &Board<T>, stand: &mut Stand<T>) -> u64
@@ -64,25 +87,56 @@ fn take_value<T: Booked>(board: &Board<T>, stand: &mut Stand<T>) -> T
     ensures back { stand.new.me ≡ (slot_back stand.old.me.0, []) }
 {
     let value = board.exchange(stand, VALUE, None).unwrap();
-    board.load::<PutBack>(stand, NEXT_TICKET);
+    board.load::<PutBack>(stand, STILL);
     value
 }
 
-// Lets time pass while another turn is served. The pass that is next looks again for a little; then, and
-// any other at once, it sleeps until a turn ends.
-fn wait_past<T: Booked, R: Wait>(board: &Board<T>, rt: &R, ticket: u64)
+// The bell of a ticket.
+fn bell_of(ticket: u64) -> usize
+    ensures bell { (2 ≤ result) × (result < 66) }
+{
+    FIRST_BELL + (ticket % BELLS) as usize
+}
+
+// Whether the ticket is served within a little while, for which the pass looks again and again: at once at
+// first, and then with other threads let run between two looks.
+fn is_soon<T: Booked>(board: &Board<T>, ticket: u64) -> bool
     requires { IsLock board.now.table_id }
 {
-    let mut ended = board.peek(TURNS_ENDED);
-    for _ in 0..LOOKS {
-        if ticket.wrapping_sub(ended) != 1 {
-            break;
+    for look in 0..LOOKS + YIELDS {
+        if board.peek(TURNS_ENDED) == ticket {
+            return true;
         }
-        spin_loop();
-        ended = board.peek(TURNS_ENDED);
+        if look < LOOKS {
+            spin_loop();
+        } else {
+            yield_now();
+        }
     }
-    if ended != ticket {
-        board.park(rt, TURNS_ENDED, (ended % (1 << 32)) as u32);
+    false
+}
+
+// Sleeps until the bell of the ticket rings, unless it is served already.
+fn sleep<T: Booked, R: Wait>(board: &Board<T>, rt: &R, stand: &mut Stand<T>, ticket: u64)
+    requires own { IsLock board.now.table_id × (stand.old.table_id ≡ board.now.table_id) }
+    ensures same { IsSame stand.old stand.new × (stand.new.me ≡ stand.old.me) }
+{
+    let bell = bell_of(ticket);
+    board.store::<Ring>(stand, bell, ASLEEP);
+    if board.peek(TURNS_ENDED) != ticket {
+        board.park(rt, bell, ASLEEP as u32);
+    }
+}
+
+// Wakes the pass that has the ticket, if it sleeps.
+fn ring<T: Booked>(board: &Board<T>, stand: &mut Stand<T>, ticket: u64)
+    requires own { IsLock board.now.table_id × (stand.old.table_id ≡ board.now.table_id) }
+    ensures same { IsSame stand.old stand.new × (stand.new.me ≡ stand.old.me) }
+{
+    let bell = bell_of(ticket);
+    if board.peek(bell) == ASLEEP {
+        board.store::<Ring>(stand, bell, AWAKE);
+        board.wake_one(bell);
     }
 }
 
@@ -101,7 +155,9 @@ pub fn wait_for_turn<T: Booked, R: Wait>(board: &Board<T>, rt: &R, stand: &mut S
         if is_served(board, stand, ticket) {
             return take_value(board, stand);
         }
-        wait_past(board, rt, ticket);
+        if !is_soon(board, ticket) {
+            sleep(board, rt, stand, ticket);
+        }
     }
     unreachable!()
 }
@@ -115,13 +171,11 @@ pub fn end_turn<T: Booked>(board: &Board<T>, stand: &mut Stand<T>, value: T)
     ensures own { IsSame stand.old stand.new }
     ensures over { stand.new.me ≡ (turn_over (slot_out stand.old.me.0) (T.book value), []) }
 {
-    board.load::<TakeOut>(stand, NEXT_TICKET);
+    board.load::<TakeOut>(stand, STILL);
     match board.exchange(stand, VALUE, Some(value)) {
         None => {}
         Some(_) => unreachable!(),
     }
     let ended = board.fetch_add::<End>(stand, TURNS_ENDED, 1);
-    if board.peek(NEXT_TICKET) != ended.wrapping_add(1) {
-        board.wake_all(TURNS_ENDED);
-    }
+    ring(board, stand, ended.wrapping_add(1));
 }

@@ -73,6 +73,15 @@ impl<T: Booked> Play<Option<T>, Notes<T::Entry, T::Origin>> for TakeOut {
     ghost then = { TakesOut };
 }
 
+/// Rings the bell of a ticket, or makes it ready. It tells nothing.
+pub struct Ring;
+
+impl<T: Booked> Play<Option<T>, Notes<T::Entry, T::Origin>> for Ring {
+    ghost use Rattle.mt_turn.specs.Rule.{Rings};
+
+    ghost then = { Rings };
+}
+
 /// Ends the turn.
 pub struct End;
 

@@ -6,7 +6,7 @@ ghost use Rattle.mt_turn.specs.Counts.{how_often};
 ghost use Rattle.mt_turn.specs.Known.{GrowsByOne, entered, first_pass, joined, left, part_given, part_kept};
 
 use crate::booked::Booked;
-use crate::line::{Stand, end_turn, wait_for_turn};
+use crate::line::{Stand, WORDS, end_turn, wait_for_turn};
 use crate::pass::Pass;
 use crate::rule::{Compare, Law, Notes, Share};
 use atomic_table::{Badge, Refused, Table};
@@ -51,7 +51,7 @@ impl<T: Booked + Send> Turn<T> {
             return Err(value);
         }
         slots.push_reserved(Some(value));
-        match Table::new(alloc, &[0, 0], slots, &about) {
+        match Table::new(alloc, &[0; WORDS], slots, &about) {
             Ok((table, stand)) => Ok((
                 Turn { table },
                 Pass {

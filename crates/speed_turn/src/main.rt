@@ -24,12 +24,18 @@ const TURNS: u32 = 1_000_000;
 /// How many where none are.
 const FEW: u32 = 800;
 
-/// A sum and what it was made of.
+/// A total and what it was made of.
+#[derive(Drop)]
+struct Account {
+    total: u64,
+    amounts: Vec<u64>,
+}
+
+/// What lies under the lock. A turn moves it out and back, so what is large is in a box.
 #[derive(Drop)]
 struct Sum {
     start: u64,
-    total: u64,
-    amounts: Vec<u64>,
+    account: Box<Account>,
 }
 
 impl Booked for Sum {
@@ -37,21 +43,30 @@ impl Booked for Sum {
 
     type Origin = u64;
 
-    ghost book = { λ sum. sum.amounts.items };
+    ghost book = { λ sum. sum.account.value.amounts.items };
 
     ghost origin = { λ sum. sum.start };
 }
 
-impl Sum {
+impl Account {
     // Adds an amount, or nothing where memory is refused.
     fn add(&mut self, amount: u64)
-        ensures book { GrowsByOne self.old.amounts.items self.new.amounts.items }
-        ensures start { self.new.start ≡ self.old.start }
+        ensures { GrowsByOne self.old.amounts.items self.new.amounts.items }
     {
         if self.amounts.reserve(1).is_ok() {
             self.amounts.push_reserved(amount);
             self.total = self.total.wrapping_add(amount);
         }
+    }
+}
+
+impl Sum {
+    // Adds an amount, or nothing where memory is refused.
+    fn add(&mut self, amount: u64)
+        ensures book { GrowsByOne self.old.account.value.amounts.items self.new.account.value.amounts.items }
+        ensures start { self.new.start ≡ self.old.start }
+    {
+        self.account.add(amount);
     }
 }
 
@@ -116,10 +131,13 @@ fn take_all<R: Threads + Wait + Clock + Sync>(
 ) -> io::Result<(Sum, u128)>
     requires { (0 < threads) × (threads < 64) }
 {
-    let sum = Sum {
-        start: 0,
+    let account = Account {
         total: 0,
         amounts: Vec::new(alloc),
+    };
+    let sum = Sum {
+        start: 0,
+        account: Box::new(alloc, account)?,
     };
     let Ok((turn, mut pass)) = Turn::new(alloc, sum) else {
         return Err(AllocError.into());
@@ -154,8 +172,8 @@ fn main(rt: HostRuntime) -> io::Result<()> {
     for threads in THREADS {
         let turns = all / threads.max(1);
         let (sum, micros) = take_all(&rt, rt.alloc(), threads.clamp(1, 63), turns)?;
-        let entries = sum.amounts.len();
-        let total = sum.total;
+        let entries = sum.account.amounts.len();
+        let total = sum.account.total;
         println!(rt;
             "{threads} threads, {turns} turns each: {entries} entries, which sum to {total}"
         )?;

@@ -9,7 +9,7 @@ load-requires g c =
     let v = c.args.stand.now.me.0 in (
       search rules,
       search rules,
-      takes_out _ _ _ _ v c.args.stand.now.me (ap (λ z. (v, z)) c.requires.inside.2) c.requires.inside.0 c.requires.inside.1,
+      takes_out _ _ _ _ _ v c.args.stand.now.me (ap (λ z. (v, z)) c.requires.inside.2) c.requires.inside.0 c.requires.inside.1,
     )
 
 pub fetch_add-ended-requires : goal.fetch_add-ended-requires

@@ -11,5 +11,5 @@ load-requires g c =
     let v = c.args.stand.now.me.0 in (
       search rules,
       search rules,
-      puts_back _ _ _ _ v c.exchange.new.seat.me (c.exchange.ensures.3 ∙ ap (λ z. (v, (0, None) ∷ rest z)) c.requires.out.1) c.requires.inside.0 c.requires.inside.1,
+      puts_back _ _ _ _ _ v c.exchange.new.seat.me (c.exchange.ensures.3 ∙ ap (λ z. (v, (0, None) ∷ rest z)) c.requires.out.1) c.requires.inside.0 c.requires.inside.1,
     )
