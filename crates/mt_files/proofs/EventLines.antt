@@ -82,7 +82,7 @@ output-lines bytes messages p is = ap lines_of is ∙ lines_of-text_of (map sent
 
 -- The fields are those that were written.
 
-fields-some : (e : Event) → 0 < length (event_fields e)
+pub fields-some : (e : Event) → 0 < length (event_fields e)
 fields-some (Ask ms fabric node cats opcode payload) = omega arith
 fields-some (Datagram ms peer bytes) = omega arith
 fields-some (Tick ms) = omega arith

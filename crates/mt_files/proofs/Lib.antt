@@ -10,5 +10,6 @@ pub mod ReadAgain
 pub mod Readings
 pub mod Recordings
 pub mod Shapes
+pub mod Sizes
 pub mod Spellings
 pub mod Written

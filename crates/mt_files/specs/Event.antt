@@ -1,5 +1,5 @@
 -- What a line tells: an event, or what is wrong with the line; and the line of an event.
-use Rattle.std.specs.Prelude.{ℕ, ◌==◌, nat_le, ◌&&◌, Bool, List, [], ◌∷◌, Option, Some, None, Result, Ok, Err, if◌then◌else◌, codes}
+use Rattle.std.specs.Prelude.{ℕ, ◌==◌, nat_le, ◌&&◌, Bool, List, [], ◌∷◌, Option, Some, None, Result, Ok, Err, if◌then◌else◌, codes, length}
 use Rattle.std.specs.Fmt.{decimal}
 use Rattle.std.specs.List.{list_all}
 use Rattle.hex.specs.Hex.{encode_lower}
@@ -12,7 +12,7 @@ use Rattle.mt_model.specs.declared.texts.recording.Event.TheVariants.{Ask, Datag
 use Rattle.mt_model.specs.declared.texts.line_fault.LineKind.{LineKind}
 use Rattle.mt_model.specs.declared.texts.line_fault.LineKind.TheVariants.{Form, Number, Hex}
 use Rattle.mt_files.specs.Field.{fate_in, number_between, opcode_in, payload_in, payload_text, peer_in, peer_text}
-use Rattle.mt_files.specs.Lines.{fields_of, line_of, text_is}
+use Rattle.mt_files.specs.Lines.{ended, fields_of, line_of, text_is}
 use Rattle.mt_files.specs.Subject.{subject_in, subject_text}
 use Rattle.mt_files.specs.declared.subject.Subject.{Subject}
 
@@ -135,3 +135,16 @@ event_fields (Stop calls fate) = codes "X" ∷ decimal calls ∷ fate_text fate 
 -- the line of an event, without its end
 abbrev pub event_line : Event → List ℕ
 event_line event = line_of (event_fields event)
+
+-- how many bytes it has, with its end
+abbrev pub line_size : Event → ℕ
+line_size event = length (ended (event_line event))
+
+-- The same event at another time; a stop has none.
+abbrev pub at_time : ℕ → Event → Event
+at_time ms (Ask before fabric node cats opcode payload) = Ask ms fabric node cats opcode payload
+at_time ms (Datagram before peer bytes) = Datagram ms peer bytes
+at_time ms (Tick before) = Tick ms
+at_time ms (Report before fabric subscription) = Report ms fabric subscription
+at_time ms (Resend before session) = Resend ms session
+at_time ms (Stop calls fate) = Stop calls fate

@@ -9,6 +9,7 @@
 //! - `recording`: a recording read whole, and events as lines;
 //! - `sent`: what a line of an output tells;
 //! - `output`: messages as lines, and such lines read whole;
+//! - `size`: how long a line is;
 //! - `writing`: fields as they are written;
 //! - `laws`: what holds of recordings whatever the bytes.
 #![tactic(auto)]
@@ -21,6 +22,7 @@ mod lines;
 mod output;
 mod recording;
 mod sent;
+mod size;
 mod subject;
 mod writing;
 
@@ -33,4 +35,5 @@ pub use lines::{cut, cut_line, five_fields, three_fields};
 pub use mt_config::{ConfigFault, ConfigField, config};
 pub use output::{read_output, write_sent};
 pub use recording::{events, write_event};
+pub use size::line_size;
 pub use writing::{push_head, push_hex, push_number, push_payload};

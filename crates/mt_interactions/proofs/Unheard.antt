@@ -18,4 +18,4 @@ unheard given s l (Confirm session subscription) ms none = ap (confirmed_for l s
 unheard given s l (Ends session at) ms none = refl
 unheard given s l (Report fabric subscription) ms none = absurd (cc)
 unheard given s l Expire ms none = refl
-unheard given s l Nothing ms none = refl
+unheard given s l (Nothing session) ms none = refl

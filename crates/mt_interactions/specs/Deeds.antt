@@ -30,15 +30,14 @@ IsWithin deed = ⊤
 
 -- Of whom it is.
 
--- The fabric for which its session is live as it begins, None where that is not live; a report names its fabric, and what is of no session is
--- of none.
+-- The fabric for which its session is live as it begins, None where that is not live; a report names its fabric, and an expiry is of none.
 abbrev pub fabric_at : NodeState → Deed → Option ℕ
 fabric_at s (Ask session request timed) = fabric_live s session
 fabric_at s (Confirm session subscription) = fabric_live s session
 fabric_at s (Ends session at) = fabric_live s session
 fabric_at s (Report fabric subscription) = Some fabric
 fabric_at s Expire = None
-fabric_at s Nothing = None
+fabric_at s (Nothing session) = fabric_live s session
 
 -- The session that it names, or over which the subscription stands that it reports to.
 abbrev pub session_at : Ledger → Deed → Option ℕ
@@ -47,7 +46,7 @@ session_at l (Confirm session subscription) = Some session
 session_at l (Ends session at) = Some session
 session_at l (Report fabric subscription) = option_and_then (λ (kept : Kept). kept.sub.actor.session) (kept_at fabric subscription l.subs)
 session_at l Expire = None
-session_at l Nothing = None
+session_at l (Nothing session) = Some session
 
 -- Which subscriptions end by now: those whose time has come.
 
@@ -73,7 +72,7 @@ activity_at s (Confirm session subscription) ms = done_for (fabric_live s sessio
 activity_at s (Ends session at) ms = done_for (fabric_live s session) (λ fabric. ends fabric (ended_at ms at))
 activity_at s (Report fabric subscription) ms = reports fabric subscription
 activity_at s Expire ms = acts actions.Expire
-activity_at s Nothing ms = acts actions.Nothing
+activity_at s (Nothing session) ms = acts actions.Nothing
 
 -- the sessions that end with it
 abbrev pub closed_with : Environment → NodeState → Deed → ℕ → List ℕ
@@ -97,7 +96,7 @@ replied given s l (Confirm session subscription) ms = confirmed_for l subscripti
 replied given s l (Ends session at) ms = replies.Nothing
 replied given s l (Report fabric subscription) ms = reply_due s l.history fabric subscription (due_now s l ms fabric subscription)
 replied given s l Expire ms = replies.Nothing
-replied given s l Nothing ms = replies.Nothing
+replied given s l (Nothing session) ms = replies.Nothing
 
 -- Nothing is replied to what is of no fabric: over a session that is not live, and to what is of no session.
 abbrev pub NobodyIsReplied : Type 0

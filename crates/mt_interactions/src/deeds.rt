@@ -44,8 +44,10 @@ pub enum Deed {
     },
     /// The fail-safe expires, where it is time.
     Expire,
-    /// Time passes.
-    Nothing,
+    /// Something comes over a session that asks nothing of the node. Time passes.
+    Nothing {
+        session: u16,
+    },
 }
 
 /// A planned deed: what is replied, of whom it is, and what comes of it. It sends nothing.
@@ -53,7 +55,7 @@ pub struct PlannedDeed {
     /// What is replied, before it is cut into payloads and these are dated.
     pub reply: Reply,
     /// The fabric for which the deed's session was live as it began, None where it was not: then nothing is sent over it. A
-    /// report has the fabric that it names; an expiry, and time that passes, have none.
+    /// report has the fabric that it names; an expiry has none.
     pub fabric: Option<u8>,
     /// The session that the deed names, or over which the subscription stands that it reports to.
     pub session: Option<u16>,
@@ -127,7 +129,7 @@ impl Interactions {
             Deed::Ends { session, .. } => self.fabric_live(*session),
             Deed::Report { fabric, .. } => Some(*fabric),
             Deed::Expire => None,
-            Deed::Nothing => None,
+            Deed::Nothing { session } => self.fabric_live(*session),
         }
     }
 
@@ -147,7 +149,7 @@ impl Interactions {
                 kept.sub.actor.session
             },
             Deed::Expire => None,
-            Deed::Nothing => None,
+            Deed::Nothing { session } => Some(*session),
         }
     }
 
@@ -191,7 +193,7 @@ impl Interactions {
                 let outcome = planned_tick(self, ms, verdicts)?;
                 Ok((Reply::Nothing, outcome))
             },
-            Deed::Nothing => self.idles(ms, verdicts),
+            Deed::Nothing { .. } => self.idles(ms, verdicts),
         }
     }
 
