@@ -5,10 +5,10 @@ use Rattle.mt_outside.specs.Stream.{one_more}
 use Rattle.mt_machine.specs.State.{State}
 use Rattle.mt_ledger.specs.Ledger.{Ledger}
 use Rattle.mt_interactions.specs.Configured.{ConfiguredInteractions, behind}
-use Rattle.mt_interactions.specs.declared.deeds.Deed.{Deed}
-use Rattle.mt_shared.specs.Book.{done, failed, first_of, is_timed, last_time, stop_in}
+use Rattle.mt_shared.specs.Book.{asked, done, failed, first_of, is_timed, last_time, stop_in}
 use Rattle.mt_shared.specs.Replay.{answer_at, next, replay, told}
 use Rattle.mt_shared.specs.declared.entry.Answer.{Answer}
+use Rattle.mt_shared.specs.declared.entry.Call.{Call}
 use Rattle.mt_shared.specs.declared.entry.Entry.{Entry}
 use Rattle.mt_shared.specs.declared.entry.Stop.{Stop}
 
@@ -24,24 +24,24 @@ pub time_push : (before : ℕ) (book : List Entry) (entry : Entry) → last_time
 time_push before [] entry = refl
 time_push before (e ∷ book) entry = time_push e.ms book entry
 
-pub timed_push : (before : ℕ) (book : List Entry) (entry : Entry) → is_timed before book ≡ true → entry.ms ≡ max entry.asked (last_time before book) → is_timed before (book ++ entry ∷ []) ≡ true
-timed_push before [] entry timed is = ap (λ (b : Bool). cond b true false) (eq-eqb entry.ms (max entry.asked before) is)
+pub timed_push : (before : ℕ) (book : List Entry) (entry : Entry) → is_timed before book ≡ true → entry.ms ≡ max (asked entry.call) (last_time before book) → is_timed before (book ++ entry ∷ []) ≡ true
+timed_push before [] entry timed is = ap (λ (b : Bool). cond b true false) (eq-eqb entry.ms (max (asked entry.call) before) is)
 timed_push before (e ∷ book) entry timed is =
     let Goal : Bool → Type 0 = λ b. cond b (is_timed e.ms book) false ≡ true → cond b (is_timed e.ms (book ++ entry ∷ [])) false ≡ true in
     let both : (b : Bool) → Goal b = elim [ true ↦ λ h. timed_push e.ms book entry h is | false ↦ λ h. h ] in
-    both (e.ms == max e.asked before) timed
+    both (e.ms == max (asked e.call) before) timed
 
 -- A deed that was done makes no stop.
-pub stop_in-done : (book : List Entry) (deed : Deed) (asked ms : ℕ) → stop_in (book ++ done deed asked ms ∷ []) ≡ stop_in book
-stop_in-done [] deed asked ms = refl
-stop_in-done (e ∷ book) deed asked ms = ap (first_of e.stop) (stop_in-done book deed asked ms)
+pub stop_in-done : (book : List Entry) (call : Call) (ms : ℕ) → stop_in (book ++ done call ms ∷ []) ≡ stop_in book
+stop_in-done [] call ms = refl
+stop_in-done (e ∷ book) call ms = ap (first_of e.stop) (stop_in-done book call ms)
 
 -- One whose commit failed makes the first one.
-pub stop_in-failed : (book : List Entry) (deed : Deed) (asked ms : ℕ) (stop : Stop) → stop_in book ≡ None → stop_in (book ++ failed deed asked ms stop ∷ []) ≡ Some stop
-stop_in-failed [] deed asked ms stop none = refl
-stop_in-failed (e ∷ book) deed asked ms stop none =
-    let Goal : Option Stop → Type 0 = λ o. first_of o (stop_in book) ≡ None → first_of o (stop_in (book ++ failed deed asked ms stop ∷ [])) ≡ Some stop in
-    let both : (o : Option Stop) → Goal o = elim [ None ↦ λ h. stop_in-failed book deed asked ms stop h | Some other ↦ λ h. absurd (true≢false (ap is_some h)) ] in
+pub stop_in-failed : (book : List Entry) (call : Call) (ms : ℕ) (stop : Stop) → stop_in book ≡ None → stop_in (book ++ failed call ms stop ∷ []) ≡ Some stop
+stop_in-failed [] call ms stop none = refl
+stop_in-failed (e ∷ book) call ms stop none =
+    let Goal : Option Stop → Type 0 = λ o. first_of o (stop_in book) ≡ None → first_of o (stop_in (book ++ failed call ms stop ∷ [])) ≡ Some stop in
+    let both : (o : Option Stop) → Goal o = elim [ None ↦ λ h. stop_in-failed book call ms stop h | Some other ↦ λ h. absurd (true≢false (ap is_some h)) ] in
     both e.stop none
 
 -- WHAT A HELD NODE KEEPS.
@@ -50,21 +50,21 @@ pub still_replays : (origin node after : ConfiguredInteractions) (book longer : 
 still_replays origin node after book longer entry replays is step =
     ap (replay origin) is ∙ replay_push origin book entry ∙ ap (λ (n : ConfiguredInteractions). next n entry) replays ∙ sym step
 
-pub still_timed : (book longer : List Entry) (entry : Entry) (last : ℕ) → is_timed 0 book ≡ true → last_time 0 book ≡ last → longer ≡ book ++ entry ∷ [] → entry.ms ≡ max entry.asked last → is_timed 0 longer ≡ true
-still_timed book longer entry last timed last_is is time = ap (is_timed 0) is ∙ timed_push 0 book entry timed (time ∙ ap (max entry.asked) (sym last_is))
+pub still_timed : (book longer : List Entry) (entry : Entry) → is_timed 0 book ≡ true → longer ≡ book ++ entry ∷ [] → entry.ms ≡ max (asked entry.call) (last_time 0 book) → is_timed 0 longer ≡ true
+still_timed book longer entry timed is time = ap (is_timed 0) is ∙ timed_push 0 book entry timed time
 
 pub now_last : (book longer : List Entry) (entry : Entry) → longer ≡ book ++ entry ∷ [] → last_time 0 longer ≡ entry.ms
 now_last book longer entry is = ap (last_time 0) is ∙ time_push 0 book entry
 
 -- what is told of the last entry
-pub told_there : (origin node : ConfiguredInteractions) (book longer : List Entry) (deed : Deed) (asked ms place : ℕ) (answer : Answer) → replay origin book ≡ node → longer ≡ book ++ done deed asked ms ∷ [] → place ≡ length book
-    → answer ≡ answer_at node (done deed asked ms) → slice_get (told origin longer) place ≡ Some (done deed asked ms, answer)
-told_there origin node book longer deed asked ms place answer replays is at its =
-    let Told : Answer → Option (Entry × Answer) = λ a. Some (done deed asked ms, a) in
+pub told_there : (origin node : ConfiguredInteractions) (book longer : List Entry) (call : Call) (ms place : ℕ) (answer : Answer) → replay origin book ≡ node → longer ≡ book ++ done call ms ∷ [] → place ≡ length book
+    → answer ≡ answer_at node (done call ms) → slice_get (told origin longer) place ≡ Some (done call ms, answer)
+told_there origin node book longer call ms place answer replays is at its =
+    let Told : Answer → Option (Entry × Answer) = λ a. Some (done call ms, a) in
     ap (λ (b : List Entry). slice_get (told origin b) place) is
-    ∙ ap (slice_get (told origin (book ++ done deed asked ms ∷ []))) at
-    ∙ told_last origin book (done deed asked ms)
-    ∙ ap Told (ap (λ (n : ConfiguredInteractions). answer_at n (done deed asked ms)) replays ∙ sym its)
+    ∙ ap (slice_get (told origin (book ++ done call ms ∷ []))) at
+    ∙ told_last origin book (done call ms)
+    ∙ ap Told (ap (λ (n : ConfiguredInteractions). answer_at n (done call ms)) replays ∙ sym its)
 
 -- a node with the state and the ledger behind a deed is the node behind it
 pub step_is : (node after : ConfiguredInteractions) (state state' : State) (ledger ledger' : Ledger) → after ≡ behind state ledger node → state ≡ state' → ledger ≡ ledger' → after ≡ behind state' ledger' node
@@ -83,3 +83,13 @@ now_stopped book longer entry stop it is at same =
 -- and the count of faults rose in it
 pub now_risen : (stop it : Stop) → stop.after ≡ one_more stop.before → Some stop ≡ Some it → it.after ≡ one_more it.before
 now_risen stop it rose same = subst (λ (s : Stop). s.after ≡ one_more s.before) (some_same stop it same) rose
+
+last_there : (book : List Entry) (entry : Entry) → slice_get (book ++ entry ∷ []) (length book) ≡ Some entry
+last_there [] entry = refl
+last_there (e ∷ book) entry = last_there book entry
+
+-- the entry with the stop stands at its place
+pub stop_there : (book longer : List Entry) (entry : Entry) (stop it : Stop) → longer ≡ book ++ entry ∷ [] → stop.place ≡ length book → Some stop ≡ Some it → slice_get longer it.place ≡ Some entry
+stop_there book longer entry stop it is at same =
+    let placed : it.place ≡ length book = sym (ap (λ (s : Stop). s.place) (some_same stop it same)) ∙ at in
+    ap (λ (b : List Entry). slice_get b it.place) is ∙ ap (slice_get (book ++ entry ∷ [])) placed ∙ last_there book entry

@@ -1,16 +1,25 @@
--- The entries of a book, their times, and the stop that ends it.
-use Rattle.std.specs.Prelude.{ℕ, ◌==◌, Bool, true, false, cond, List, [], ◌∷◌, Option, Some, None, max}
-use Rattle.mt_interactions.specs.declared.deeds.Deed.{Deed}
+-- The entries of a book, their times, the stop that ends it, and the recording of its lines.
+use Rattle.std.specs.Prelude.{ℕ, ◌==◌, ◌||◌, nat_le, nat_lt, Bool, true, false, cond, List, [], ◌∷◌, ◌++◌, Option, Some, None, length, max, unwrap_or}
+use Rattle.mt_files.specs.Event.{at_time}
+use Rattle.mt_files.specs.Recording.{recording_text}
+use Rattle.mt_model.specs.declared.limits.TheConstants.{RECORDING_BYTES, RECORDING_LINES}
+use Rattle.mt_model.specs.declared.texts.recording.Event.{Event}
+use Rattle.mt_model.specs.texts.Events.{event_time}
+use Rattle.mt_shared.specs.declared.entry.Call.{Call}
 use Rattle.mt_shared.specs.declared.entry.Entry.{Entry}
 use Rattle.mt_shared.specs.declared.entry.Stop.{Stop}
 
--- a deed that was done, with the time that was asked and the one that it got
-abbrev pub done : Deed → ℕ → ℕ → Entry
-done deed asked ms = record { deed = deed; asked = asked; ms = ms; stop = None }
+-- the time that a caller told
+abbrev pub asked : Call → ℕ
+asked call = unwrap_or (event_time call.event) 0
+
+-- a call that was done at this time
+abbrev pub done : Call → ℕ → Entry
+done call ms = record { call = call; ms = ms; stop = None }
 
 -- one whose commit failed
-abbrev pub failed : Deed → ℕ → ℕ → Stop → Entry
-failed deed asked ms stop = record { deed = deed; asked = asked; ms = ms; stop = Some stop }
+abbrev pub failed : Call → ℕ → Stop → Entry
+failed call ms stop = record { call = call; ms = ms; stop = Some stop }
 
 -- The stop of a book: the first one that an entry has.
 
@@ -22,12 +31,36 @@ abbrev pub stop_in : List Entry → Option Stop
 stop_in [] = None
 stop_in (entry ∷ entries) = first_of entry.stop (stop_in entries)
 
+-- TIMES.
+
 -- the time of the last entry, this one where there is none
 abbrev pub last_time : ℕ → List Entry → ℕ
 last_time before [] = before
 last_time before (entry ∷ entries) = last_time entry.ms entries
 
--- Each entry has the later of the time that was asked and that of the entry before it.
+-- the time at which a call is done behind a book
+abbrev pub time_for : List Entry → Call → ℕ
+time_for book call = max (asked call) (last_time 0 book)
+
+-- Each entry has the later of the time that was told and that of the entry before it.
 abbrev pub is_timed : ℕ → List Entry → Bool
 is_timed before [] = true
-is_timed before (entry ∷ entries) = cond (entry.ms == max entry.asked before) (is_timed entry.ms entries) false
+is_timed before (entry ∷ entries) = cond (entry.ms == max (asked entry.call) before) (is_timed entry.ms entries) false
+
+-- THE RECORDING. An entry is the line that was asked, at the time at which it was done. A stop is no line.
+
+abbrev pub onto_lines : Option Stop → Event → List Event → List Event
+onto_lines None event events = event ∷ events
+onto_lines (Some stop) event events = events
+
+abbrev pub lines_in : List Entry → List Event
+lines_in [] = []
+lines_in (entry ∷ entries) = onto_lines entry.stop (at_time entry.ms entry.call.event) (lines_in entries)
+
+-- how many bytes it has
+abbrev pub record_size : List Entry → ℕ
+record_size book = length (recording_text (lines_in book))
+
+-- It has as many lines as a recording may have, or would have too many bytes with this call.
+abbrev pub is_full : List Entry → Call → Bool
+is_full book call = nat_le RECORDING_LINES (length (lines_in book)) || nat_lt RECORDING_BYTES (record_size (book ++ done call (time_for book call) ∷ []))

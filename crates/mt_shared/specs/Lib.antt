@@ -1,3 +1,4 @@
 pub mod Acts
 pub mod Book
 pub mod Replay
+pub mod Shared

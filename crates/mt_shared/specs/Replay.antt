@@ -36,7 +36,7 @@ unless_stopped (Some stop) going stopped = stopped
 
 -- A stop changes nothing.
 abbrev pub next : ConfiguredInteractions → Entry → ConfiguredInteractions
-next node entry = unless_stopped entry.stop (behind_deed node entry.deed entry.ms) node
+next node entry = unless_stopped entry.stop (behind_deed node entry.call.deed entry.ms) node
 
 abbrev pub replay : ConfiguredInteractions → List Entry → ConfiguredInteractions
 replay node [] = node
@@ -56,7 +56,7 @@ abbrev pub no_answer : Answer
 no_answer = record { reply = replies.Nothing; fabric = None; closed = [] }
 
 abbrev pub answer_at : ConfiguredInteractions → Entry → Answer
-answer_at node entry = unless_stopped entry.stop (answer_to node entry.deed entry.ms) no_answer
+answer_at node entry = unless_stopped entry.stop (answer_to node entry.call.deed entry.ms) no_answer
 
 -- Each entry of a book, with what the replay answers there.
 abbrev pub told : ConfiguredInteractions → List Entry → List (Entry × Answer)

@@ -1,16 +1,24 @@
-//! One node with the book of all its calls, to lie under a lock. Each call is a deed: it is planned, what of it lasts is committed, it is
-//! put in place, and it is entered in the book. The book replays to the node, and each answer is the one that the replay gives.
+//! One node with the book of all its calls, to lie under a lock. Each call is a line of a recording and what it does: it is planned, what
+//! of it lasts is committed, it is put in place, and it is entered in the book. The book replays to the node, and each answer is the one
+//! that the replay gives.
 //!
-//! - `entry`: the entries of the book, what a call answers, and why one is refused;
+//! - `entry`: what is asked, the entries of the book, what a call answers, and why one is refused;
+//! - `room`: when a call is done;
 //! - `planning`: what a deed is answered and what comes of it;
 //! - `committing`: what of it lasts goes to the keeper;
-//! - `held`: the node beside its keeper and its book, for a lock.
+//! - `held`: the node beside its keeper and its book;
+//! - `crossing`: that it may go to another thread;
+//! - `shared`: the same under a lock.
 #![tactic(auto)]
 
 mod committing;
+mod crossing;
 mod entry;
 mod held;
 mod planning;
+mod room;
+mod shared;
 
-pub use entry::{ActFault, Answer, Entry, MOST_ENTRIES, Stamped, Stop};
+pub use entry::{ActFault, Answer, Call, Entry, Stamped, Stop};
 pub use held::Held;
+pub use shared::{NodePass, SharedNode};

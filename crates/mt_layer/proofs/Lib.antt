@@ -1,0 +1,12 @@
+pub mod Alike
+pub mod Datagrams
+pub mod Deeds
+pub mod Ending
+pub mod Idle
+pub mod Lines
+pub mod Listed
+pub mod Reports
+pub mod Resends
+pub mod Serving
+pub mod Subscribers
+pub mod Ticks

@@ -1,0 +1,25 @@
+use Rattle.std.proofs.Common.{◌≡◌, ◌∙◌, ap, sym, subst, List}
+use Rattle.mt_shared.specs.Acts.{IsHalted}
+use Rattle.mt_shared.specs.Book.{stop_in}
+use Rattle.mt_shared.specs.declared.entry.Entry.{Entry}
+use denote.Exit.{no}
+use denote.Param.{arg, param}
+use denote.Param.Send.{arg_send, param_send}
+use Rattle.mt_shared.specs.contracts.held.Held as held
+use Rattle.mt_shared.proofs.Carrying.{held_send}
+use Rattle.mt_shared.proofs.shared.SharedNode.close.Goals as goal
+
+pub close-requires-send-T : goal.close-requires-send-T
+close-requires-send-T g c κs within = param_send 0 (arg _ no (held.the_row (param 0 g.row.K) g.K.Keeper)) (arg_send _ no _ (held_send c.origins_cross.ensures c.interactions_cross.ensures c.entries_cross.ensures (param 0 g.row.K) g.K.Keeper c.type_bounds.send-K))
+
+pub returns-clause-halted : goal.returns-clause-halted
+returns-clause-halted g c stop is =
+    let closed = c.close.result in
+    let map = g.K.Keeper.map closed.keeper in
+    let book : closed.book.items ≡ c.args.pass.seen = c.close.ensures.book in
+    let here = sym closed.stop_is ∙ ap stop_in book ∙ is in
+    subst (λ (entries : List Entry). IsHalted stop closed.node entries map) book (record {
+      place = closed.stop_is_last stop here;
+      rose = closed.faults_rose stop here;
+      either = closed.halted stop here;
+    })
