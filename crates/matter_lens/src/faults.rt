@@ -1,12 +1,11 @@
 //! Why a run ended before its end, in words, with the statuses that `replay` has for it.
 
 use crate::options::Options;
-use crate::rows::{Row, faulty_row};
+use mt_check::{check, explain};
 use mt_files::ConfigField;
 use mt_lens::{Page, show_faulty_line};
 use mt_model::LineFault;
 use mt_model::limits::{LINE_BYTES, RECORDING_BYTES};
-use serde_json::Value as Json;
 use std::alloc::{AllocError, AllocFailed, Global};
 use std::{io, str};
 
@@ -22,13 +21,11 @@ pub(crate) enum Which {
 #[derive(Drop)]
 pub(crate) enum Fault {
     Unread(Which),
-    /// The first field that is wrong, the line at which it begins, and what is wrong with the text as JSON,
-    /// or the first row that is wrong.
+    /// The first field that is wrong, the line at which it begins, and what a check says.
     Configuration {
         field: ConfigField,
         line: Option<u64>,
-        syntax: Option<String>,
-        row: Option<Row>,
+        explanation: String,
     },
     /// The first line that is wrong, with the line, in words.
     Line(Page),
@@ -85,11 +82,10 @@ impl Fault {
             Fault::Configuration {
                 field,
                 line,
-                syntax,
-                row,
+                explanation,
             } => {
                 tell_configuration(rt, *field, *line)?;
-                tell_cause(rt, syntax, row)
+                eprint!(rt; "{explanation}")
             }
             Fault::Line(words) => tell_line(rt, words),
             Fault::TooLong(Some(line)) => {
@@ -133,19 +129,6 @@ fn tell_configuration(rt: &HostRuntime, field: ConfigField, line: Option<u64>) -
     }
 }
 
-// What of a configuration is wrong: its text as JSON, or a row.
-fn tell_cause(rt: &HostRuntime, syntax: &Option<String>, row: &Option<Row>) -> io::Result<()> {
-    if let Some(syntax) = syntax {
-        eprintln!(rt; "  {syntax}")?;
-    }
-    if let Some(row) = row {
-        let number = row.number;
-        let text = &row.text;
-        eprintln!(rt; "  The first row that does not fit is row {number}: {text}")?;
-    }
-    Ok(())
-}
-
 // What is wrong with a line of a recording, and the line.
 fn tell_line(rt: &HostRuntime, words: &Page) -> io::Result<()> {
     let text = String::from_utf8_lossy(rt.alloc(), words.whole()?)?;
@@ -154,41 +137,19 @@ fn tell_line(rt: &HostRuntime, words: &Page) -> io::Result<()> {
 
 /// What a text comes to that is no configuration.
 pub(crate) fn of_configuration(alloc: Global, field: ConfigField, bytes: &[u8]) -> Fault {
-    match (syntax_of(alloc, field, bytes), row_of(alloc, field, bytes)) {
-        (Ok(syntax), Ok(row)) => Fault::Configuration {
+    match explained(alloc, bytes) {
+        Ok(explanation) => Fault::Configuration {
             field,
             line: line_of(field, bytes),
-            syntax,
-            row,
+            explanation,
         },
-        _ => Fault::Memory,
+        Err(_) => Fault::Memory,
     }
 }
 
-// The first row of a faulty list that is wrong.
-fn row_of(alloc: Global, field: ConfigField, bytes: &[u8]) -> Result<Option<Row>, AllocError> {
-    match field {
-        ConfigField::Size | ConfigField::Json => Ok(None),
-        _ => faulty_row(alloc, field, bytes),
-    }
-}
-
-// What is wrong with a text that is no JSON, with its place.
-fn syntax_of(
-    alloc: Global,
-    field: ConfigField,
-    bytes: &[u8],
-) -> Result<Option<String>, AllocError> {
-    if field != ConfigField::Json {
-        return Ok(None);
-    }
-    match Json::from_slice(alloc, bytes) {
-        Ok(_) => Ok(None),
-        Err(error) => {
-            let text = error.to_string(alloc)?;
-            Ok(Some(text))
-        }
-    }
+fn explained(alloc: Global, bytes: &[u8]) -> Result<String, AllocError> {
+    let checked = check(alloc, bytes)?;
+    explain(alloc, &checked)
 }
 
 // The line at which the list of a field begins; None where it is of the text as a whole.

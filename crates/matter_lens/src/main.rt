@@ -4,15 +4,15 @@
 //!
 //! - `options`: the words of the command line;
 //! - `faults`: why a run ended before its end, in words;
-//! - `rows`: which row of a faulty configuration is the first that is wrong;
+//! - `checking`: whether a configuration is one, and why not;
 //! - `story`: the recording, line by line, with what came of each;
 //! - `journal`: what a journal keeps.
 #![tactic(auto)]
 
+mod checking;
 mod faults;
 mod journal;
 mod options;
-mod rows;
 mod story;
 
 use faults::{Fault, Which};
@@ -39,8 +39,8 @@ fn run(rt: &HostRuntime, words: &[String]) -> u8 {
         Ok(options) => options,
         Err(error) => return unasked(rt, &error),
     };
-    match shown(rt, &options) {
-        Ok(()) => 0,
+    match asked(rt, &options) {
+        Ok(status) => status,
         Err(fault) => {
             // Where even this can't be written, the status alone tells.
             let _ = fault.tell(rt, &options);
@@ -65,6 +65,15 @@ fn command_line(rt: &HostRuntime) -> io::Result<Vec<String>> {
         words.push(word)?;
     }
     Ok(words)
+}
+
+// Checks the configuration, or shows the run or the journal, and answers the exit status.
+fn asked(rt: &HostRuntime, options: &Options<'_>) -> Result<u8, Fault> {
+    if options.check {
+        return checking::tell(rt, options.config);
+    }
+    shown(rt, options)?;
+    Ok(0)
 }
 
 // Reads the files, and shows the run, or the journal.

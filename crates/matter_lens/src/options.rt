@@ -10,6 +10,8 @@ pub(crate) struct Options<'a> {
     pub config: &'a str,
     pub recording: &'a str,
     pub journal: Option<&'a str>,
+    /// Whether the configuration is checked alone.
+    pub check: bool,
     /// Whether it is shown in words, and as objects of JSON.
     pub words: bool,
     pub json: bool,
@@ -26,6 +28,7 @@ pub(crate) fn options_of<'a>(alloc: Global, words: &'a [String]) -> Result<Optio
         config: matches.get_str("CONFIG").unwrap_or(""),
         recording: matches.get_str("RECORDING").unwrap_or(""),
         journal: matches.get_str("journal"),
+        check: matches.get_flag("check"),
         words: matches.get_flag("words") || !json,
         json,
         fabric: matches.get_one::<u8>("fabric"),
@@ -38,8 +41,20 @@ fn command<'a>(alloc: Global) -> Result<Command<'a>, Error> {
         .help("The configuration of the node, as replay takes it");
     let recording = Arg::new(alloc, "RECORDING")
         .required_unless_present("journal")?
+        .required_unless_present("check")?
         .conflicts_with("journal")?
         .help("The recording");
+    let check = Arg::new(alloc, "check")
+        .long("check")
+        .action(ArgAction::SetTrue)
+        .conflicts_with("RECORDING")?
+        .conflicts_with("journal")?
+        .conflicts_with("json")?
+        .conflicts_with("words")?
+        .conflicts_with("fabric")?
+        .help(
+            "Say whether the configuration is one, which row, field and rule is wrong, and what the node then is",
+        );
     let journal = Arg::new(alloc, "journal")
         .long("journal")
         .value_name("FILE")
@@ -65,10 +80,11 @@ fn command<'a>(alloc: Global) -> Result<Command<'a>, Error> {
     let command = Command::new(alloc, "matter_lens")
         .version("1")
         .about(
-            "Plays a recording as replay does, and shows it as a conversation; or shows what a journal keeps",
+            "Plays a recording as replay does, and shows it as a conversation; or shows what a journal keeps, or what is wrong with a configuration",
         )
         .arg(config)?
         .arg(recording)?
+        .arg(check)?
         .arg(journal)?
         .arg(json)?
         .arg(words)?

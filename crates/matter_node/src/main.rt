@@ -1,6 +1,12 @@
-//! The program: opens the files that the words name, and hands them to the top call.
+//! The program: opens the files that the words name, and hands them to the top call. What the last line on standard output
+//! leaves unsaid for a person is told on standard error.
+//!
+//! - `hints`: what is told there.
 #![tactic(auto)]
 
+mod hints;
+
+use hints::{tell_hint, text_of};
 use mt_os::{FileDisk, ReaderSource, TerminalProgress, WriterSink};
 use mt_top::{files_of, run_watched};
 use std::fs::File;
@@ -24,13 +30,24 @@ fn main(rt: HostRuntime) -> ExitCode {
         Ok(files) => (Some(files.config), files.first, files.second, files.journal),
         Err(_) => (None, None, None, None),
     };
-    let mut config = ReaderSource::new(named(&rt, &words, config));
-    let mut first = ReaderSource::new(named(&rt, &words, first));
-    let mut second = ReaderSource::new(named(&rt, &words, second));
+    let files = [
+        named(&rt, &words, config),
+        named(&rt, &words, first),
+        named(&rt, &words, second),
+    ];
+    let texts = [
+        text_of(config, &files[0]),
+        text_of(first, &files[1]),
+        text_of(second, &files[2]),
+    ];
+    let [config, first, second] = files;
+    let mut config = ReaderSource::new(config);
+    let mut first = ReaderSource::new(first);
+    let mut second = ReaderSource::new(second);
     let mut disk = disk_named(&rt, &words, journal);
     let mut out = WriterSink::new(io::writer(&rt));
     let mut terminal = TerminalProgress::new(&rt);
-    ExitCode::from(run_watched(
+    let status = run_watched(
         rt.alloc(),
         &words,
         &mut config,
@@ -39,7 +56,10 @@ fn main(rt: HostRuntime) -> ExitCode {
         &mut disk,
         &mut out,
         &mut terminal,
-    ))
+    );
+    // Where even this can't be written, the status alone tells.
+    let _ = tell_hint(&rt, status, &words, &texts);
+    ExitCode::from(status)
 }
 
 // The file that the word at this place names; None where there is none, or it can't be opened.

@@ -1,0 +1,4 @@
+pub mod Checked
+pub mod Forms
+pub mod Passing
+pub mod Tables
