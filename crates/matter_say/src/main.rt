@@ -1,0 +1,112 @@
+//! Recordings from words, the other way of matter_lens: it reads lines of words, and writes the recording, or the script of a
+//! session, that they come to. The words are those of mt_say.
+//!
+//! - `options`: the words of the command line;
+//! - `sessions`: who speaks on a session;
+//! - `each`: lines told by themselves;
+//! - `faults`: why nothing was written, in words.
+#![tactic(auto)]
+
+mod each;
+mod faults;
+mod options;
+mod sessions;
+
+use faults::Fault;
+use mt_model::limits::RECORDING_BYTES;
+use mt_say::{say, say_on};
+use options::{Options, options_of};
+use std::io::{Read, Write};
+use std::process::ExitCode;
+use std::{env, fs, io};
+
+// The status where the command line could not be taken for want of memory.
+const NO_MEMORY: u8 = 7;
+
+fn main(rt: HostRuntime) -> ExitCode {
+    match command_line(&rt) {
+        Ok(words) => ExitCode::from(run(&rt, words.as_slice())),
+        Err(_) => ExitCode::from(NO_MEMORY),
+    }
+}
+
+// Does what the words of the command line say, and answers the exit status.
+fn run(rt: &HostRuntime, words: &[String]) -> u8 {
+    let options = match options_of(rt.alloc(), words) {
+        Ok(options) => options,
+        Err(error) => return unasked(rt, &error),
+    };
+    match written(rt, &options) {
+        Ok(status) => status,
+        Err(fault) => {
+            // Where even this can't be written, the status alone tells.
+            let _ = fault.tell(rt);
+            fault.status()
+        }
+    }
+}
+
+// Where nothing is to be written: the words have no form, or ask for help or the version.
+fn unasked(rt: &HostRuntime, error: &clap::Error) -> u8 {
+    match (error.print(rt), error.use_stderr()) {
+        (Err(_), _) => 6,
+        (Ok(()), true) => 2,
+        (Ok(()), false) => 0,
+    }
+}
+
+// The words of the command line, the program's name among them.
+fn command_line(rt: &HostRuntime) -> io::Result<Vec<String>> {
+    let mut words = Vec::new(rt.alloc());
+    for word in env::args(rt)? {
+        words.push(word)?;
+    }
+    Ok(words)
+}
+
+// Reads the words, and writes what they say. Nothing is written of words with a fault.
+fn written(rt: &HostRuntime, options: &Options<'_>) -> Result<u8, Fault> {
+    let words = read_words(rt, options.file)?;
+    if options.lines {
+        let (text, status) = each::told(rt.alloc(), words.as_slice())?;
+        write(rt, text.as_slice())?;
+        return Ok(status);
+    }
+    let text = match (options.session, options.config) {
+        (Some(session), Some(config)) => {
+            let speaker = sessions::speaker(rt, session, config)?;
+            say_on(rt.alloc(), speaker, words.as_slice())?
+        }
+        _ => say(rt.alloc(), words.as_slice())?,
+    };
+    write(rt, text.as_slice())?;
+    Ok(0)
+}
+
+fn read_words(rt: &HostRuntime, file: Option<&str>) -> Result<Vec<u8>, Fault> {
+    let read = match file {
+        Some(name) => fs::read(rt, name),
+        None => read_input(rt),
+    };
+    match read {
+        Ok(words) => Ok(words),
+        Err(error) if error.kind() == io::ErrorKind::OutOfMemory => Err(Fault::Memory),
+        Err(_) => Err(Fault::Unread),
+    }
+}
+
+// Standard input, as far as words may be long.
+fn read_input(rt: &HostRuntime) -> io::Result<Vec<u8>> {
+    let mut words = Vec::new(rt.alloc());
+    rt.stdin()
+        .take(RECORDING_BYTES as u64 + 1)
+        .read_to_end(&mut words)?;
+    Ok(words)
+}
+
+fn write(rt: &HostRuntime, text: &[u8]) -> Result<(), Fault> {
+    match io::writer(rt).write_all(text) {
+        Ok(()) => Ok(()),
+        Err(_) => Err(Fault::Unwritten),
+    }
+}
