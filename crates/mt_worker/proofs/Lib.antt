@@ -1,0 +1,4 @@
+mod Giving
+mod Passes
+mod Sessions
+mod Works
