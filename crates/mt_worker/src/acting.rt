@@ -1,4 +1,4 @@
-//! One call of the shared node.
+//! What the threads of a served node act with, and one call of the node.
 
 ghost use Rattle.std.specs.Prelude.{IfErr, IfOk};
 ghost use mathlib.Core.List.{IsPrefix};
@@ -15,25 +15,29 @@ use mt_outside::{Gate, Point};
 use mt_shared::{Call, NodePass, SharedNode, Stamped};
 use std::sync::Wait;
 
-/// Acts on the node, where whoever has this number may be held just before and just behind that.
-pub(crate) fn acted<R: Wait, K: Keeper + Drop + Send, V: Verdicts + Drop, G: Gate>(
-    rt: &R,
-    node: &SharedNode<K, V>,
-    gate: &G,
-    number: u32,
-    pass: &mut NodePass,
-    call: Call,
-) -> Result<Stamped, WorkFault>
-    requires own { IsPassOf node.now pass.old }
-    requires within { IsWithin call.deed }
-    requires form { HasForm call.event }
-    ensures outside { IsOutsideAgain pass.old pass.new }
-    ensures seen { IsPrefix pass.old.seen pass.new.seen }
-    ensures answered { IfOk result (IsAnswered node.now.origin pass.old pass.new call) }
-    ensures refused { IfErr result (IsDenied pass.old pass.new call) }
-{
-    gate.pass(number, Point::BeforeAct);
-    let answered = node.act(rt, pass, call);
-    gate.pass(number, Point::AfterAct);
-    Ok(answered?)
+/// What a thread of a served node acts with: what it waits by, the node, the gate, and the number that the gate is told.
+#[derive(Drop)]
+pub(crate) struct Desk<'a, R, K: Keeper, V: Verdicts, G> {
+    pub(crate) rt: &'a R,
+    pub(crate) node: &'a SharedNode<K, V>,
+    pub(crate) gate: &'a G,
+    pub(crate) number: u32,
+}
+
+impl<'a, R: Wait, K: Keeper + Drop + Send, V: Verdicts + Drop, G: Gate> Desk<'a, R, K, V, G> {
+    /// Acts on the node, where whoever has this number may be held just before and just behind that.
+    pub(crate) fn act(&self, pass: &mut NodePass, call: Call) -> Result<Stamped, WorkFault>
+        requires own { IsPassOf self.now.node.now pass.old }
+        requires within { IsWithin call.deed }
+        requires form { HasForm call.event }
+        ensures outside { IsOutsideAgain pass.old pass.new }
+        ensures seen { IsPrefix pass.old.seen pass.new.seen }
+        ensures answered { IfOk result (IsAnswered self.now.node.now.origin pass.old pass.new call) }
+        ensures refused { IfErr result (IsDenied pass.old pass.new call) }
+    {
+        self.gate.pass(self.number, Point::BeforeAct);
+        let answered = self.node.act(self.rt, pass, call);
+        self.gate.pass(self.number, Point::AfterAct);
+        Ok(answered?)
+    }
 }

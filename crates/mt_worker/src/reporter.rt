@@ -6,7 +6,7 @@ ghost use Rattle.mt_queue.specs.Jobs.{IsEnded, IsWithinLimits, is_end};
 ghost use Rattle.mt_shared.specs.Shared.{IsPassOf};
 ghost use Rattle.mt_worker.specs.Works.{Reported, Ticked, TickedThrough};
 
-use crate::acting::acted;
+use crate::acting::Desk;
 use crate::fault::WorkFault;
 use crate::worker::{Done, status_of, take_to_end};
 use mt_durable::Keeper;
@@ -34,7 +34,13 @@ pub fn reporter<R: Wait, K: Keeper + Drop + Send, V: Verdicts + Drop, G: Gate>(
     ensures ended { IsEnded result.queue.taken }
     ensures reported { Reported pass result }
 {
-    let ended = report(rt, node, gate, number, &mut pass, &mut jobs);
+    let desk = Desk {
+        rt,
+        node,
+        gate,
+        number,
+    };
+    let ended = report(&desk, &mut pass, &mut jobs);
     if ended.is_err() {
         take_to_end(rt, &mut jobs);
     }
@@ -48,23 +54,20 @@ pub fn reporter<R: Wait, K: Keeper + Drop + Send, V: Verdicts + Drop, G: Gate>(
 
 // The jobs up to the end message.
 fn report<R: Wait, K: Keeper + Drop + Send, V: Verdicts + Drop, G: Gate>(
-    rt: &R,
-    node: &SharedNode<K, V>,
-    gate: &G,
-    number: u32,
+    desk: &Desk<'_, R, K, V, G>,
     pass: &mut NodePass,
     jobs: &mut Jobs,
 ) -> Result<(), WorkFault>
-    requires own { IsPassOf node.now pass.old }
+    requires own { IsPassOf desk.now.node.now pass.old }
     requires fresh { jobs.old.taken ≡ [] }
-    ensures own { IsPassOf node.now pass.new }
+    ensures own { IsPassOf desk.now.node.now pass.new }
     ensures queue { jobs.new.queue ≡ jobs.old.queue }
     ensures ended { OnOk result (IsEnded jobs.new.taken) }
     ensures ticked { TickedThrough jobs.new.taken pass.old pass.new result }
 {
-    for _ in rt.forever() {
-        let job = jobs.take(rt);
-        if is_end_after(rt, node, gate, number, pass, &job)? {
+    for _ in desk.rt.forever() {
+        let job = jobs.take(desk.rt);
+        if is_end_after(desk, pass, &job)? {
             return Ok(());
         }
     }
@@ -73,23 +76,20 @@ fn report<R: Wait, K: Keeper + Drop + Send, V: Verdicts + Drop, G: Gate>(
 
 // A job. True at the end message.
 fn is_end_after<R: Wait, K: Keeper + Drop + Send, V: Verdicts + Drop, G: Gate>(
-    rt: &R,
-    node: &SharedNode<K, V>,
-    gate: &G,
-    number: u32,
+    desk: &Desk<'_, R, K, V, G>,
     pass: &mut NodePass,
     job: &Job,
 ) -> Result<bool, WorkFault>
-    requires own { IsPassOf node.now pass.old }
+    requires own { IsPassOf desk.now.node.now pass.old }
     requires limits { IsWithinLimits job.now }
-    ensures own { IsPassOf node.now pass.new }
+    ensures own { IsPassOf desk.now.node.now pass.new }
     ensures ticked { Ticked job.now pass.old pass.new result }
     ensures end { IfOk result (λ is. is ≡ is_end job.now) }
 {
     match job {
         Job::Take { .. } => Ok(false),
         Job::Wake { now } => {
-            tick(rt, node, gate, number, pass, *now)?;
+            tick(desk, pass, *now)?;
             Ok(false)
         },
         Job::End => Ok(true),
@@ -98,22 +98,19 @@ fn is_end_after<R: Wait, K: Keeper + Drop + Send, V: Verdicts + Drop, G: Gate>(
 
 // A time step.
 fn tick<R: Wait, K: Keeper + Drop + Send, V: Verdicts + Drop, G: Gate>(
-    rt: &R,
-    node: &SharedNode<K, V>,
-    gate: &G,
-    number: u32,
+    desk: &Desk<'_, R, K, V, G>,
     pass: &mut NodePass,
     now: u64,
 ) -> Result<(), WorkFault>
-    requires own { IsPassOf node.now pass.old }
+    requires own { IsPassOf desk.now.node.now pass.old }
     requires time { now ≤ LAST_TIME }
-    ensures own { IsPassOf node.now pass.new }
+    ensures own { IsPassOf desk.now.node.now pass.new }
     ensures ticked { Ticked (Job.Wake now) pass.old pass.new result }
 {
     let call = Call {
         event: Event::Tick { ms: now },
         deed: Deed::Expire,
     };
-    acted(rt, node, gate, number, pass, call)?;
+    desk.act(pass, call)?;
     Ok(())
 }

@@ -9,6 +9,7 @@ ghost use Rattle.mt_worker.specs.Faults.{status_of};
 ghost use Rattle.mt_worker.specs.Seats.{AreSeats};
 ghost use Rattle.mt_worker.specs.Works.{WentThrough, Worked};
 
+use crate::acting::Desk;
 use crate::fault::WorkFault;
 use crate::hand::Hand;
 use crate::seat::Seat;
@@ -66,12 +67,14 @@ pub fn worker<R: Wait, K: Keeper + Drop + Send, V: Verdicts + Drop, O: Outlet + 
     ensures ended { IsEnded result.queue.taken }
     ensures worked { (accounts : Accounts) → HaveBegun rows.now accounts → Worked O.given O.faults rows.now accounts pass outlet result }
 {
-    let mut hand = Hand {
+    let desk = Desk {
+        rt,
+        node,
+        gate,
         number,
-        pass,
-        outlet,
     };
-    let ended = hand.work(rt, alloc, node, gate, rows.as_slice(), &mut jobs);
+    let mut hand = Hand { pass, outlet };
+    let ended = hand.work(&desk, alloc, rows.as_slice(), &mut jobs);
     if ended.is_err() {
         take_to_end(rt, &mut jobs);
     }
@@ -88,47 +91,43 @@ impl<O: Outlet> Hand<O> {
     // The jobs of a queue up to the end message, with no memory yet for what is kept of the sessions.
     fn work<R: Wait, K: Keeper + Drop + Send, V: Verdicts + Drop, G: Gate>(
         &mut self,
-        rt: &R,
+        desk: &Desk<'_, R, K, V, G>,
         alloc: Global,
-        node: &SharedNode<K, V>,
-        gate: &G,
         rows: &[SessionRow],
         jobs: &mut Jobs,
     ) -> Result<(), WorkFault>
-        requires own { IsPassOf node.now self.old.pass }
+        requires own { IsPassOf desk.now.node.now self.old.pass }
         requires rows { All IsServed rows.now }
         requires rising { AreRising (map id_of rows.now) }
         requires fresh { jobs.old.taken ≡ [] }
-        ensures own { IsPassOf node.now self.new.pass }
+        ensures own { IsPassOf desk.now.node.now self.new.pass }
         ensures queue { jobs.new.queue ≡ jobs.old.queue }
         ensures ended { OnOk result (IsEnded jobs.new.taken) }
         ensures worked { (accounts : Accounts) → HaveBegun rows.now accounts
             → WentThrough O.given O.faults (map id_of rows.now) jobs.new.taken self.old self.new result accounts }
     {
         let mut seats = seats_of(alloc, rows)?;
-        self.run(rt, node, gate, &mut seats, jobs)
+        self.run(desk, &mut seats, jobs)
     }
 
     // The same with that.
     fn run<R: Wait, K: Keeper + Drop + Send, V: Verdicts + Drop, G: Gate>(
         &mut self,
-        rt: &R,
-        node: &SharedNode<K, V>,
-        gate: &G,
+        desk: &Desk<'_, R, K, V, G>,
         seats: &mut [Seat],
         jobs: &mut Jobs,
     ) -> Result<(), WorkFault>
-        requires own { IsPassOf node.now self.old.pass }
+        requires own { IsPassOf desk.now.node.now self.old.pass }
         requires fresh { jobs.old.taken ≡ [] }
-        ensures own { IsPassOf node.now self.new.pass }
+        ensures own { IsPassOf desk.now.node.now self.new.pass }
         ensures queue { jobs.new.queue ≡ jobs.old.queue }
         ensures ended { OnOk result (IsEnded jobs.new.taken) }
         ensures worked { (ids : List ℕ) (accounts : Accounts) → AreSeats seats.old ids accounts → AreRising ids
             → WentThrough O.given O.faults ids jobs.new.taken self.old self.new result accounts }
     {
-        for _ in rt.forever() {
-            let job = jobs.take(rt);
-            if self.is_end_after(rt, node, gate, seats, job)? {
+        for _ in desk.rt.forever() {
+            let job = jobs.take(desk.rt);
+            if self.is_end_after(desk, seats, job)? {
                 return Ok(());
             }
         }
