@@ -84,11 +84,11 @@ module _ {O : Type 0} (given : O → Option (List Parcel)) (faults : O → ℕ) 
   cause_sent (Ok x) y link = tt
   cause_sent (Err fault) y link = subst (IsCause y.seen) (sym link) tt
 
-  on_ok : {T : Type 0} (result : Result T WorkFault) (P : Type 0) → P → OnOk result P
+  pub on_ok : {T : Type 0} (result : Result T WorkFault) (P : Type 0) → P → OnOk result P
   on_ok (Ok x) P p = p
   on_ok (Err e) P p = tt
 
-  ok_as : {T : Type 0} (result : Result T WorkFault) (P Q : Type 0) → (P → Q) → OnOk result P → OnOk result Q
+  pub ok_as : {T : Type 0} (result : Result T WorkFault) (P Q : Type 0) → (P → Q) → OnOk result P → OnOk result Q
   ok_as (Ok x) P Q follows p = follows p
   ok_as (Err e) P Q follows p = tt
 
@@ -120,7 +120,7 @@ module _ {O : Type 0} (given : O → Option (List Parcel)) (faults : O → ℕ) 
     stands = stands;
   }
 
-  counts_on : {T U : Type 0} (t : T) (result : Result U WorkFault) (a b c : ℕ) → Counts (Ok {T = T} {E = WorkFault} t) a b → Counts result b c → Counts result a c
+  pub counts_on : {T U : Type 0} (t : T) (result : Result U WorkFault) (a b c : ℕ) → Counts (Ok {T = T} {E = WorkFault} t) a b → Counts result b c → Counts result a c
   counts_on t result a b c first then = subst (λ (n : ℕ). Counts result n c) first then
 
   -- ONE PART AFTER ANOTHER.
@@ -144,6 +144,15 @@ module _ {O : Type 0} (given : O → Option (List Parcel)) (faults : O → ℕ) 
     stands = subst (λ (b : Account). OnOk result (IsSeatOf seat b)) (sym (account_both a first.gots then.gots)) then.stands;
   }
 
+  counts_as : {T U : Type 0} (fault : WorkFault) (before now : ℕ) → Counts (Err {T} fault) before now → Counts (Err {U} fault) before now
+  counts_as Memory before now c = c
+  counts_as Stopped before now c = c
+  counts_as Link before now c = c
+  counts_as Full before now c = c
+
+  pub failed_as : {T U : Type 0} (x y : Hand O) (fault : WorkFault) (gots : List Got) (sent : List Sent) → Went given faults x y (Err {T} fault) gots sent → Went given faults x y (Err {U} fault) gots sent
+  failed_as x y fault gots sent went = record { goes = went.goes; all = tt; part = went.part; counts = counts_as fault (faults x.outlet) (faults y.outlet) went.counts; cause = went.cause }
+
   -- a fault stays one, whatever else was due
   pub over_failed : {T U : Type 0} (One Both : Account → List Got → Type 0) (x y : Hand O) (mid seat : Seat) (fault : WorkFault) (a : Account) → WentOver given faults One x y mid (Err {T} fault) a → WentOver given faults Both x y seat (Err {U} fault) a
   over_failed One Both x y mid seat fault a first = record {
@@ -153,12 +162,3 @@ module _ {O : Type 0} (given : O → Option (List Parcel)) (faults : O → ℕ) 
     did = tt;
     stands = tt;
   }
-    where
-      counts_as : {T U : Type 0} (fault : WorkFault) (before now : ℕ) → Counts (Err {T} fault) before now → Counts (Err {U} fault) before now
-      counts_as Memory before now c = c
-      counts_as Stopped before now c = c
-      counts_as Link before now c = c
-      counts_as Full before now c = c
-
-      failed_as : {T U : Type 0} (x y : Hand O) (fault : WorkFault) (gots : List Got) (sent : List Sent) → Went given faults x y (Err {T} fault) gots sent → Went given faults x y (Err {U} fault) gots sent
-      failed_as x y fault gots sent went = record { goes = went.goes; all = tt; part = went.part; counts = counts_as fault (faults x.outlet) (faults y.outlet) went.counts; cause = went.cause }
