@@ -112,7 +112,8 @@ impl SessionTalk {
 
     /// The deed of a resend step: the subscriptions end whose reports were sent in vain by the time at which it is done.
     pub fn ends(&self) -> Result<Deed, AllocError>
-        ensures { (row : Row) (t : Told) → IsKeptOf self.now row t → IfOk result (λ deed. deed ≡ deed_again row t) }
+        ensures within { IfOk result IsWithin }
+        ensures deed { (row : Row) (t : Told) → IsKeptOf self.now row t → IfOk result (λ deed. deed ≡ deed_again row t) }
     {
         Ok(Deed::Ends {
             session: self.session,

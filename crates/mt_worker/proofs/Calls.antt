@@ -1,32 +1,37 @@
 -- What one call over a session sends, and the account behind it: a datagram, a resend step and a report step.
-use Rattle.std.proofs.Common.{◌≡◌, ◌∙◌, refl, sym, ap, subst, ℕ, List, [], ◌∷◌, ◌++◌, Option, append-nil}
+use Rattle.std.proofs.Common.{◌≡◌, ◌∙◌, refl, sym, ap, subst, ℕ, ◌+◌, ◌-◌, List, [], ◌∷◌, ◌++◌, Option, Some, None, drop, length, append-nil}
 use Rattle.mt_exchange.specs.declared.lists.EndTime.{EndTime}
 use Rattle.mt_layer.specs.Answering.{answered_with}
 use Rattle.mt_layer.specs.Deeds.{said_as_live}
 use Rattle.mt_layer.specs.Saying.{heard_as_live, sent_again, sent_answering, sent_report, talk_again, talk_answering, talk_report}
+use Rattle.mt_model.specs.declared.texts.config.SessionRow.{SessionRow}
 use Rattle.mt_model.specs.declared.texts.recording.Sent.{Sent}
 use Rattle.mt_outside.specs.declared.network.Peer.{Peer}
 use Rattle.mt_runs.specs.Datagrams.{Answer}
+use Rattle.mt_shared.specs.Replay.{unless_stopped}
+use Rattle.mt_shared.specs.declared.entry.Call.{Call}
 use Rattle.mt_shared.specs.declared.entry.Stamped.{Stamped}
+use Rattle.mt_shared.specs.declared.entry.Stop.{Stop}
 use Rattle.mt_talk.specs.Talks.{Talk}
-use Rattle.mt_worker.specs.Accounts.{Account, account_over, ends_of, gained, sent_over, still_standing}
-use Rattle.mt_worker.specs.Due.{Hears, Reports, Resends, call_again, call_heard, call_report}
-use Rattle.mt_worker.specs.Gots.{Got}
+use Rattle.mt_worker.specs.Accounts.{Account, account_behind, account_over, ends_of, gained, sent_over, standing_behind, still_standing, talk_in}
+use Rattle.mt_worker.specs.Due.{Hears, Reports, Resends, Wakes, call_again, call_heard, call_report, last_three}
+use Rattle.mt_worker.specs.Gots.{Got, Told}
 use Rattle.mt_worker.specs.Seats.{IsSeatOf}
 use Rattle.mt_worker.specs.Works.{got_by}
 use Rattle.mt_worker.specs.declared.seat.Seat.{Seat}
 use Rattle.mt_worker.specs.declared.seat.Subscription.{Subscription}
+use Rattle.mt_worker.proofs.Sessions.{rows_stay}
 
 module _ (a : Account) (now : ℕ) (stamped : Stamped) where
   -- A DATAGRAM.
   module _ (from : Peer) (bytes : List ℕ) where
-    pub heard_got : Got
+    abbrev pub heard_got : Got
     heard_got = got_by a.row.session (call_heard a now from bytes) stamped
 
-    heard : Talk
+    abbrev pub heard : Talk
     heard = heard_as_live a.row from bytes a.talk
 
-    its : Option Answer
+    abbrev pub its : Option Answer
     its = answered_with stamped.ms stamped.answer.reply (said_as_live a.row bytes a.talk)
 
     pub hears : Hears a now from bytes (heard_got ∷ [])
@@ -53,7 +58,7 @@ module _ (a : Account) (now : ℕ) (stamped : Stamped) where
         })) is stands)
 
   -- A RESEND STEP.
-  pub again_got : Got
+  abbrev pub again_got : Got
   again_got = got_by a.row.session (call_again a now) stamped
 
   pub resends : Resends a now (again_got ∷ [])
@@ -69,7 +74,7 @@ module _ (a : Account) (now : ℕ) (stamped : Stamped) where
 
   -- A REPORT STEP.
   module _ (subscription : Subscription) where
-    pub report_got : Got
+    abbrev pub report_got : Got
     report_got = got_by a.row.session (call_report now subscription) stamped
 
     pub reports : Reports a.row.session now (subscription ∷ []) (report_got ∷ [])
@@ -80,3 +85,41 @@ module _ (a : Account) (now : ℕ) (stamped : Stamped) where
 
     pub report_stands : (seat : Seat) → IsSeatOf seat (record a { talk = talk_report a.row stamped.ms subscription.id stamped.answer a.talk }) → IsSeatOf seat (account_over a (report_got ∷ []))
     report_stands seat stands = stands
+
+-- A WAKE: the resend step, and then the report steps.
+pub wakes_both : (a : Account) (now first : ℕ) (xs ys : List Got) → Resends a now xs → first ≡ length (account_over a xs).subscriptions - 3 → Reports (account_over a xs).row.session now (drop first (account_over a xs).subscriptions) ys → Wakes a now (xs ++ ys)
+wakes_both a now first xs ys again is rest =
+    let got = again.0 in
+    let only : xs ≡ got ∷ [] = again.2 ∙ ap (λ (l : List Got). got ∷ l) again.4 in
+    let row : (account_over a xs).row ≡ a.row = rows_stay a xs in
+    let behind : account_over a xs ≡ account_behind a got.told = ap (account_over a) only in
+    let reports : Reports a.row.session now (last_three (account_behind a got.told).subscriptions) ys =
+    subst (λ (b : Account). Reports a.row.session now (last_three b.subscriptions) ys) behind
+    (subst (λ (n : ℕ). Reports a.row.session now (drop n (account_over a xs).subscriptions) ys) is
+    (subst (λ (r : SessionRow). Reports r.session now (drop first (account_over a xs).subscriptions) ys) row rest)) in
+    (got, ys, ap (λ (l : List Got). l ++ ys) only, again.3, reports)
+
+-- REPORT STEPS, one after the other. They leave the subscriptions as they are.
+
+behind_report : (a : Account) (told : Told) (now : ℕ) (subscription : Subscription) → told.0.call ≡ call_report now subscription → (account_behind a told).subscriptions ≡ a.subscriptions
+behind_report a told now subscription call =
+    let each : (o : Option Stop) → (unless_stopped o (record a {
+      talk = talk_in told.0.call.event told.0.ms told.1 a;
+      subscriptions = standing_behind told.0.call.event told.0.call.deed told.0.ms told.1 a.subscriptions;
+    }) a).subscriptions ≡ a.subscriptions = elim [
+      | None ↦ ap (λ (k : Call). standing_behind k.event k.deed told.0.ms told.1 a.subscriptions) call
+      | Some stop ↦ refl
+    ] in
+    each told.0.stop
+
+pub reports_both : (a : Account) (now at : ℕ) (subscription : Subscription) (xs ys : List Got) → drop at a.subscriptions ≡ subscription ∷ drop (at + 1) a.subscriptions → Reports a.row.session now (subscription ∷ []) xs
+    → Reports (account_over a xs).row.session now (drop (at + 1) (account_over a xs).subscriptions) ys → Reports a.row.session now (drop at a.subscriptions) (xs ++ ys)
+reports_both a now at subscription xs ys found one rest =
+    let got = one.0 in
+    let only : xs ≡ got ∷ [] = one.2 ∙ ap (λ (l : List Got). got ∷ l) one.4 in
+    let row : (account_over a xs).row ≡ a.row = rows_stay a xs in
+    let kept : (account_over a xs).subscriptions ≡ a.subscriptions = ap (λ (l : List Got). (account_over a l).subscriptions) only ∙ behind_report a got.told now subscription one.3.call_is in
+    let others : Reports a.row.session now (drop (at + 1) a.subscriptions) ys =
+    subst (λ (l : List Subscription). Reports a.row.session now (drop (at + 1) l) ys) kept
+    (subst (λ (r : SessionRow). Reports r.session now (drop (at + 1) (account_over a xs).subscriptions) ys) row rest) in
+    subst (λ (l : List Subscription). Reports a.row.session now l (xs ++ ys)) (sym found) (got, ys, ap (λ (l : List Got). l ++ ys) only, one.3, others)

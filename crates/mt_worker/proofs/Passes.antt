@@ -131,7 +131,7 @@ idle v u found session fault outside grows places same not_link cause = record {
   cause = cause;
 }
 
-stop_got : ℕ → ℕ → Entry → Got
+abbrev stop_got : ℕ → ℕ → Entry → Got
 stop_got session place entry = record { place = place; session = session; told = (entry, no_answer) }
 
 stops_here : (v u : NodePass) (found : List Entry) (session : ℕ) (call : Call) (ms : ℕ) (stop : Stop) → IsOutsideAgain v u → IsPrefix v.seen u.seen → IsPrefix v.seen found → u.places ≡ places_after found u.seen v.places → u.seen ≡ found ++ failed call ms stop ∷ []

@@ -1,12 +1,12 @@
 -- What the calls over one session send, and leave, among those of all.
 use Rattle.std.proofs.Common.{◌≡◌, ◌≢◌, ◌∙◌, refl, sym, ap, subst, ℕ, Bool, true, false, cond, true≢false, List, [], ◌∷◌, ◌++◌, Option, Some, None, append_assoc, eq-eqb, eqb-true, ne_eqb, arith}
-use Rattle.std.specs.Prelude.{◌==◌, ◌||◌, ◌<◌, All, is_some, if◌then◌else◌}
+use Rattle.std.specs.Prelude.{◌==◌, ◌||◌, ◌<◌, is_some, if◌then◌else◌}
 use Rattle.mt_model.specs.declared.texts.recording.Sent.{Sent}
 use Rattle.mt_shared.specs.Replay.{unless_stopped}
 use Rattle.mt_shared.specs.declared.entry.Stop.{Stop}
 use Rattle.mt_worker.specs.Accounts.{Account, Accounts, account_behind, account_over, all_behind, all_sent, behind, sent_by, sent_in, sent_over, standing_behind, talk_in}
 use Rattle.mt_worker.specs.Due.{is_in}
-use Rattle.mt_worker.specs.Gots.{Got, Told}
+use Rattle.mt_worker.specs.Gots.{Each, Got, Told}
 use Rattle.mt_worker.specs.Seats.{AreSeats, IsSeatOf}
 use Rattle.mt_worker.specs.Works.{AreOver, AreOverOne, AreStops}
 use Rattle.mt_worker.specs.declared.seat.Seat.{Seat}
@@ -51,7 +51,7 @@ pub one_behind : (accounts : Accounts) (id : ℕ) (gots : List Got) → AreOverO
 one_behind accounts id [] over = refl
 one_behind accounts id (got ∷ gots) over = one_behind (behind accounts got) id gots over.1 ∙ ap (λ (a : Account). account_over a gots) (here accounts got id over.0)
 
-pub others_behind : (accounts : Accounts) (id : ℕ) (gots : List Got) → All (λ (got : Got). got.session ≢ id) gots → all_behind accounts gots id ≡ accounts id
+pub others_behind : (accounts : Accounts) (id : ℕ) (gots : List Got) → Each (λ (got : Got). got.session ≢ id) gots → all_behind accounts gots id ≡ accounts id
 others_behind accounts id [] not = refl
 others_behind accounts id (got ∷ gots) not = others_behind (behind accounts got) id gots not.1 ∙ there accounts got id not.0
 
@@ -100,7 +100,7 @@ later_over id ids [] over = tt
 later_over id ids (got ∷ gots) over = (ap (λ (b : Bool). (id == got.session) || b) over.0 ∙ or_true (id == got.session), later_over id ids gots over.1)
 
 -- what is among numbers that are all above one is not that
-above_differs : (id session : ℕ) (ids : List ℕ) → All (λ later. id < later) ids → is_in ids session ≡ true → session ≢ id
+above_differs : (id session : ℕ) (ids : List ℕ) → Each (λ (later : ℕ). id < later) ids → is_in ids session ≡ true → session ≢ id
 above_differs id session [] above is = absurd (true≢false (sym is))
 above_differs id session (other ∷ ids) above is =
     let each : (b : Bool) → (other == session) ≡ b → (b || is_in ids session) ≡ true → session ≢ id = elim [
@@ -109,13 +109,13 @@ above_differs id session (other ∷ ids) above is =
     ] in
     each (other == session) refl is
 
-pub apart : (id : ℕ) (ids : List ℕ) (gots : List Got) → All (λ later. id < later) ids → AreOver ids gots → All (λ (got : Got). got.session ≢ id) gots
+pub apart : (id : ℕ) (ids : List ℕ) (gots : List Got) → Each (λ (later : ℕ). id < later) ids → AreOver ids gots → Each (λ (got : Got). got.session ≢ id) gots
 apart id ids [] above over = tt
 apart id ids (got ∷ gots) above over = (above_differs id got.session ids above over.0, apart id ids gots above over.1)
 
 -- SEATS stand for the accounts of their sessions, whatever those of others are.
 
-pub seats_same : (seats : List Seat) (ids : List ℕ) (f g : Accounts) → All (λ id. g id ≡ f id) ids → AreSeats seats ids f → AreSeats seats ids g
+pub seats_same : (seats : List Seat) (ids : List ℕ) (f g : Accounts) → Each (λ (id : ℕ). g id ≡ f id) ids → AreSeats seats ids f → AreSeats seats ids g
 seats_same [] [] f g same are = are
 seats_same [] (id ∷ ids) f g same are = are
 seats_same (seat ∷ seats) [] f g same are = are
@@ -123,11 +123,11 @@ seats_same (seat ∷ seats) (id ∷ ids) f g same are =
     (subst (λ (a : Account). a.row.session ≡ id) (sym same.0) are.0, subst (IsSeatOf seat) (sym same.0) are.1, seats_same seats ids f g same.1 are.2)
 
 -- behind calls over one session, those of the later ones are as they were
-pub later_same : (accounts : Accounts) (id : ℕ) (ids : List ℕ) (gots : List Got) → All (λ later. id < later) ids → AreOverOne id gots → All (λ other. all_behind accounts gots other ≡ accounts other) ids
+pub later_same : (accounts : Accounts) (id : ℕ) (ids : List ℕ) (gots : List Got) → Each (λ (later : ℕ). id < later) ids → AreOverOne id gots → Each (λ (other : ℕ). all_behind accounts gots other ≡ accounts other) ids
 later_same accounts id [] gots above over = tt
 later_same accounts id (other ∷ ids) gots above over =
     (others_behind accounts other gots (differ id other gots above.0 over), later_same accounts id ids gots above.1 over)
   where
-    differ : (id other : ℕ) (gots : List Got) → id < other → AreOverOne id gots → All (λ (got : Got). got.session ≢ other) gots
+    differ : (id other : ℕ) (gots : List Got) → id < other → AreOverOne id gots → Each (λ (got : Got). got.session ≢ other) gots
     differ id other [] less over = tt
     differ id other (got ∷ gots) less over = ((λ equal. let is = over.0 in omega (arith, is, equal)), differ id other gots less over.1)

@@ -1,18 +1,20 @@
 -- Parts of a worker's work over several sessions: of one of them, of one after another, and of one job after another.
-use Rattle.std.proofs.Common.{◌≡◌, ◌≢◌, ◌∙◌, refl, sym, ap, subst, ℕ, ◌<◌, Bool, true, false, cond, List, [], ◌∷◌, ◌++◌, Option, Some, Result, Ok, Err, OnOk, All, append-nil, append_assoc, eq-eqb, ne_eqb}
-use Rattle.std.specs.Prelude.{◌||◌, if◌then◌else◌}
+use Rattle.std.proofs.Common.{◌≡◌, ◌≢◌, ◌∙◌, refl, sym, ap, subst, ℕ, ◌<◌, Bool, true, false, cond, List, [], ◌∷◌, ◌++◌, Option, Some, None, Result, Ok, Err, OnOk, append-nil, append_assoc, eq-eqb, ne_eqb, MatchBool}
+use Rattle.std.specs.Prelude.{◌||◌}
 use Rattle.mt_outside.specs.declared.network.Parcel.{Parcel}
 use Rattle.mt_outside.specs.declared.network.Peer.{Peer}
 use Rattle.mt_model.specs.declared.texts.recording.Sent.{Sent}
 use Rattle.mt_queue.specs.declared.job.Job.{Job}
 use Rattle.mt_worker.specs.Accounts.{Account, Accounts, account_over, all_behind, all_sent, sent_over}
 use Rattle.mt_worker.specs.Due.{AreRising, Does, DoesAll, Hears, Sweeps, Takes, Wakes, is_in}
-use Rattle.mt_worker.specs.Gots.{Got}
+use Rattle.mt_worker.specs.Gots.{Each, Got}
 use Rattle.mt_worker.specs.Seats.{AreSeats, IsSeatOf}
 use Rattle.mt_worker.specs.Works.{AreOver, AreOverOne, Went, WentOn, WentOver, WentThrough}
 use Rattle.mt_worker.specs.declared.fault.WorkFault.{WorkFault}
 use Rattle.mt_worker.specs.declared.hand.Hand.{Hand}
 use Rattle.mt_worker.specs.declared.seat.Seat.{Seat}
+use Rattle.mt_worker.proofs.Giving.{gave_none, part_none}
+use Rattle.mt_worker.proofs.Passes.{goes_none}
 use Rattle.mt_worker.proofs.Sessions.{all_both, apart, behind_both, first_over, later_over, later_same, one_behind, one_sent, others_behind, over_on, rows_stay, seats_same}
 use Rattle.mt_worker.proofs.Works.{err, failed_as, ok, ok_as, went_on}
 
@@ -48,8 +50,8 @@ module _ {O : Type 0} (given : O → Option (List Parcel)) (faults : O → ℕ) 
   through ids jobs x y seats result accounts went = record { gots = went.gots; went = went.went; over = went.over; did = went.did }
 
   -- a fault stays one, whatever else was due
-  pub on_failed : {T U : Type 0} (One Both : Accounts → List Got → Type 0) (ids : List ℕ) (x y : Hand O) (mid seats : List Seat) (fault : WorkFault) (accounts : Accounts) → WentOn given faults One ids x y mid (err T fault) accounts → WentOn given faults Both ids x y seats (err U fault) accounts
-  on_failed One Both ids x y mid seats fault accounts went = record { gots = went.gots; went = failed_as given faults x y fault went.gots (all_sent accounts went.gots) went.went; over = went.over; did = tt; stands = tt }
+  pub on_failed : (T U : Type 0) (One Both : Accounts → List Got → Type 0) (ids : List ℕ) (x y : Hand O) (mid seats : List Seat) (fault : WorkFault) (accounts : Accounts) → WentOn given faults One ids x y mid (err T fault) accounts → WentOn given faults Both ids x y seats (err U fault) accounts
+  on_failed T U One Both ids x y mid seats fault accounts went = record { gots = went.gots; went = failed_as given faults T U x y fault went.gots (all_sent accounts went.gots) went.went; over = went.over; did = tt; stands = tt }
 
   -- ONE SESSION AMONG SEVERAL: the first.
   module _ (ids : List ℕ) (id : ℕ) (accounts : Accounts) (its : (accounts id).row.session ≡ id) where
@@ -59,23 +61,23 @@ module _ {O : Type 0} (given : O → Option (List Parcel)) (faults : O → ℕ) 
     first_went : {T : Type 0} (x y : Hand O) (result : Result T WorkFault) (gots : List Got) → AreOverOne id gots → Went given faults x y result gots (sent_over (accounts id) gots) → Went given faults x y result gots (all_sent accounts gots)
     first_went x y result gots over went = subst (Went given faults x y result gots) (sym (one_sent accounts id gots over)) went
 
-    first_seats : (seat : Seat) (seats : List Seat) (gots : List Got) → All (λ later. id < later) ids → AreOverOne id gots → IsSeatOf seat (account_over (accounts id) gots) → AreSeats seats ids accounts → AreSeats (seat ∷ seats) (id ∷ ids) (all_behind accounts gots)
+    first_seats : (seat : Seat) (seats : List Seat) (gots : List Got) → Each (λ (later : ℕ). id < later) ids → AreOverOne id gots → IsSeatOf seat (account_over (accounts id) gots) → AreSeats seats ids accounts → AreSeats (seat ∷ seats) (id ∷ ids) (all_behind accounts gots)
     first_seats seat seats gots above over stands others =
         let here : all_behind accounts gots id ≡ account_over (accounts id) gots = one_behind accounts id gots over in
         (ap (λ (a : Account). a.row.session) here ∙ ap (λ row. row.session) (rows_stay (accounts id) gots) ∙ its, subst (IsSeatOf seat) (sym here) stands, seats_same seats ids accounts (all_behind accounts gots) (later_same accounts id ids gots above over) others)
 
     -- A WAKE: the first session, and then the others.
-    pub wake_failed : {T U : Type 0} (now : ℕ) (x y : Hand O) (seat : Seat) (seats : List Seat) (fault : WorkFault) → WentOver given faults (λ (a : Account) (gots : List Got). Wakes a now gots) x y seat (err T fault) (accounts id)
+    pub wake_failed : (T U : Type 0) (now : ℕ) (x y : Hand O) (seat : Seat) (seats : List Seat) (fault : WorkFault) → WentOver given faults (λ (a : Account) (gots : List Got). Wakes a now gots) x y seat (err T fault) (accounts id)
         → WentOn given faults (λ (f : Accounts) (gots : List Got). Sweeps now (id ∷ ids) f gots) (id ∷ ids) x y seats (err U fault) accounts
-    wake_failed now x y seat seats fault first =
+    wake_failed T U now x y seat seats fault first =
         let over = over_id first.gots first.over in
-        record { gots = first.gots; went = failed_as given faults x y fault first.gots (all_sent accounts first.gots) (first_went x y _ first.gots over first.went); over = first_over id ids first.gots over; did = tt; stands = tt }
+        record { gots = first.gots; went = failed_as given faults T U x y fault first.gots (all_sent accounts first.gots) (first_went x y _ first.gots over first.went); over = first_over id ids first.gots over; did = tt; stands = tt }
 
-    pub wake_others : {T : Type 0} (t : T) (now : ℕ) (x y : Hand O) (seat : Seat) (seats : List Seat) → All (λ later. id < later) ids → AreSeats seats ids accounts → (first : WentOver given faults (λ (a : Account) (gots : List Got). Wakes a now gots) x y seat (ok T t) (accounts id))
+    pub wake_others : {T : Type 0} (t : T) (now : ℕ) (x y : Hand O) (seat : Seat) (seats : List Seat) → Each (λ (later : ℕ). id < later) ids → AreSeats seats ids accounts → (first : WentOver given faults (λ (a : Account) (gots : List Got). Wakes a now gots) x y seat (ok T t) (accounts id))
         → AreSeats seats ids (all_behind accounts first.gots)
     wake_others t now x y seat seats above others first = seats_same seats ids accounts (all_behind accounts first.gots) (later_same accounts id ids first.gots above (over_id first.gots first.over)) others
 
-    pub wake_then : {T U : Type 0} (t : T) (now : ℕ) (x y z : Hand O) (seat : Seat) (seats : List Seat) (result : Result U WorkFault) → All (λ later. id < later) ids
+    pub wake_then : {T U : Type 0} (t : T) (now : ℕ) (x y z : Hand O) (seat : Seat) (seats : List Seat) (result : Result U WorkFault) → Each (λ (later : ℕ). id < later) ids
         → (first : WentOver given faults (λ (a : Account) (gots : List Got). Wakes a now gots) x y seat (ok T t) (accounts id))
         → WentOn given faults (λ (f : Accounts) (gots : List Got). Sweeps now ids f gots) ids y z seats result (all_behind accounts first.gots)
         → WentOn given faults (λ (f : Accounts) (gots : List Got). Sweeps now (id ∷ ids) f gots) (id ∷ ids) x z (seat ∷ seats) result accounts
@@ -95,7 +97,7 @@ module _ {O : Type 0} (given : O → Option (List Parcel)) (faults : O → ℕ) 
         }
 
     -- A DATAGRAM: it is the first session's, or another's.
-    pub take_first : {T : Type 0} (session now : ℕ) (from : Peer) (bytes : List ℕ) (x y : Hand O) (seat : Seat) (seats : List Seat) (result : Result T WorkFault) → id ≡ session → All (λ later. id < later) ids → AreSeats seats ids accounts
+    pub take_first : {T : Type 0} (session now : ℕ) (from : Peer) (bytes : List ℕ) (x y : Hand O) (seat : Seat) (seats : List Seat) (result : Result T WorkFault) → id ≡ session → Each (λ (later : ℕ). id < later) ids → AreSeats seats ids accounts
         → WentOver given faults (λ (a : Account) (gots : List Got). Hears a now from bytes gots) x y seat result (accounts id)
         → WentOn given faults (λ (f : Accounts) (gots : List Got). Takes (id ∷ ids) f now from bytes (Some session) gots) (id ∷ ids) x y (seat ∷ seats) result accounts
     take_first session now from bytes x y seat seats result same above others first =
@@ -106,11 +108,11 @@ module _ {O : Type 0} (given : O → Option (List Parcel)) (faults : O → ℕ) 
           went = first_went x y result first.gots over first.went;
           over = first_over id ids first.gots over;
           did = ok_as given faults result _ _ (λ (heard : Hears (accounts id) now from bytes first.gots).
-              subst (λ (b : Bool). if b then Hears (accounts session) now from bytes first.gots else (first.gots ≡ [])) (sym is) (subst (λ (i : ℕ). Hears (accounts i) now from bytes first.gots) same heard)) first.did;
+              subst (λ (b : Bool). MatchBool b (Hears (accounts session) now from bytes first.gots) (first.gots ≡ [])) (sym is) (subst (λ (i : ℕ). Hears (accounts i) now from bytes first.gots) same heard)) first.did;
           stands = ok_as given faults result _ _ (λ (stands : IsSeatOf seat (account_over (accounts id) first.gots)). first_seats seat seats first.gots above over stands others) first.stands;
         }
 
-    pub take_other : {T : Type 0} (session now : ℕ) (from : Peer) (bytes : List ℕ) (x y : Hand O) (seat : Seat) (seats : List Seat) (result : Result T WorkFault) → id ≢ session → All (λ later. id < later) ids → IsSeatOf seat (accounts id)
+    pub take_other : {T : Type 0} (session now : ℕ) (from : Peer) (bytes : List ℕ) (x y : Hand O) (seat : Seat) (seats : List Seat) (result : Result T WorkFault) → id ≢ session → Each (λ (later : ℕ). id < later) ids → IsSeatOf seat (accounts id)
         → WentOn given faults (λ (f : Accounts) (gots : List Got). Takes ids f now from bytes (Some session) gots) ids x y seats result accounts
         → WentOn given faults (λ (f : Accounts) (gots : List Got). Takes (id ∷ ids) f now from bytes (Some session) gots) (id ∷ ids) x y (seat ∷ seats) result accounts
     take_other session now from bytes x y seat seats result differs above stands rest =
@@ -120,6 +122,74 @@ module _ {O : Type 0} (given : O → Option (List Parcel)) (faults : O → ℕ) 
           gots = rest.gots;
           went = rest.went;
           over = later_over id ids rest.gots rest.over;
-          did = ok_as given faults result _ _ (λ (took : Takes ids accounts now from bytes (Some session) rest.gots). subst (λ (b : Bool). if b then Hears (accounts session) now from bytes rest.gots else (rest.gots ≡ [])) (sym same) took) rest.did;
+          did = ok_as given faults result _ _ (λ (took : Takes ids accounts now from bytes (Some session) rest.gots). subst (λ (b : Bool). MatchBool b (Hears (accounts session) now from bytes rest.gots) (rest.gots ≡ [])) (sym same) took) rest.did;
           stands = ok_as given faults result _ _ (λ (are : AreSeats seats ids (all_behind accounts rest.gots)). (ap (λ (a : Account). a.row.session) stays ∙ its, subst (IsSeatOf seat) (sym stays) stands, are)) rest.stands;
         }
+
+  -- NOTHING WAS DUE.
+  pub on_idle : (T : Type 0) (t : T) (Due : Accounts → List Got → Type 0) (ids : List ℕ) (x : Hand O) (seats : List Seat) (accounts : Accounts) → x.pass.inside ≡ false → Due accounts [] → AreSeats seats ids accounts → WentOn given faults Due ids x x seats (ok T t) accounts
+  on_idle T t Due ids x seats accounts outside due are = record {
+    gots = [];
+    went = record { goes = goes_none x.pass outside; all = gave_none (given x.outlet); part = part_none (given x.outlet) (given x.outlet) [] refl; counts = refl; cause = tt };
+    over = tt;
+    did = due;
+    stands = are;
+  }
+
+  cons_is_not_nil : (seat : Seat) (seats : List Seat) → seat ∷ seats ≡ [] → ⊥
+  cons_is_not_nil seat seats same = cc
+
+  -- A WAKE, as it goes through the seats.
+
+  pub wake_none : (T : Type 0) (t : T) (now : ℕ) (ids : List ℕ) (x : Hand O) (seats : List Seat) (accounts : Accounts) → x.pass.inside ≡ false → seats ≡ [] → AreSeats seats ids accounts → WentOn given faults (λ (f : Accounts) (gots : List Got). Sweeps now ids f gots) ids x x seats (ok T t) accounts
+  wake_none T t now [] x seats accounts outside none are = on_idle T t _ [] x seats accounts outside refl are
+  wake_none T t now (id ∷ ids) x [] accounts outside none are = absurd are
+  wake_none T t now (id ∷ ids) x (seat ∷ seats) accounts outside none are = absurd (cons_is_not_nil seat seats none)
+
+  module _ (now : ℕ) (x y : Hand O) (whole : List Seat) (seat later : Seat) (others : List Seat) (is : whole ≡ seat ∷ others) where
+    pub wake_fails : (T U : Type 0) (ids : List ℕ) (accounts : Accounts) (seats : List Seat) (fault : WorkFault) → AreSeats whole ids accounts → ((a : Account) → IsSeatOf seat a → WentOver given faults (λ (a : Account) (gots : List Got). Wakes a now gots) x y later (err T fault) a)
+        → WentOn given faults (λ (f : Accounts) (gots : List Got). Sweeps now ids f gots) ids x y seats (err U fault) accounts
+    wake_fails T U [] accounts seats fault are went = absurd (subst (λ (l : List Seat). AreSeats l [] accounts) is are)
+    wake_fails T U (id ∷ ids) accounts seats fault are went =
+        let first = subst (λ (l : List Seat). AreSeats l (id ∷ ids) accounts) is are in
+        wake_failed ids id accounts first.0 T U now x y later seats fault (went (accounts id) first.1)
+
+    pub wake_goes : (T U : Type 0) (t : T) (z : Hand O) (ids : List ℕ) (accounts : Accounts) (seats : List Seat) (result : Result U WorkFault) → AreSeats whole ids accounts → AreRising ids
+        → ((a : Account) → IsSeatOf seat a → WentOver given faults (λ (a : Account) (gots : List Got). Wakes a now gots) x y later (ok T t) a)
+        → ((ids : List ℕ) (accounts : Accounts) → AreSeats others ids accounts → AreRising ids → WentOn given faults (λ (f : Accounts) (gots : List Got). Sweeps now ids f gots) ids y z seats result accounts)
+        → WentOn given faults (λ (f : Accounts) (gots : List Got). Sweeps now ids f gots) ids x z (later ∷ seats) result accounts
+    wake_goes T U t z [] accounts seats result are rising went rest = absurd (subst (λ (l : List Seat). AreSeats l [] accounts) is are)
+    wake_goes T U t z (id ∷ ids) accounts seats result are rising went rest =
+        let first = subst (λ (l : List Seat). AreSeats l (id ∷ ids) accounts) is are in
+        let one = went (accounts id) first.1 in
+        wake_then ids id accounts first.0 t now x y z later seats result rising.0 one (rest ids (all_behind accounts one.gots) (wake_others ids id accounts first.0 t now x y later others rising.0 first.2 one) rising.1)
+
+  -- A DATAGRAM, as its session is looked for.
+
+  pub take_none : (T : Type 0) (t : T) (session now : ℕ) (from : Peer) (bytes : List ℕ) (ids : List ℕ) (x : Hand O) (seats : List Seat) (accounts : Accounts) → x.pass.inside ≡ false → seats ≡ [] → AreSeats seats ids accounts
+      → WentOn given faults (λ (f : Accounts) (gots : List Got). Takes ids f now from bytes (Some session) gots) ids x x seats (ok T t) accounts
+  take_none T t session now from bytes [] x seats accounts outside none are = on_idle T t _ [] x seats accounts outside refl are
+  take_none T t session now from bytes (id ∷ ids) x [] accounts outside none are = absurd are
+  take_none T t session now from bytes (id ∷ ids) x (seat ∷ seats) accounts outside none are = absurd (cons_is_not_nil seat seats none)
+
+  pub take_nobody : (T : Type 0) (t : T) (named : Option ℕ) (now : ℕ) (from : Peer) (bytes : List ℕ) (ids : List ℕ) (x : Hand O) (seats : List Seat) (accounts : Accounts) → x.pass.inside ≡ false → named ≡ None → AreSeats seats ids accounts
+      → WentOn given faults (λ (f : Accounts) (gots : List Got). Takes ids f now from bytes named gots) ids x x seats (ok T t) accounts
+  take_nobody T t named now from bytes ids x seats accounts outside none are =
+      on_idle T t (λ (f : Accounts) (gots : List Got). Takes ids f now from bytes named gots) ids x seats accounts outside (subst (λ (o : Option ℕ). Takes ids accounts now from bytes o []) (sym none) refl) are
+
+  module _ (session now : ℕ) (from : Peer) (bytes : List ℕ) (x y : Hand O) (whole : List Seat) (seat later : Seat) (others : List Seat) (is : whole ≡ seat ∷ others) where
+    pub take_here : (T : Type 0) (ids : List ℕ) (accounts : Accounts) (result : Result T WorkFault) → AreSeats whole ids accounts → AreRising ids → ((a : Account) → IsSeatOf seat a → a.row.session ≡ session)
+        → ((a : Account) → IsSeatOf seat a → WentOver given faults (λ (a : Account) (gots : List Got). Hears a now from bytes gots) x y later result a)
+        → WentOn given faults (λ (f : Accounts) (gots : List Got). Takes ids f now from bytes (Some session) gots) ids x y (later ∷ others) result accounts
+    take_here T [] accounts result are rising same went = absurd (subst (λ (l : List Seat). AreSeats l [] accounts) is are)
+    take_here T (id ∷ ids) accounts result are rising same went =
+        let first = subst (λ (l : List Seat). AreSeats l (id ∷ ids) accounts) is are in
+        take_first ids id accounts first.0 session now from bytes x y later others result (sym first.0 ∙ same (accounts id) first.1) rising.0 first.2 (went (accounts id) first.1)
+
+    pub take_there : (T : Type 0) (ids : List ℕ) (accounts : Accounts) (seats : List Seat) (result : Result T WorkFault) → AreSeats whole ids accounts → AreRising ids → ((a : Account) → IsSeatOf seat a → a.row.session ≢ session)
+        → ((ids : List ℕ) (accounts : Accounts) → AreSeats others ids accounts → AreRising ids → WentOn given faults (λ (f : Accounts) (gots : List Got). Takes ids f now from bytes (Some session) gots) ids x y seats result accounts)
+        → WentOn given faults (λ (f : Accounts) (gots : List Got). Takes ids f now from bytes (Some session) gots) ids x y (seat ∷ seats) result accounts
+    take_there T [] accounts seats result are rising differs rest = absurd (subst (λ (l : List Seat). AreSeats l [] accounts) is are)
+    take_there T (id ∷ ids) accounts seats result are rising differs rest =
+        let first = subst (λ (l : List Seat). AreSeats l (id ∷ ids) accounts) is are in
+        take_other ids id accounts first.0 session now from bytes x y seat seats result (λ same. differs (accounts id) first.1 (first.0 ∙ same)) rising.0 first.1 (rest ids accounts first.2 rising.1)

@@ -1,23 +1,28 @@
 -- Parts of a worker's work: one call, and one part after another.
-use Rattle.std.proofs.Common.{◌≡◌, ◌≢◌, ◌∙◌, refl, sym, ap, subst, ℕ, ⊤, false, List, [], ◌∷◌, ◌++◌, Option, Result, Ok, Err, OnOk, OnErr, IfOk, IfErr, All, append-nil}
+use Rattle.std.proofs.Common.{◌≡◌, ◌≢◌, ◌∙◌, refl, sym, ap, subst, ℕ, false, Some, List, [], ◌∷◌, ◌++◌, Option, Result, Ok, Err, OnOk, OnErr, IfOk, IfErr}
 use Rattle.mt_interactions.specs.Configured.{ConfiguredInteractions}
 use Rattle.mt_model.specs.declared.texts.recording.Sent.{Sent}
 use Rattle.mt_outside.specs.declared.network.Parcel.{Parcel}
 use Rattle.mt_outside.specs.Stream.{HasCause, one_more}
-use Rattle.mt_shared.specs.Shared.{NodePass}
+use mathlib.Core.List.{IsPrefix}
+use Rattle.mt_queue.specs.declared.job.Job.TheVariants.{Wake}
+use Rattle.mt_shared.specs.Shared.{IsAnswered, NodePass}
+use Rattle.mt_shared.specs.declared.entry.Call.{Call}
+use Rattle.mt_shared.specs.declared.entry.Stamped.{Stamped}
+use Rattle.mt_turn.specs.History.{IsOutsideAgain}
 use Rattle.mt_worker.specs.Accounts.{Account, Accounts, account_over, all_behind, all_sent, sent_over}
-use Rattle.mt_worker.specs.Due.{is_in}
-use Rattle.mt_worker.specs.Faults.{Counts, IsCause}
+use Rattle.mt_worker.specs.Due.{Ticks, call_tick}
+use Rattle.mt_worker.specs.Faults.{Counts, IsCause, IsDenied}
 use Rattle.mt_worker.specs.Giving.{Gave, GavePart, parcels_in}
 use Rattle.mt_worker.specs.Gots.{Goes, Got}
 use Rattle.mt_worker.specs.Seats.{AreSeats, IsSeatOf}
-use Rattle.mt_worker.specs.Works.{AreOver, AreOverOne, AreStops, GotNone, Went, WentOn, WentOver}
+use Rattle.mt_worker.specs.Works.{Acts, AreOver, AreOverOne, AreStops, GotNone, TickedBy, Went, WentOn, WentOver, got_by}
 use Rattle.mt_worker.specs.declared.fault.WorkFault.{WorkFault}
 use Rattle.mt_worker.specs.declared.fault.WorkFault.TheVariants.{Memory, Stopped, Link, Full}
 use Rattle.mt_worker.specs.declared.hand.Hand.{Hand}
 use Rattle.mt_worker.specs.declared.seat.Seat.{Seat}
 use Rattle.mt_worker.proofs.Giving.{gave_none, gave_on, parcels_both, part_all, part_none, part_on}
-use Rattle.mt_worker.proofs.Passes.{goes_none, goes_on}
+use Rattle.mt_worker.proofs.Passes.{denied, goes_answered, goes_none, goes_on}
 use Rattle.mt_worker.proofs.Sessions.{account_both, one_on, over_both, rows_stay, stops_over, stops_send}
 
 -- results of a type
@@ -29,16 +34,38 @@ abbrev pub err : (T : Type 0) → WorkFault → Result T WorkFault
 err T fault = Err fault
 
 -- a fault that is not the outlet's leaves its count
-counts_same : {T : Type 0} (fault : WorkFault) (before now : ℕ) → fault ≢ Link → now ≡ before → Counts (err T fault) before now
-counts_same Memory before now not same = same
-counts_same Stopped before now not same = same
-counts_same Link before now not same = absurd (not refl)
-counts_same Full before now not same = same
+counts_same : (T : Type 0) (fault : WorkFault) (before now : ℕ) → fault ≢ Link → now ≡ before → Counts (err T fault) before now
+counts_same T Memory before now not same = same
+counts_same T Stopped before now not same = same
+counts_same T Link before now not same = absurd (not refl)
+counts_same T Full before now not same = same
+
+-- A CALL, as its answer and its refusal tell it.
+pub acts_of : {O : Type 0} (origin : ConfiguredInteractions) (session : ℕ) (call : Call) (x y : Hand O) (result : Result Stamped WorkFault) → x.pass.origin ≡ Some origin → IsOutsideAgain x.pass y.pass → IsPrefix x.pass.seen y.pass.seen
+    → IfOk result (IsAnswered origin x.pass y.pass call) → IfErr result (IsDenied x.pass y.pass call) → Acts origin session call x y result
+acts_of origin session call x y (Ok stamped) from outside grows answered denies = record { answered = goes_answered origin x.pass y.pass call stamped session from outside grows answered; refused = tt }
+acts_of origin session call x y (Err fault) from outside grows answered denies = record { answered = tt; refused = denied x.pass y.pass call session fault outside grows denies }
+
+-- The reporter's part of that.
+
+pub ticked_denied : (T : Type 0) (Due : List Got → Type 0) (v u : NodePass) (call : Call) (fault : WorkFault) → IsOutsideAgain v u → IsPrefix v.seen u.seen → IsDenied v u call fault → TickedBy Due v u (err T fault)
+ticked_denied T Due v u call fault outside grows is =
+    let none = denied v u call 0 fault outside grows is in
+    record { gots = none.gots; goes = none.goes; did = tt; not_link = none.not_link; cause = none.cause }
+
+pub ticked_once : (T : Type 0) (t : T) (origin : ConfiguredInteractions) (v u : NodePass) (now : ℕ) (stamped : Stamped) → v.origin ≡ Some origin → IsOutsideAgain v u → IsPrefix v.seen u.seen → IsAnswered origin v u (call_tick now) stamped → TickedBy (Ticks (Wake now)) v u (ok T t)
+ticked_once T t origin v u now stamped from outside grows answered = record {
+  gots = got_by 0 (call_tick now) stamped ∷ [];
+  goes = goes_answered origin v u (call_tick now) stamped 0 from outside grows answered;
+  did = (got_by 0 (call_tick now) stamped, [], refl, record { session_is = refl; call_is = refl; line = refl }, refl);
+  not_link = tt;
+  cause = tt;
+}
 
 module _ {O : Type 0} (given : O → Option (List Parcel)) (faults : O → ℕ) where
   -- WHERE MEMORY FAILED FIRST nothing was done.
-  pub went_nowhere : {T : Type 0} (Due : Account → List Got → Type 0) (x y : Hand O) (seat : Seat) (a : Account) → x.pass.inside ≡ false → y.pass ≡ x.pass → y.outlet ≡ x.outlet → WentOver given faults Due x y seat (err T Memory) a
-  went_nowhere Due x y seat a outside pass outlet = record {
+  pub went_nowhere : (T : Type 0) (Due : Account → List Got → Type 0) (x y : Hand O) (seat : Seat) (a : Account) → x.pass.inside ≡ false → y.pass ≡ x.pass → y.outlet ≡ x.outlet → WentOver given faults Due x y seat (err T Memory) a
+  went_nowhere T Due x y seat a outside pass outlet = record {
     gots = [];
     went = record {
       goes = subst (λ (p : NodePass). Goes x.pass p []) (sym pass) (goes_none x.pass outside);
@@ -53,14 +80,14 @@ module _ {O : Type 0} (given : O → Option (List Parcel)) (faults : O → ℕ) 
   }
 
   -- WHERE THE NODE REFUSED nothing was sent.
-  pub went_denied : {T : Type 0} (Due : Account → List Got → Type 0) (x y : Hand O) (seat : Seat) (a : Account) (fault : WorkFault) → GotNone a.row.session x.pass y.pass fault → y.outlet ≡ x.outlet → WentOver given faults Due x y seat (err T fault) a
-  went_denied Due x y seat a fault none outlet = record {
+  pub went_denied : (T : Type 0) (Due : Account → List Got → Type 0) (x y : Hand O) (seat : Seat) (a : Account) (fault : WorkFault) → GotNone a.row.session x.pass y.pass fault → y.outlet ≡ x.outlet → WentOver given faults Due x y seat (err T fault) a
+  went_denied T Due x y seat a fault none outlet = record {
     gots = none.gots;
     went = record {
       goes = none.goes;
       all = tt;
       part = part_none (given x.outlet) (given y.outlet) (parcels_in (sent_over a none.gots)) (ap given outlet);
-      counts = counts_same fault (faults x.outlet) (faults y.outlet) none.not_link (ap faults outlet);
+      counts = counts_same T fault (faults x.outlet) (faults y.outlet) none.not_link (ap faults outlet);
       cause = none.cause;
     };
     over = stops_over a.row.session none.gots none.stops;
@@ -69,8 +96,8 @@ module _ {O : Type 0} (given : O → Option (List Parcel)) (faults : O → ℕ) 
   }
 
   -- WHERE MEMORY FAILED BEHIND THE CALL nothing was given.
-  pub went_unsaid : {T : Type 0} (Due : Account → List Got → Type 0) (x y : Hand O) (seat : Seat) (a : Account) (got : Got) → Goes x.pass y.pass (got ∷ []) → got.session ≡ a.row.session → y.outlet ≡ x.outlet → WentOver given faults Due x y seat (err T Memory) a
-  went_unsaid Due x y seat a got goes session outlet = record {
+  pub went_unsaid : (T : Type 0) (Due : Account → List Got → Type 0) (x y : Hand O) (seat : Seat) (a : Account) (got : Got) → Goes x.pass y.pass (got ∷ []) → got.session ≡ a.row.session → y.outlet ≡ x.outlet → WentOver given faults Due x y seat (err T Memory) a
+  went_unsaid T Due x y seat a got goes session outlet = record {
     gots = got ∷ [];
     went = record {
       goes = goes;
@@ -84,9 +111,9 @@ module _ {O : Type 0} (given : O → Option (List Parcel)) (faults : O → ℕ) 
     stands = tt;
   }
 
-  counts_sent : {T : Type 0} (result : Result T WorkFault) (before now : ℕ) → IfErr result (λ fault. fault ≡ Link) → HasCause before now result → Counts result before now
-  counts_sent (Ok x) before now link cause = cause.stays tt
-  counts_sent (Err fault) before now link cause = subst (λ (f : WorkFault). Counts (Err f) before now) (sym link) (cause.rose tt)
+  counts_sent : (T : Type 0) (result : Result T WorkFault) (before now : ℕ) → IfErr result (λ fault. fault ≡ Link) → HasCause before now result → Counts result before now
+  counts_sent T (Ok x) before now link cause = cause.stays refl
+  counts_sent T (Err fault) before now link cause = subst (λ (f : WorkFault). Counts (err T f) before now) (sym link) (cause.rose refl)
 
   cause_sent : {T : Type 0} (result : Result T WorkFault) (y : NodePass) → IfErr result (λ fault. fault ≡ Link) → IfErr result (IsCause y.seen)
   cause_sent (Ok x) y link = tt
@@ -101,22 +128,33 @@ module _ {O : Type 0} (given : O → Option (List Parcel)) (faults : O → ℕ) 
   ok_as (Err e) P Q follows p = tt
 
   -- ELSE what the call sends was given, up to where the outlet failed.
-  pub went_said : {T : Type 0} (Due : Account → List Got → Type 0) (x y : Hand O) (seat : Seat) (a : Account) (got : Got) (sent : List Sent) (result : Result T WorkFault) → Goes x.pass y.pass (got ∷ []) → got.session ≡ a.row.session → sent ≡ sent_over a (got ∷ [])
+  pub went_said : (T : Type 0) (Due : Account → List Got → Type 0) (x y : Hand O) (seat : Seat) (a : Account) (got : Got) (sent : List Sent) (result : Result T WorkFault) → Goes x.pass y.pass (got ∷ []) → got.session ≡ a.row.session → sent ≡ sent_over a (got ∷ [])
       → OnOk result (Gave (given x.outlet) (given y.outlet) (parcels_in sent)) → GavePart (given x.outlet) (given y.outlet) (parcels_in sent) → IfErr result (λ fault. fault ≡ Link) → HasCause (faults x.outlet) (faults y.outlet) result
       → Due a (got ∷ []) → IsSeatOf seat (account_over a (got ∷ [])) → WentOver given faults Due x y seat result a
-  went_said Due x y seat a got sent result goes session is all part link cause due stands = record {
+  went_said T Due x y seat a got sent result goes session is all part link cause due stands = record {
     gots = got ∷ [];
     went = record {
       goes = goes;
       all = subst (λ (s : List Sent). OnOk result (Gave (given x.outlet) (given y.outlet) (parcels_in s))) is all;
       part = subst (λ (s : List Sent). GavePart (given x.outlet) (given y.outlet) (parcels_in s)) is part;
-      counts = counts_sent result (faults x.outlet) (faults y.outlet) link cause;
+      counts = counts_sent T result (faults x.outlet) (faults y.outlet) link cause;
       cause = cause_sent result y.pass link;
     };
     over = (session, tt);
     did = on_ok result (Due a (got ∷ [])) due;
     stands = on_ok result (IsSeatOf seat (account_over a (got ∷ []))) stands;
   }
+
+  pub went_sent : (T : Type 0) (Due : Account → List Got → Type 0) (x z : Hand O) (seat : Seat) (a : Account) (got : Got) (messages sent : List Sent) (before : O) (result : Result T WorkFault) → Goes x.pass z.pass (got ∷ []) → got.session ≡ a.row.session → before ≡ x.outlet → messages ≡ sent → sent ≡ sent_over a (got ∷ [])
+      → OnOk result (Gave (given before) (given z.outlet) (parcels_in messages)) → GavePart (given before) (given z.outlet) (parcels_in messages) → IfErr result (λ fault. fault ≡ Link) → HasCause (faults before) (faults z.outlet) result
+      → Due a (got ∷ []) → IsSeatOf seat (account_over a (got ∷ [])) → WentOver given faults Due x z seat result a
+  went_sent T Due x z seat a got messages sent before result goes session same those is all part link cause due stands =
+      went_said T Due x z seat a got messages result goes session (those ∙ is)
+      (subst (λ (o : O). OnOk result (Gave (given o) (given z.outlet) (parcels_in messages))) same all)
+      (subst (λ (o : O). GavePart (given o) (given z.outlet) (parcels_in messages)) same part)
+      link
+      (subst (λ (o : O). HasCause (faults o) (faults z.outlet) result) same cause)
+      due stands
 
   -- NOTHING WAS DUE.
   pub went_idle : {T : Type 0} (t : T) (Due : Account → List Got → Type 0) (x : Hand O) (seat : Seat) (a : Account) → x.pass.inside ≡ false → Due a [] → IsSeatOf seat a → WentOver given faults Due x x seat (Ok t) a
@@ -152,20 +190,20 @@ module _ {O : Type 0} (given : O → Option (List Parcel)) (faults : O → ℕ) 
     stands = subst (λ (b : Account). OnOk result (IsSeatOf seat b)) (sym (account_both a first.gots then.gots)) then.stands;
   }
 
-  counts_as : {T U : Type 0} (fault : WorkFault) (before now : ℕ) → Counts (err T fault) before now → Counts (err U fault) before now
-  counts_as Memory before now c = c
-  counts_as Stopped before now c = c
-  counts_as Link before now c = c
-  counts_as Full before now c = c
+  counts_as : (T U : Type 0) (fault : WorkFault) (before now : ℕ) → Counts (err T fault) before now → Counts (err U fault) before now
+  counts_as T U Memory before now c = c
+  counts_as T U Stopped before now c = c
+  counts_as T U Link before now c = c
+  counts_as T U Full before now c = c
 
-  pub failed_as : {T U : Type 0} (x y : Hand O) (fault : WorkFault) (gots : List Got) (sent : List Sent) → Went given faults x y (err T fault) gots sent → Went given faults x y (err U fault) gots sent
-  failed_as x y fault gots sent went = record { goes = went.goes; all = tt; part = went.part; counts = counts_as fault (faults x.outlet) (faults y.outlet) went.counts; cause = went.cause }
+  pub failed_as : (T U : Type 0) (x y : Hand O) (fault : WorkFault) (gots : List Got) (sent : List Sent) → Went given faults x y (err T fault) gots sent → Went given faults x y (err U fault) gots sent
+  failed_as T U x y fault gots sent went = record { goes = went.goes; all = tt; part = went.part; counts = counts_as T U fault (faults x.outlet) (faults y.outlet) went.counts; cause = went.cause }
 
   -- a fault stays one, whatever else was due
-  pub over_failed : {T U : Type 0} (One Both : Account → List Got → Type 0) (x y : Hand O) (mid seat : Seat) (fault : WorkFault) (a : Account) → WentOver given faults One x y mid (err T fault) a → WentOver given faults Both x y seat (err U fault) a
-  over_failed One Both x y mid seat fault a first = record {
+  pub over_failed : (T U : Type 0) (One Both : Account → List Got → Type 0) (x y : Hand O) (mid seat : Seat) (fault : WorkFault) (a : Account) → WentOver given faults One x y mid (err T fault) a → WentOver given faults Both x y seat (err U fault) a
+  over_failed T U One Both x y mid seat fault a first = record {
     gots = first.gots;
-    went = failed_as x y fault first.gots (sent_over a first.gots) first.went;
+    went = failed_as T U x y fault first.gots (sent_over a first.gots) first.went;
     over = first.over;
     did = tt;
     stands = tt;

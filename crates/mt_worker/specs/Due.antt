@@ -1,5 +1,5 @@
 -- Which calls a worker makes for the jobs that it takes, and the reporter.
-use Rattle.std.specs.Prelude.{◌≡◌, ◌≢◌, ◌<◌, ℕ, ◌-◌, ◌==◌, Bool, List, [], ◌∷◌, ◌++◌, Option, Some, None, All, drop, length, if◌then◌else◌, ⊤}
+use Rattle.std.specs.Prelude.{◌≡◌, ◌≢◌, ◌<◌, ℕ, ◌-◌, ◌==◌, Bool, List, [], ◌∷◌, ◌++◌, Option, Some, None, MatchBool, drop, length, ⊤}
 use Rattle.std.specs.List.{list_any}
 use Rattle.mt_interactions.specs.declared.deeds.Deed.TheVariants as deeds
 use Rattle.mt_layer.specs.Deeds.{deed_again, deed_heard}
@@ -12,7 +12,7 @@ use Rattle.mt_queue.specs.declared.job.Job.TheVariants.{Take, Wake, End}
 use Rattle.mt_runs.specs.Datagrams.{session_named}
 use Rattle.mt_shared.specs.declared.entry.Call.{Call}
 use Rattle.mt_worker.specs.Accounts.{Account, Accounts, account_behind, all_behind, begun_account}
-use Rattle.mt_worker.specs.Gots.{Got}
+use Rattle.mt_worker.specs.Gots.{Each, Got}
 use Rattle.mt_worker.specs.declared.seat.Subscription.{Subscription}
 
 -- THE ROWS of a worker: of unicast sessions, whose two ids are not 0, by rising id.
@@ -27,11 +27,11 @@ id_of row = row.session
 
 abbrev pub AreRising : List ℕ → Type 0
 AreRising [] = ⊤
-AreRising (id ∷ ids) = All (λ later. id < later) ids × AreRising ids
+AreRising (id ∷ ids) = Each (λ (later : ℕ). id < later) ids × AreRising ids
 
 -- nothing has been said over them
 abbrev pub HaveBegun : List SessionRow → Accounts → Type 0
-HaveBegun rows accounts = All (λ row. accounts row.session ≡ begun_account row) rows
+HaveBegun rows accounts = Each (λ (row : SessionRow). accounts row.session ≡ begun_account row) rows
 
 -- THE CALLS.
 
@@ -96,7 +96,7 @@ is_in ids id = list_any (λ (other : ℕ). other == id) ids
 
 abbrev pub Takes : List ℕ → Accounts → ℕ → Peer → List ℕ → Option ℕ → List Got → Type 0
 Takes ids accounts now from bytes None gots = gots ≡ []
-Takes ids accounts now from bytes (Some id) gots = if is_in ids id then Hears (accounts id) now from bytes gots else (gots ≡ [])
+Takes ids accounts now from bytes (Some id) gots = MatchBool (is_in ids id) (Hears (accounts id) now from bytes gots) (gots ≡ [])
 
 abbrev pub Does : List ℕ → Accounts → Job → List Got → Type 0
 Does ids accounts (Take now from bytes) gots = Takes ids accounts now from bytes (session_named bytes) gots

@@ -8,6 +8,11 @@ use Rattle.mt_shared.specs.declared.entry.Answer.{Answer}
 use Rattle.mt_shared.specs.declared.entry.Entry.{Entry}
 use Rattle.mt_turn.specs.History.{IsOutsideAgain}
 
+-- each of these
+abbrev pub Each : {A : Type 0} → (A → Type 0) → List A → Type 0
+Each Holds [] = ⊤
+Each Holds (x ∷ xs) = Holds x × Each Holds xs
+
 -- an entry of the book, with what the replay answers there
 abbrev pub Told : Type 0
 Told = Entry × Answer

@@ -1,5 +1,5 @@
 -- For which account the code's seat stands.
-use Rattle.std.specs.Prelude.{◌≡◌, ℕ, List, [], ◌∷◌, ⊤, ⊥}
+use Rattle.std.specs.Prelude.{◌≡◌, ℕ, List, [], ◌∷◌, ⊤}
 use Rattle.mt_layer.specs.Keeping.{IsKeptOf}
 use Rattle.mt_worker.specs.Accounts.{Account, Accounts}
 use Rattle.mt_worker.specs.declared.seat.Seat.{Seat}

@@ -1,5 +1,5 @@
 -- What a worker did, and the reporter.
-use Rattle.std.specs.Prelude.{◌≡◌, ◌≢◌, ℕ, ⊤, true, List, [], ◌∷◌, Option, Result, All, is_some, map, IfErr, IfOk, OnOk}
+use Rattle.std.specs.Prelude.{◌≡◌, ◌≢◌, ℕ, ⊤, true, List, [], ◌∷◌, Option, Result, is_some, map, IfErr, IfOk, OnOk}
 use Rattle.mt_interactions.specs.Configured.{ConfiguredInteractions}
 use Rattle.mt_model.specs.declared.texts.config.SessionRow.{SessionRow}
 use Rattle.mt_model.specs.declared.texts.recording.Sent.{Sent}
@@ -13,25 +13,25 @@ use Rattle.mt_worker.specs.Accounts.{Account, Accounts, account_over, all_behind
 use Rattle.mt_worker.specs.Due.{DoesAll, Ticks, TicksAll, id_of, is_in}
 use Rattle.mt_worker.specs.Faults.{Counts, IsCause, status_of}
 use Rattle.mt_worker.specs.Giving.{Gave, GavePart, parcels_in}
-use Rattle.mt_worker.specs.Gots.{Goes, Got}
+use Rattle.mt_worker.specs.Gots.{Each, Goes, Got}
 use Rattle.mt_worker.specs.Seats.{AreSeats, IsSeatOf}
 use Rattle.mt_worker.specs.declared.fault.WorkFault.{WorkFault}
 use Rattle.mt_worker.specs.declared.fault.WorkFault.TheVariants.{Link}
 use Rattle.mt_worker.specs.declared.hand.Hand.{Hand}
 use Rattle.mt_worker.specs.declared.seat.Seat.{Seat}
-use Rattle.mt_worker.specs.declared.worker.Done.{Done}
+use Rattle.mt_worker.specs.declared.working.Done.{Done}
 
 -- all were made over this session
 abbrev pub AreOverOne : ℕ → List Got → Type 0
-AreOverOne session gots = All (λ (got : Got). got.session ≡ session) gots
+AreOverOne session gots = Each (λ (got : Got). got.session ≡ session) gots
 
 -- over one of these
 abbrev pub AreOver : List ℕ → List Got → Type 0
-AreOver ids gots = All (λ (got : Got). is_in ids got.session ≡ true) gots
+AreOver ids gots = Each (λ (got : Got). is_in ids got.session ≡ true) gots
 
 -- a stop, or nothing
 abbrev pub AreStops : ℕ → List Got → Type 0
-AreStops session gots = All (λ (got : Got). (got.session ≡ session) × (is_some got.told.0.stop ≡ true)) gots
+AreStops session gots = Each (λ (got : Got). (got.session ≡ session) × (is_some got.told.0.stop ≡ true)) gots
 
 pub record GotNone (session : ℕ) (before after : NodePass) (fault : WorkFault) : Type 0 where
   pub gots : List Got

@@ -69,8 +69,8 @@ impl<O: Outlet> Hand<O> {
             → WentOver O.given O.faults (λ a gots. Hears a now from bytes gots) self.old self.new seat.new result a }
     {
         let (call, pending) = seat.listen(now, from, bytes)?;
-        let Stamped { ms, answer, .. } = self.act(desk, call)?;
-        let sent = seat.answer(pending, &answer, ms)?;
+        let stamped = self.act(desk, call)?;
+        let sent = seat.answer(pending, &stamped.answer, stamped.ms)?;
         send_all(&mut self.outlet, sent.as_slice())
     }
 
@@ -88,8 +88,8 @@ impl<O: Outlet> Hand<O> {
             → WentOver O.given O.faults (λ a gots. Resends a now gots) self.old self.new seat.new result a }
     {
         let (call, at) = seat.again(now)?;
-        let Stamped { ms, answer, .. } = self.act(desk, call)?;
-        let sent = seat.resend(&at, &answer, ms)?;
+        let stamped = self.act(desk, call)?;
+        let sent = seat.resend(&at, &stamped.answer, stamped.ms)?;
         send_all(&mut self.outlet, sent.as_slice())
     }
 
@@ -107,6 +107,7 @@ impl<O: Outlet> Hand<O> {
         ensures own { IsPassOf desk.now.node.now self.new.pass }
         ensures went { (a : Account) → IsSeatOf seat.old a
             → WentOver O.given O.faults (λ a gots. Reports a.row.session now (subscription ∷ []) gots) self.old self.new seat.new result a }
+        ensures same { seat.new.subscriptions ≡ seat.old.subscriptions }
     {
         let Subscription { fabric, id } = subscription;
         let event = Event::Report {
@@ -118,8 +119,8 @@ impl<O: Outlet> Hand<O> {
             fabric,
             subscription: id,
         };
-        let Stamped { ms, answer, .. } = self.act(desk, Call { event, deed })?;
-        let sent = seat.report(id, &answer, ms)?;
+        let stamped = self.act(desk, Call { event, deed })?;
+        let sent = seat.report(id, &stamped.answer, stamped.ms)?;
         send_all(&mut self.outlet, sent.as_slice())
     }
 

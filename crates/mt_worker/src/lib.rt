@@ -4,21 +4,23 @@
 //! - `fault`: why one of them stopped working, and the status that says so;
 //! - `acting`: one call of the shared node, between the two points of a gate;
 //! - `seat`: what a worker keeps of a session;
+//! - `sitting`: what is heard and said over it;
 //! - `sending`: messages to an outlet;
 //! - `hand`: a datagram, a resend step and a report step over one session, and a wake over all;
-//! - `worker`: a worker, from its first job to the end message;
-//! - `reporter`: the same of the reporter.
+//! - `working`: a worker, from its first job to the end message;
+//! - `reporting`: the same of the reporter.
 #![tactic(auto)]
 
 mod acting;
 mod fault;
 mod hand;
-mod reporter;
+mod reporting;
 mod seat;
 mod sending;
-mod worker;
+mod sitting;
+mod working;
 
 pub use fault::WorkFault;
-pub use reporter::reporter;
+pub use reporting::reporter;
 pub use seat::Subscription;
-pub use worker::{Done, worker};
+pub use working::{Done, worker};

@@ -1,5 +1,5 @@
 use Rattle.mt_interactions.specs.declared.deeds.Deed.TheVariants.{Ends}
 use Rattle.mt_layer.proofs.session_talk.SessionTalk.ends.Goals as goal
 
-pub returns : goal.returns
-returns c row t kept = λ i. Ends (kept.id i) (c.in_ok-ends.ensures row t kept.talk i)
+pub returns-clause-deed : goal.returns-clause-deed
+returns-clause-deed c row t kept = λ i. Ends (kept.id i) (c.in_ok-ends.ensures row t kept.talk i)

@@ -8,7 +8,7 @@ ghost use Rattle.mt_worker.specs.Works.{Reported, Ticked, TickedThrough};
 
 use crate::acting::Desk;
 use crate::fault::WorkFault;
-use crate::worker::{Done, status_of, take_to_end};
+use crate::working::{Done, status_of, take_to_end};
 use mt_durable::Keeper;
 use mt_interactions::Deed;
 use mt_model::{Event, Verdicts};
