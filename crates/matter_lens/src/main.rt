@@ -6,14 +6,21 @@
 //! - `faults`: why a run ended before its end, in words;
 //! - `checking`: whether a configuration is one, and why not;
 //! - `story`: the recording, line by line, with what came of each;
+//! - `why`: why a line was sent nothing or was refused something;
+//! - `comparing`: where two recordings first differ for a fabric; `standing`: at which lines that is;
+//! - `values`: places and values in words;
 //! - `journal`: what a journal keeps.
 #![tactic(auto)]
 
 mod checking;
+mod comparing;
 mod faults;
 mod journal;
 mod options;
+mod standing;
 mod story;
+mod values;
+mod why;
 
 use faults::{Fault, Which};
 use mt_files::{ConfigFault, ConfigField, config as configuration, events};
@@ -72,8 +79,19 @@ fn asked(rt: &HostRuntime, options: &Options<'_>) -> Result<u8, Fault> {
     if options.check {
         return checking::tell(rt, options.config);
     }
+    if let Some(fabric) = options.compare {
+        return compared(rt, options, fabric);
+    }
     shown(rt, options)?;
     Ok(0)
+}
+
+// Reads the files, and shows where the recordings differ; answers the exit status.
+fn compared(rt: &HostRuntime, options: &Options<'_>, fabric: u8) -> Result<u8, Fault> {
+    let config = read_configuration(rt, options.config)?;
+    let first = read_recording(rt, options.recording)?;
+    let second = read_recording(rt, options.second)?;
+    comparing::tell(rt, &config, fabric, first.as_slice(), second.as_slice())
 }
 
 // Reads the files, and shows the run, or the journal.

@@ -5,10 +5,11 @@ ghost use Rattle.mt_play.specs.Plays.{IsOnJournal};
 
 use crate::faults::Fault;
 use crate::options::Options;
+use crate::why;
 use mt_lens::{Came, DiskStop, Line, Page, Teller, show_object, show_words};
 use mt_model::{Config, Event, Events};
 use mt_play::{Course, Planned, Playing};
-use std::alloc::AllocError;
+use std::alloc::{AllocError, Global};
 use std::io::{self, IsTerminal, Write};
 
 /// How many bytes of text are written at a time.
@@ -17,7 +18,11 @@ const PART: usize = 65_536;
 /// What has been told, and what that needs.
 #[derive(Drop)]
 struct Story<'a> {
+    alloc: Global,
     options: Options<'a>,
+    config: &'a Config,
+    // what stands in front of the page, where it is told why
+    text: Vec<u8>,
     page: Page,
     teller: Teller,
 }
@@ -33,7 +38,10 @@ pub(crate) fn tell(
     let teller = Teller::new(alloc, config, options.fabric)?;
     let mut node = Playing::start(alloc, config)?;
     let mut story = Story {
+        alloc,
         options: *options,
+        config,
+        text: Vec::new(alloc),
         page: Page::new(alloc, rt.stdout().is_terminal()),
         teller,
     };
@@ -61,7 +69,7 @@ impl Story<'_> {
 
     // Writes what has been told, where it is long.
     fn write_part(&mut self, rt: &HostRuntime) -> Result<(), Fault> {
-        if self.page.len() < PART {
+        if self.page.len() < PART && self.text.len() < PART {
             return Ok(());
         }
         self.write(rt)
@@ -73,7 +81,7 @@ impl Story<'_> {
         ensures { OnOk result (IsOnJournal node.new) }
     {
         let planned = node.plan(event)?;
-        self.tell(node, line, event, came_of(&planned))?;
+        self.tell(node, line, event, &planned)?;
         node.carry_out(planned)?;
         Ok(())
     }
@@ -84,20 +92,23 @@ impl Story<'_> {
         node: &Playing<'_>,
         number: u64,
         event: &Event,
-        came: Came<'_>,
+        planned: &Planned,
     ) -> Result<(), AllocError> {
         let line = Line {
             number,
             event,
             sessions: node.sessions(),
             armed: node.armed(),
-            came,
+            came: came_of(planned),
         };
         let Some(told) = self.teller.told(&line)? else {
             return Ok(());
         };
         if self.options.words {
             show_words(&mut self.page, &told);
+        }
+        if self.options.words && self.options.why {
+            self.tell_why(node, event, planned)?;
         }
         if self.options.json {
             show_object(&mut self.page, &told);
@@ -106,8 +117,31 @@ impl Story<'_> {
         Ok(())
     }
 
+    // Tells why a line is sent nothing or is refused something, behind what is on the page.
+    fn tell_why(
+        &mut self,
+        node: &Playing<'_>,
+        event: &Event,
+        planned: &Planned,
+    ) -> Result<(), AllocError> {
+        self.text.extend_from_slice(self.page.whole()?)?;
+        self.page.cut(0);
+        why::tell(
+            self.alloc,
+            &mut self.text,
+            self.config,
+            node,
+            event,
+            planned,
+        )
+    }
+
     // Writes what has been told.
     fn write(&mut self, rt: &HostRuntime) -> Result<(), Fault> {
+        let Ok(()) = io::writer(rt).write_all(self.text.as_slice()) else {
+            return Err(Fault::Unwritten);
+        };
+        self.text.clear();
         match io::writer(rt).write_all(self.page.whole()?) {
             Ok(()) => {
                 self.page.cut(0);

@@ -20,7 +20,8 @@ ghost use Rattle.mt_play.specs.Plays.{IsPlaying};
 
 use crate::playing::Playing;
 use mt_marks::Note;
-use mt_model::{Armed, Event, NodeSession};
+use mt_model::{Armed, Event, NodeSession, NodeState};
+use mt_subs::Subs;
 use mt_whole::Mark;
 use std::alloc::AllocError;
 
@@ -67,6 +68,20 @@ impl<'a> Playing<'a> {
         ensures { (given : Environment) (sessions : List SessionRow) (g : Going) → IsPlaying self.now given sessions g → result ≡ fabric_live g.whole.state.node session }
     {
         self.whole.live(session)
+    }
+
+    /// The state of the node.
+    pub fn state(&self) -> &NodeState
+        ensures { (given : Environment) (sessions : List SessionRow) (g : Going) → IsPlaying self.now given sessions g → result.now ≡ g.whole.state.node }
+    {
+        self.whole.state()
+    }
+
+    /// The subscriptions.
+    pub fn subs(&self) -> &Subs
+        ensures { (given : Environment) (sessions : List SessionRow) (g : Going) → IsPlaying self.now given sessions g → result.now ≡ g.whole.ledger.subs }
+    {
+        self.whole.subs()
     }
 
     /// The number of this boot.

@@ -22,7 +22,8 @@ use mt_interactions::Interactions;
 use mt_marks::{
     Mark, are_deadlines_same, are_events_same, are_subscriptions_same, is_own_same, public_mark,
 };
-use mt_model::{Event, NodeSession};
+use mt_model::{Event, NodeSession, NodeState};
+use mt_subs::Subs;
 use std::alloc::AllocError;
 
 impl Whole {
@@ -95,6 +96,20 @@ impl Whole {
             .as_slice()
             .iter()
             .any(|f| f.index == fabric)
+    }
+
+    /// The state of the node.
+    pub fn state(&self) -> &NodeState
+        ensures { result.now ≡ self.now.interactions.state.node }
+    {
+        self.interactions.state()
+    }
+
+    /// The subscriptions.
+    pub fn subs(&self) -> &Subs
+        ensures { result.now ≡ self.now.interactions.ledger.subs }
+    {
+        self.interactions.subs()
     }
 
     /// The number of this boot.
