@@ -1,6 +1,5 @@
 -- An outlet is given one list of parcels after another.
-use Rattle.std.proofs.Common.{◌≡◌, ◌∙◌, refl, sym, ap, subst, List, [], ◌∷◌, ◌++◌, Option, Some, None, append-nil, append_assoc}
-use mathlib.Core.List.{IsPrefix}
+use Rattle.std.proofs.Common.{◌≡◌, ◌∙◌, refl, sym, ap, subst, ℕ, ◌+◌, drop, List, [], ◌∷◌, ◌++◌, Option, Some, None, append-nil, append_assoc}
 use Rattle.mt_model.specs.declared.texts.recording.Sent.{Sent}
 use Rattle.mt_outside.specs.declared.network.Parcel.{Parcel}
 use Rattle.mt_worker.specs.Giving.{Gave, GavePart, parcel_in, parcels_in}
@@ -26,3 +25,9 @@ part_all a b xs gave = (xs, ([], append-nil xs), gave)
 pub part_on : (a b c : Option (List Parcel)) (xs ys : List Parcel) → Gave a b xs → GavePart b c ys → GavePart a c (xs ++ ys)
 part_on a b c xs ys first then =
     (xs ++ then.0, (then.1.0, append_assoc xs then.0 then.1.0 ∙ ap (λ (w : List Parcel). xs ++ w) then.1.1), gave_on a b c xs then.0 first then.2)
+
+-- one message more of a list, of which this many were given
+pub sent_more : (a b c : Option (List Parcel)) (given : List Parcel) (messages : List Sent) (at : ℕ) (message : Sent) → drop at messages ≡ message ∷ drop (at + 1) messages → Gave a b given → Gave b c (parcel_in message) → given ++ parcels_in (drop at messages) ≡ parcels_in messages
+    → (x : List Parcel) × Gave a c x × (x ++ parcels_in (drop (at + 1) messages) ≡ parcels_in messages)
+sent_more a b c given messages at message next gave more all =
+    (given ++ parcel_in message, gave_on a b c given (parcel_in message) gave more, append_assoc given (parcel_in message) (parcels_in (drop (at + 1) messages)) ∙ ap (λ (l : List Sent). given ++ parcels_in l) (sym next) ∙ all)

@@ -1,7 +1,9 @@
 mod Calls
+mod Ended
 mod Giving
 mod Passes
 mod Seats
 mod Sessions
 mod Sweeps
+mod Ticks
 mod Works

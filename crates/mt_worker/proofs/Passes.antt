@@ -1,8 +1,7 @@
 -- A pass goes on: with a call that was answered, with one that was refused, and with one part of a thread's work after another.
-use Rattle.std.proofs.Common.{◌≡◌, ◌≢◌, ◌≤◌, ◌<◌, ◌∙◌, refl, sym, ap, subst, ℕ, zero, suc, inl, inr, true, false, cond, List, [], ◌∷◌, ◌++◌, length, map, Option, Some, None, slice_get, arith, append-nil, append_assoc, length-append, le-ltb, lt-ltb}
+use Rattle.std.proofs.Common.{◌≡◌, ◌≢◌, ◌≤◌, ◌∙◌, refl, sym, ap, subst, ℕ, zero, suc, inl, inr, false, cond, List, [], ◌∷◌, ◌++◌, length, map, Some, None, slice_get, arith, append-nil, append_assoc, length-append, le-ltb, lt-ltb}
 use mathlib.Core.List.{IsPrefix}
 use Rattle.mt_interactions.specs.Configured.{ConfiguredInteractions}
-use Rattle.mt_shared.specs.Acts.{Refuses}
 use Rattle.mt_shared.specs.Book.{failed, is_full, stop_in, time_for}
 use Rattle.mt_shared.specs.Replay.{answer_at, next, no_answer, replay, told}
 use Rattle.mt_shared.specs.Shared.{IsAnswered, IsRefused, NodePass}
@@ -16,7 +15,7 @@ use Rattle.mt_turn.specs.History.{IsOutsideAgain}
 use Rattle.mt_turn.specs.Known.{places_after}
 use Rattle.mt_worker.specs.Faults.{IsCause, IsDenied, fault_of}
 use Rattle.mt_worker.specs.Gots.{AreTold, Goes, Got, Rise, Told, place_of}
-use Rattle.mt_worker.specs.Works.{AreStops, GotNone, got_by}
+use Rattle.mt_worker.specs.Works.{GotNone, got_by}
 use Rattle.mt_worker.specs.declared.fault.WorkFault.{WorkFault}
 use Rattle.mt_worker.specs.declared.fault.WorkFault.TheVariants as faults
 
@@ -164,3 +163,6 @@ got_none v u call session Memory outside grows is = idle v u is.found session fa
 
 pub denied : (v u : NodePass) (call : Call) (session : ℕ) (fault : WorkFault) → IsOutsideAgain v u → IsPrefix v.seen u.seen → IsDenied v u call fault → GotNone session v u fault
 denied v u call session fault outside grows is = subst (GotNone session v u) (sym is.1) (got_none v u call session is.0 outside grows is.2)
+
+pub outside_on : (x y z : NodePass) → IsOutsideAgain x y → IsOutsideAgain y z → IsOutsideAgain x z
+outside_on x y z first then = (then.0 ∙ first.0, then.1, then.2 ∙ first.2, then.3 ∙ first.3)

@@ -1,5 +1,5 @@
 -- What the calls over one session send, and leave, among those of all.
-use Rattle.std.proofs.Common.{◌≡◌, ◌≢◌, ◌∙◌, refl, sym, ap, subst, ℕ, Bool, true, false, cond, true≢false, List, [], ◌∷◌, ◌++◌, Option, Some, None, append_assoc, eq-eqb, eqb-true, ne_eqb, arith}
+use Rattle.std.proofs.Common.{◌≡◌, ◌≢◌, ◌∙◌, refl, sym, ap, subst, ℕ, Bool, true, false, true≢false, List, [], ◌∷◌, ◌++◌, Option, Some, None, append_assoc, eq-eqb, eqb-true, ne_eqb, arith}
 use Rattle.std.specs.Prelude.{◌==◌, ◌||◌, ◌<◌, is_some, if◌then◌else◌}
 use Rattle.mt_model.specs.declared.texts.recording.Sent.{Sent}
 use Rattle.mt_shared.specs.Replay.{unless_stopped}

@@ -1,16 +1,17 @@
 -- Parts of a worker's work over several sessions: of one of them, of one after another, and of one job after another.
-use Rattle.std.proofs.Common.{◌≡◌, ◌≢◌, ◌∙◌, refl, sym, ap, subst, ℕ, ◌<◌, Bool, true, false, cond, List, [], ◌∷◌, ◌++◌, Option, Some, None, Result, Ok, Err, OnOk, append-nil, append_assoc, eq-eqb, ne_eqb, MatchBool}
+use Rattle.std.proofs.Common.{◌≡◌, ◌≢◌, ◌∙◌, refl, sym, ap, subst, ℕ, ◌<◌, Bool, true, false, List, [], ◌∷◌, ◌++◌, Option, Some, None, Result, OnOk, append-nil, append_assoc, eq-eqb, ne_eqb, MatchBool}
 use Rattle.std.specs.Prelude.{◌||◌}
 use Rattle.mt_outside.specs.declared.network.Parcel.{Parcel}
 use Rattle.mt_outside.specs.declared.network.Peer.{Peer}
-use Rattle.mt_model.specs.declared.texts.recording.Sent.{Sent}
 use Rattle.mt_queue.specs.declared.job.Job.{Job}
+use Rattle.mt_queue.specs.declared.job.Job.TheVariants.{End}
 use Rattle.mt_worker.specs.Accounts.{Account, Accounts, account_over, all_behind, all_sent, sent_over}
 use Rattle.mt_worker.specs.Due.{AreRising, Does, DoesAll, Hears, Sweeps, Takes, Wakes, is_in}
 use Rattle.mt_worker.specs.Gots.{Each, Got}
 use Rattle.mt_worker.specs.Seats.{AreSeats, IsSeatOf}
-use Rattle.mt_worker.specs.Works.{AreOver, AreOverOne, Went, WentOn, WentOver, WentThrough}
+use Rattle.mt_worker.specs.Works.{AreOverOne, Went, WentOn, WentOver, WentThrough}
 use Rattle.mt_worker.specs.declared.fault.WorkFault.{WorkFault}
+use Rattle.mt_worker.specs.declared.fault.WorkFault.TheVariants.{Memory}
 use Rattle.mt_worker.specs.declared.hand.Hand.{Hand}
 use Rattle.mt_worker.specs.declared.seat.Seat.{Seat}
 use Rattle.mt_worker.proofs.Giving.{gave_none, part_none}
@@ -193,3 +194,27 @@ module _ {O : Type 0} (given : O → Option (List Parcel)) (faults : O → ℕ) 
     take_there T (id ∷ ids) accounts seats result are rising differs rest =
         let first = subst (λ (l : List Seat). AreSeats l (id ∷ ids) accounts) is are in
         take_other ids id accounts first.0 session now from bytes x y seat seats result (λ same. differs (accounts id) first.1 (first.0 ∙ same)) rising.0 first.1 (rest ids accounts first.2 rising.1)
+
+  -- the end message
+  pub end_idle : (T : Type 0) (t : T) (job : Job) (ids : List ℕ) (x : Hand O) (seats : List Seat) (accounts : Accounts) → x.pass.inside ≡ false → job ≡ End → AreSeats seats ids accounts → WentOn given faults (λ (f : Accounts) (gots : List Got). Does ids f job gots) ids x x seats (ok T t) accounts
+  end_idle T t job ids x seats accounts outside is are = on_idle T t (λ (f : Accounts) (gots : List Got). Does ids f job gots) ids x seats accounts outside (subst (λ (j : Job). Does ids accounts j []) (sym is) refl) are
+
+  -- RESULTS of another type.
+
+  pub on_fine : (T U : Type 0) (t : T) (other : U) (Due : Accounts → List Got → Type 0) (ids : List ℕ) (x y : Hand O) (seats : List Seat) (accounts : Accounts) → WentOn given faults Due ids x y seats (ok T t) accounts → WentOn given faults Due ids x y seats (ok U other) accounts
+  on_fine T U t other Due ids x y seats accounts its = record {
+    gots = its.gots;
+    went = record { goes = its.went.goes; all = its.went.all; part = its.went.part; counts = its.went.counts; cause = tt };
+    over = its.over;
+    did = its.did;
+    stands = its.stands;
+  }
+
+  -- WHERE THERE WAS NO MEMORY for the seats.
+  pub through_nowhere : (T : Type 0) (ids : List ℕ) (jobs : List Job) (x : Hand O) (accounts : Accounts) → x.pass.inside ≡ false → WentThrough given faults ids jobs x x (err T Memory) accounts
+  through_nowhere T ids jobs x accounts outside = record {
+    gots = [];
+    went = record { goes = goes_none x.pass outside; all = tt; part = part_none (given x.outlet) (given x.outlet) [] refl; counts = refl; cause = tt };
+    over = tt;
+    did = tt;
+  }

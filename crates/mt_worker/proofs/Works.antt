@@ -1,29 +1,29 @@
 -- Parts of a worker's work: one call, and one part after another.
-use Rattle.std.proofs.Common.{◌≡◌, ◌≢◌, ◌∙◌, refl, sym, ap, subst, ℕ, false, Some, List, [], ◌∷◌, ◌++◌, Option, Result, Ok, Err, OnOk, OnErr, IfOk, IfErr}
+use Rattle.std.proofs.Common.{◌≡◌, ◌≢◌, ◌∙◌, refl, sym, ap, subst, ℕ, false, Some, List, [], ◌∷◌, ◌++◌, Option, Result, Ok, Err, OnOk, IfOk, IfErr}
 use Rattle.mt_interactions.specs.Configured.{ConfiguredInteractions}
 use Rattle.mt_model.specs.declared.texts.recording.Sent.{Sent}
 use Rattle.mt_outside.specs.declared.network.Parcel.{Parcel}
-use Rattle.mt_outside.specs.Stream.{HasCause, one_more}
+use Rattle.mt_outside.specs.Stream.{HasCause}
 use mathlib.Core.List.{IsPrefix}
 use Rattle.mt_queue.specs.declared.job.Job.TheVariants.{Wake}
 use Rattle.mt_shared.specs.Shared.{IsAnswered, NodePass}
 use Rattle.mt_shared.specs.declared.entry.Call.{Call}
 use Rattle.mt_shared.specs.declared.entry.Stamped.{Stamped}
 use Rattle.mt_turn.specs.History.{IsOutsideAgain}
-use Rattle.mt_worker.specs.Accounts.{Account, Accounts, account_over, all_behind, all_sent, sent_over}
+use Rattle.mt_worker.specs.Accounts.{Account, account_over, sent_over}
 use Rattle.mt_worker.specs.Due.{Ticks, call_tick}
 use Rattle.mt_worker.specs.Faults.{Counts, IsCause, IsDenied}
 use Rattle.mt_worker.specs.Giving.{Gave, GavePart, parcels_in}
 use Rattle.mt_worker.specs.Gots.{Goes, Got}
-use Rattle.mt_worker.specs.Seats.{AreSeats, IsSeatOf}
-use Rattle.mt_worker.specs.Works.{Acts, AreOver, AreOverOne, AreStops, GotNone, TickedBy, Went, WentOn, WentOver, got_by}
+use Rattle.mt_worker.specs.Seats.{IsSeatOf}
+use Rattle.mt_worker.specs.Works.{Acts, AreOverOne, GotNone, TickedBy, Went, WentOver, got_by}
 use Rattle.mt_worker.specs.declared.fault.WorkFault.{WorkFault}
 use Rattle.mt_worker.specs.declared.fault.WorkFault.TheVariants.{Memory, Stopped, Link, Full}
 use Rattle.mt_worker.specs.declared.hand.Hand.{Hand}
 use Rattle.mt_worker.specs.declared.seat.Seat.{Seat}
-use Rattle.mt_worker.proofs.Giving.{gave_none, gave_on, parcels_both, part_all, part_none, part_on}
+use Rattle.mt_worker.proofs.Giving.{gave_none, gave_on, parcels_both, part_none, part_on}
 use Rattle.mt_worker.proofs.Passes.{denied, goes_answered, goes_none, goes_on}
-use Rattle.mt_worker.proofs.Sessions.{account_both, one_on, over_both, rows_stay, stops_over, stops_send}
+use Rattle.mt_worker.proofs.Sessions.{account_both, one_on, over_both, rows_stay, stops_over}
 
 -- results of a type
 

@@ -1,5 +1,5 @@
 -- Why a worker stopped working, and with which status.
-use Rattle.std.specs.Prelude.{◌≡◌, ◌⊎◌, ℕ, true, List, Result, Ok, Err, Some, ⊤}
+use Rattle.std.specs.Prelude.{◌≡◌, ℕ, true, List, Result, Ok, Err, Some, ⊤}
 use Rattle.mt_outside.specs.Stream.{one_more}
 use Rattle.mt_shared.specs.Book.{is_full, stop_in}
 use Rattle.mt_shared.specs.Shared.{IsRefused, NodePass}

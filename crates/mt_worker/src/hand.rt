@@ -7,6 +7,7 @@ ghost use Rattle.mt_model.specs.declared.limits.TheConstants.{LAST_TIME, RECEIVE
 ghost use Rattle.mt_queue.specs.Jobs.{IsWithinLimits, is_end};
 ghost use Rattle.mt_runs.specs.Datagrams.{session_named};
 ghost use Rattle.mt_shared.specs.Shared.{IsPassOf};
+ghost use Rattle.mt_turn.specs.History.{IsOutsideAgain};
 ghost use Rattle.mt_worker.specs.Accounts.{Account, Accounts, IsReportable};
 ghost use Rattle.mt_worker.specs.Due.{AreRising, Does, Hears, Reports, Resends, Sweeps, Takes, Wakes};
 ghost use Rattle.mt_worker.specs.Seats.{AreSeats, IsSeatOf};
@@ -65,6 +66,7 @@ impl<O: Outlet> Hand<O> {
         requires time { now ≤ LAST_TIME }
         requires short { length bytes ≤ RECEIVED_BYTES }
         ensures own { IsPassOf desk.now.node.now self.new.pass }
+        ensures outside { IsOutsideAgain self.old.pass self.new.pass }
         ensures went { (a : Account) → IsSeatOf seat.old a
             → WentOver O.given O.faults (λ a gots. Hears a now from bytes gots) self.old self.new seat.new result a }
     {
@@ -84,6 +86,7 @@ impl<O: Outlet> Hand<O> {
         requires own { IsPassOf desk.now.node.now self.old.pass }
         requires time { now ≤ LAST_TIME }
         ensures own { IsPassOf desk.now.node.now self.new.pass }
+        ensures outside { IsOutsideAgain self.old.pass self.new.pass }
         ensures went { (a : Account) → IsSeatOf seat.old a
             → WentOver O.given O.faults (λ a gots. Resends a now gots) self.old self.new seat.new result a }
     {
@@ -105,6 +108,7 @@ impl<O: Outlet> Hand<O> {
         requires time { now ≤ LAST_TIME }
         requires reportable { IsReportable subscription }
         ensures own { IsPassOf desk.now.node.now self.new.pass }
+        ensures outside { IsOutsideAgain self.old.pass self.new.pass }
         ensures went { (a : Account) → IsSeatOf seat.old a
             → WentOver O.given O.faults (λ a gots. Reports a.row.session now (subscription ∷ []) gots) self.old self.new seat.new result a }
         ensures same { seat.new.subscriptions ≡ seat.old.subscriptions }
@@ -135,6 +139,7 @@ impl<O: Outlet> Hand<O> {
         requires own { IsPassOf desk.now.node.now self.old.pass }
         requires time { now ≤ LAST_TIME }
         ensures own { IsPassOf desk.now.node.now self.new.pass }
+        ensures outside { IsOutsideAgain self.old.pass self.new.pass }
         ensures went { (a : Account) → IsSeatOf seat.old a
             → WentOver O.given O.faults (λ a gots. Reports a.row.session now (drop at a.subscriptions) gots) self.old self.new seat.new result a }
     {
@@ -155,6 +160,7 @@ impl<O: Outlet> Hand<O> {
         requires own { IsPassOf desk.now.node.now self.old.pass }
         requires time { now ≤ LAST_TIME }
         ensures own { IsPassOf desk.now.node.now self.new.pass }
+        ensures outside { IsOutsideAgain self.old.pass self.new.pass }
         ensures went { (a : Account) → IsSeatOf seat.old a
             → WentOver O.given O.faults (λ a gots. Wakes a now gots) self.old self.new seat.new result a }
     {
@@ -173,6 +179,7 @@ impl<O: Outlet> Hand<O> {
         requires own { IsPassOf desk.now.node.now self.old.pass }
         requires time { now ≤ LAST_TIME }
         ensures own { IsPassOf desk.now.node.now self.new.pass }
+        ensures outside { IsOutsideAgain self.old.pass self.new.pass }
         ensures went { (ids : List ℕ) (accounts : Accounts) → AreSeats seats.old ids accounts → AreRising ids
             → WentOn O.given O.faults (λ accounts gots. Sweeps now ids accounts gots) ids self.old self.new seats.new result accounts }
     {
@@ -196,6 +203,7 @@ impl<O: Outlet> Hand<O> {
         requires time { now ≤ LAST_TIME }
         requires short { length bytes ≤ RECEIVED_BYTES }
         ensures own { IsPassOf desk.now.node.now self.new.pass }
+        ensures outside { IsOutsideAgain self.old.pass self.new.pass }
         ensures went { (ids : List ℕ) (accounts : Accounts) → AreSeats seats.old ids accounts → AreRising ids
             → WentOn O.given O.faults (λ accounts gots. Takes ids accounts now from bytes (session_named bytes) gots) ids self.old self.new seats.new result accounts }
     {
@@ -219,6 +227,7 @@ impl<O: Outlet> Hand<O> {
         requires time { now ≤ LAST_TIME }
         requires short { length bytes ≤ RECEIVED_BYTES }
         ensures own { IsPassOf desk.now.node.now self.new.pass }
+        ensures outside { IsOutsideAgain self.old.pass self.new.pass }
         ensures went { (ids : List ℕ) (accounts : Accounts) → AreSeats seats.old ids accounts → AreRising ids
             → WentOn O.given O.faults (λ accounts gots. Takes ids accounts now from bytes (Some session) gots) ids self.old self.new seats.new result accounts }
     {
@@ -241,6 +250,7 @@ impl<O: Outlet> Hand<O> {
         requires own { IsPassOf desk.now.node.now self.old.pass }
         requires limits { IsWithinLimits job }
         ensures own { IsPassOf desk.now.node.now self.new.pass }
+        ensures outside { IsOutsideAgain self.old.pass self.new.pass }
         ensures went { (ids : List ℕ) (accounts : Accounts) → AreSeats seats.old ids accounts → AreRising ids
             → WentOn O.given O.faults (λ accounts gots. Does ids accounts job gots) ids self.old self.new seats.new result accounts }
         ensures end { IfOk result (λ is. is ≡ is_end job) }
@@ -263,6 +273,7 @@ impl<O: Outlet> Hand<O> {
         requires within { IsWithin call.deed }
         requires form { HasForm call.event }
         ensures own { IsPassOf desk.now.node.now self.new.pass }
+        ensures outside { IsOutsideAgain self.old.pass self.new.pass }
         ensures acted { (session : ℕ) → Acts desk.now.node.now.origin session call self.old self.new result }
         ensures outlet { self.new.outlet ≡ self.old.outlet }
     {

@@ -4,6 +4,7 @@ ghost use Rattle.std.specs.Prelude.{◌≡◌, ◌≤◌, [], IfOk, OnOk};
 ghost use Rattle.mt_model.specs.declared.limits.TheConstants.{LAST_TIME};
 ghost use Rattle.mt_queue.specs.Jobs.{IsEnded, IsWithinLimits, is_end};
 ghost use Rattle.mt_shared.specs.Shared.{IsPassOf};
+ghost use Rattle.mt_turn.specs.History.{IsOutsideAgain};
 ghost use Rattle.mt_worker.specs.Works.{Reported, Ticked, TickedThrough};
 
 use crate::acting::Desk;
@@ -29,7 +30,7 @@ pub fn reporter<R: Wait, K: Keeper + Drop + Send, V: Verdicts + Drop, G: Gate>(
 ) -> Done<()>
     requires own { IsPassOf node.now pass }
     requires fresh { jobs.taken ≡ [] }
-    ensures own { IsPassOf node.now result.pass }
+    ensures outside { IsOutsideAgain pass result.pass }
     ensures queue { result.queue.queue ≡ jobs.queue }
     ensures ended { IsEnded result.queue.taken }
     ensures reported { Reported pass result }
@@ -61,6 +62,7 @@ fn report<R: Wait, K: Keeper + Drop + Send, V: Verdicts + Drop, G: Gate>(
     requires own { IsPassOf desk.now.node.now pass.old }
     requires fresh { jobs.old.taken ≡ [] }
     ensures own { IsPassOf desk.now.node.now pass.new }
+    ensures outside { IsOutsideAgain pass.old pass.new }
     ensures queue { jobs.new.queue ≡ jobs.old.queue }
     ensures ended { OnOk result (IsEnded jobs.new.taken) }
     ensures ticked { TickedThrough jobs.new.taken pass.old pass.new result }
@@ -83,6 +85,7 @@ fn is_end_after<R: Wait, K: Keeper + Drop + Send, V: Verdicts + Drop, G: Gate>(
     requires own { IsPassOf desk.now.node.now pass.old }
     requires limits { IsWithinLimits job.now }
     ensures own { IsPassOf desk.now.node.now pass.new }
+    ensures outside { IsOutsideAgain pass.old pass.new }
     ensures ticked { Ticked job.now pass.old pass.new result }
     ensures end { IfOk result (λ is. is ≡ is_end job.now) }
 {
@@ -105,6 +108,7 @@ fn tick<R: Wait, K: Keeper + Drop + Send, V: Verdicts + Drop, G: Gate>(
     requires own { IsPassOf desk.now.node.now pass.old }
     requires time { now ≤ LAST_TIME }
     ensures own { IsPassOf desk.now.node.now pass.new }
+    ensures outside { IsOutsideAgain pass.old pass.new }
     ensures ticked { Ticked (Job.Wake now) pass.old pass.new result }
 {
     let call = Call {

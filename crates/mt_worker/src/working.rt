@@ -3,6 +3,7 @@
 ghost use Rattle.std.specs.Prelude.{◌≡◌, [], ℕ, List, All, map, IfOk, OnOk};
 ghost use Rattle.mt_queue.specs.Jobs.{IsEnded};
 ghost use Rattle.mt_shared.specs.Shared.{IsPassOf};
+ghost use Rattle.mt_turn.specs.History.{IsOutsideAgain};
 ghost use Rattle.mt_worker.specs.Accounts.{Accounts};
 ghost use Rattle.mt_worker.specs.Due.{AreRising, HaveBegun, IsServed, id_of};
 ghost use Rattle.mt_worker.specs.Faults.{status_of};
@@ -22,6 +23,7 @@ use std::alloc::{AllocError, Global};
 use std::sync::Wait;
 
 /// What is left of a worker or of the reporter.
+#[derive(Drop)]
 pub struct Done<O> {
     /// The outlet of a worker; the reporter has none.
     pub outlet: O,
@@ -31,17 +33,6 @@ pub struct Done<O> {
     pub queue: QueuePass,
     /// 0, or the fault that it met: 7 want of memory, 8 a commit that failed, 12 an outlet that failed, 13 a full record.
     pub status: u8,
-}
-
-impl<O: Drop> Drop for Done<O> {
-    fn drop(self) {
-        let Done {
-            outlet: _,
-            pass: _,
-            queue: _,
-            status: _,
-        } = self;
-    }
 }
 
 /// A worker: the sessions of these rows are its own. It takes jobs until the end message. To a datagram it gives what is to be
@@ -62,7 +53,7 @@ pub fn worker<R: Wait, K: Keeper + Drop + Send, V: Verdicts + Drop, O: Outlet + 
     requires rows { All IsServed rows.now }
     requires rising { AreRising (map id_of rows.now) }
     requires fresh { jobs.taken ≡ [] }
-    ensures own { IsPassOf node.now result.pass }
+    ensures outside { IsOutsideAgain pass result.pass }
     ensures queue { result.queue.queue ≡ jobs.queue }
     ensures ended { IsEnded result.queue.taken }
     ensures worked { (accounts : Accounts) → HaveBegun rows.now accounts → Worked O.given O.faults rows.now accounts pass outlet result }
@@ -101,6 +92,7 @@ impl<O: Outlet> Hand<O> {
         requires rising { AreRising (map id_of rows.now) }
         requires fresh { jobs.old.taken ≡ [] }
         ensures own { IsPassOf desk.now.node.now self.new.pass }
+        ensures outside { IsOutsideAgain self.old.pass self.new.pass }
         ensures queue { jobs.new.queue ≡ jobs.old.queue }
         ensures ended { OnOk result (IsEnded jobs.new.taken) }
         ensures worked { (accounts : Accounts) → HaveBegun rows.now accounts
@@ -120,6 +112,7 @@ impl<O: Outlet> Hand<O> {
         requires own { IsPassOf desk.now.node.now self.old.pass }
         requires fresh { jobs.old.taken ≡ [] }
         ensures own { IsPassOf desk.now.node.now self.new.pass }
+        ensures outside { IsOutsideAgain self.old.pass self.new.pass }
         ensures queue { jobs.new.queue ≡ jobs.old.queue }
         ensures ended { OnOk result (IsEnded jobs.new.taken) }
         ensures worked { (ids : List ℕ) (accounts : Accounts) → AreSeats seats.old ids accounts → AreRising ids

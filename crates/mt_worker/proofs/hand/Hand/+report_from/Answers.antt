@@ -1,4 +1,4 @@
-use Rattle.std.proofs.Common.{◌≡◌, ◌+◌, ◌∷◌, [], Err, List, arith, drop, refl, rules, subst, sym}
+use Rattle.std.proofs.Common.{◌≡◌, ◌+◌, ◌∷◌, [], Err, List, drop, refl, rules, subst, sym}
 use Rattle.mt_worker.specs.Accounts.{Account, account_over}
 use Rattle.mt_worker.specs.Due.{Reports}
 use Rattle.mt_worker.specs.Gots.{Got}

@@ -1,10 +1,12 @@
-use Rattle.std.proofs.Common.{◌≡◌, ◌≢◌, ◌∙◌, ◌∷◌, [], rules, sym}
+use Rattle.std.proofs.lemmas.List.{nil_from_length}
+use Rattle.std.proofs.Common.{length, ◌≡◌, ◌∙◌, ◌∷◌, [], rules, sym}
 use Rattle.mt_worker.proofs.Sweeps.{take_here, take_none, take_there}
 use Rattle.mt_worker.proofs.hand.Hand.+take_of.Goals as goal
 
 pub returns-in_default-clause-went : goal.returns-in_default-clause-went
 returns-in_default-clause-went g t c ids accounts are rising =
-    let none : c.args.seats.now ≡ [] = search rules in
+    let zero : length c.args.seats.now ≡ 0 = search rules in
+    let none : c.args.seats.now ≡ [] = nil_from_length c.args.seats.now zero in
     take_none g.O.Outlet.given g.O.Outlet.faults _ _ c.args.session c.args.now c.args.from c.args.bytes ids c.args.self.now c.args.seats.now accounts c.requires.own.2 none are
 
 pub returns-then-session-clause-went : goal.returns-then-session-clause-went

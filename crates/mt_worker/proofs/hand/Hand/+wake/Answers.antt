@@ -1,14 +1,14 @@
-use Rattle.std.proofs.Common.{◌≡◌, ◌∷◌, [], Err, rules, subst, sym}
-use Rattle.mt_worker.specs.Accounts.{Accounts}
+use Rattle.std.proofs.lemmas.List.{nil_from_length}
+use Rattle.std.proofs.Common.{length, ◌≡◌, ◌∷◌, [], Err, rules, subst, sym}
 use Rattle.mt_worker.specs.Due.{Sweeps}
-use Rattle.mt_worker.specs.Gots.{Got}
 use Rattle.mt_worker.specs.Works.{WentOn}
 use Rattle.mt_worker.proofs.Sweeps.{wake_fails, wake_goes, wake_none}
 use Rattle.mt_worker.proofs.hand.Hand.+wake.Goals as goal
 
 pub returns-in_default-clause-went : goal.returns-in_default-clause-went
 returns-in_default-clause-went g t c ids accounts are rising =
-    let none : c.args.seats.now ≡ [] = search rules in
+    let zero : length c.args.seats.now ≡ 0 = search rules in
+    let none : c.args.seats.now ≡ [] = nil_from_length c.args.seats.now zero in
     wake_none g.O.Outlet.given g.O.Outlet.faults _ _ c.args.now ids c.args.self.now c.args.seats.now accounts c.requires.own.2 none are
 
 pub returns-in_err-wake_over-clause-went : goal.returns-in_err-wake_over-clause-went

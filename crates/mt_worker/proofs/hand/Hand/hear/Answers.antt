@@ -1,4 +1,4 @@
-use Rattle.std.proofs.Common.{◌≡◌, ◌∙◌, ◌∷◌, [], ◌++◌, Err, List, ap, refl, rules, subst, sym}
+use Rattle.std.proofs.Common.{◌≡◌, ◌∙◌, ◌∷◌, [], Err, List, ap, refl, rules, subst, sym}
 use Rattle.mt_worker.specs.Accounts.{Account, ends_of}
 use Rattle.mt_worker.specs.Due.{Hears, call_heard}
 use Rattle.mt_worker.specs.Gots.{Goes, Got}

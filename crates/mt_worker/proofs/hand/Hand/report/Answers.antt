@@ -1,8 +1,8 @@
-use Rattle.std.proofs.Common.{◌≡◌, ◌∙◌, ◌∷◌, [], ◌++◌, Err, List, ap, refl, rules, subst, sym}
-use Rattle.mt_worker.specs.Accounts.{Account, ends_of}
+use Rattle.std.proofs.Common.{◌≡◌, ◌∷◌, [], Err, List, refl, rules, subst, sym}
+use Rattle.mt_worker.specs.Accounts.{Account}
 use Rattle.mt_worker.specs.Due.{Reports}
-use Rattle.mt_worker.specs.Gots.{Goes, Got}
-use Rattle.mt_worker.specs.Works.{WentOver, got_by}
+use Rattle.mt_worker.specs.Gots.{Got}
+use Rattle.mt_worker.specs.Works.{WentOver}
 use Rattle.mt_worker.specs.declared.fault.WorkFault.TheVariants.{Memory}
 use Rattle.mt_worker.proofs.Calls.{report_got, report_sent, report_stands, reports}
 use Rattle.mt_worker.proofs.Works.{went_denied, went_sent, went_unsaid}

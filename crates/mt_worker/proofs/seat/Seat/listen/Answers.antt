@@ -1,9 +1,8 @@
 use Rattle.std.proofs.Common.{◌≡◌, ◌∙◌, ap, subst, ℕ, List, rules}
-use Rattle.mt_layer.specs.Answering.{answer_by, answered_with}
+use Rattle.mt_layer.specs.Answering.{answered_with}
 use Rattle.mt_layer.specs.Deeds.{deed_heard, said_as_live}
 use Rattle.mt_layer.specs.Keeping.{IsKeptOf}
 use Rattle.mt_layer.specs.Saying.{heard_as_live}
-use Rattle.mt_model.specs.declared.messages.message.Reply.{Reply}
 use Rattle.mt_model.specs.declared.texts.recording.Event.TheVariants.{Datagram}
 use Rattle.mt_worker.proofs.seat.Seat.listen.Goals as goal
 

@@ -1,4 +1,4 @@
-use Rattle.std.proofs.Common.{◌≡◌, ◌∙◌, sym, subst}
+use Rattle.std.proofs.Common.{◌∙◌, sym, subst}
 use Rattle.mt_layer.specs.Keeping.{IsKeptOf}
 use Rattle.mt_layer.specs.declared.session_talk.SessionTalk.{SessionTalk}
 use Rattle.mt_worker.specs.Accounts.{still_standing}
