@@ -1,5 +1,5 @@
 -- What a call makes of the book and of the keeper.
-use Rattle.std.specs.Prelude.{◌≡◌, ◌+◌, ◌⊎◌, ℕ, Bool, true, List, [], ◌∷◌, ◌++◌, Option, Some, length, slice_get}
+use Rattle.std.specs.Prelude.{◌≡◌, ◌+◌, ◌⊎◌, ℕ, Bool, true, false, List, [], ◌∷◌, ◌++◌, Option, Some, None, length, slice_get}
 use Rattle.mt_durable.specs.declared.durable.Entry as kept
 use Rattle.mt_grammar.specs.Grammar.{is_in_grammar}
 use Rattle.mt_model.specs.declared.texts.config.CsrRow.{CsrRow}
@@ -47,10 +47,16 @@ pub record IsFull (entries bytes : ℕ) (call : Call) (found book : List Entry) 
   pub bytes_are : bytes ≡ record_size book
   pub same : book ≡ found
 
+-- Memory is wanting. The book is as it was, no commit has failed, and there was room.
+pub record IsWanting (call : Call) (found book : List Entry) : Type 0 where
+  pub runs : stop_in found ≡ None
+  pub room : is_full found call ≡ false
+  pub same : book ≡ found
+
 abbrev pub Refuses : ActFault → Call → List Entry → List Entry → Type 0
 Refuses (Stopped stop) call found book = IsStopped stop call found book
 Refuses (RecordFull entries bytes) call found book = IsFull entries bytes call found book
-Refuses Memory call found book = book ≡ found
+Refuses Memory call found book = IsWanting call found book
 
 -- What a keeper has behind a call that was refused: what it had; or, where the commit of this call failed, what it had or the map of the node as
 -- it would be behind the call.

@@ -1,6 +1,6 @@
 //! The node under a lock: threads take turns with it, and each call stands in the one book.
 
-ghost use Rattle.std.specs.Prelude.{◌≡◌, ◌≤◌, ◌<◌, ◌⊎◌, ℕ, None, Ok, Some, false, length, IfErr, IfOk};
+ghost use Rattle.std.specs.Prelude.{◌≡◌, ◌≤◌, ◌<◌, ◌⊎◌, ℕ, Err, None, Ok, Some, false, length, IfErr, IfOk};
 ghost use mathlib.Core.List.{IsPrefix};
 ghost use Rattle.mt_files.specs.Form.{HasForm};
 ghost use Rattle.mt_interactions.specs.Deeds.{IsWithin};
@@ -94,6 +94,7 @@ impl<K: Keeper + Drop + Send, V: Verdicts + Drop> SharedNode<K, V> {
         ensures seen { IsPrefix pass.old.seen pass.new.seen }
         ensures answered { IfOk result (IsAnswered self.now.origin pass.old pass.new call) }
         ensures refused { IfErr result (IsRefused pass.old pass.new call) }
+        ensures again { (it : AnyStop) → stop_in pass.old.seen ≡ Some it → result ≡ Err (ActFault.Stopped it) }
     {
         origins_cross();
         interactions_cross();

@@ -54,8 +54,9 @@ pub(crate) fn planned_datagram<V: Verdicts>(
     }
 }
 
-/// The session that a datagram names in its message header.
-pub(crate) fn session_named(bytes: &[u8]) -> Option<u16>
+/// The session that a datagram names in its message header, None where it has none: then it is too short, no header of a unicast
+/// session, or has more than 65,535 bytes. It is not opened.
+pub fn session_named(bytes: &[u8]) -> Option<u16>
     ensures exact { result ≡ session_named bytes.now }
     ensures short { result ≢ None → length bytes.now < 2 ^ 16 }
 {

@@ -26,6 +26,7 @@ mod standing;
 mod talks;
 mod whole;
 
+pub use datagrams::session_named;
 pub use laws::{closed_sessions_are_those_that_end, own_parts_are_standings_and_talks};
 pub use mt_marks::{Descriptor, Descriptors, Mark, Recent};
 pub use outcome::WholeOutcome;

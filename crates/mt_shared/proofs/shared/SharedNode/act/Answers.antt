@@ -7,7 +7,7 @@ use Rattle.mt_shared.specs.Shared.{NodePass, SharedView}
 use Rattle.mt_shared.specs.declared.entry.Entry.{Entry}
 use Rattle.mt_shared.specs.contracts.held.Held as held
 use Rattle.mt_shared.proofs.Carrying.{held_send}
-use Rattle.mt_shared.proofs.Turns.{answered_if, grows, origin_same, refused_if, still_seen}
+use Rattle.mt_shared.proofs.Turns.{answered_if, grows, origin_same, refused_if, still_seen, stop_stays}
 use Rattle.mt_shared.proofs.shared.SharedNode.act.Goals as goal
 
 pub enter-held-requires-send-T : goal.enter-held-requires-send-T
@@ -43,10 +43,13 @@ returns-clause-answered g c =
     let book = c.act-answer.new.self.book.items in
     let origin : c.act-answer.new.self.origin.value ≡ c.args.self.now.origin = c.act-answer.ensures.origin ∙ origin_same held.origin.value c.args.self.now.origin (sym c.enter-held.ensures.origin ∙ c.requires.own.1) in
     answered_if c.act-answer.result c.act-answer.new.self.origin.value c.args.self.now.origin c.args.pass.now c.enter-held.new.pass c.leave.new.pass held.book.items book c.args.call origin c.enter-held.ensures.inside c.enter-held.ensures.begins
-    c.enter-held.ensures.places c.act-answer.ensures.entered c.act-answer.ensures.room c.leave.ensures.outside c.leave.ensures.grown
+    c.enter-held.ensures.places c.act-answer.ensures.entered c.act-answer.ensures.room c.act-answer.ensures.again c.leave.ensures.outside c.leave.ensures.grown
 
 pub returns-clause-refused : goal.returns-clause-refused
 returns-clause-refused g c =
     let held = c.enter-held.result in
     let book = c.act-answer.new.self.book.items in
-    refused_if c.act-answer.result c.args.pass.now c.enter-held.new.pass c.leave.new.pass held.book.items book c.args.call c.enter-held.ensures.inside c.enter-held.ensures.begins c.act-answer.ensures.refused c.leave.ensures.outside
+    refused_if c.act-answer.result c.args.pass.now c.enter-held.new.pass c.leave.new.pass held.book.items book c.args.call c.enter-held.ensures.inside c.enter-held.ensures.begins c.act-answer.ensures.refused c.leave.ensures.outside c.act-answer.ensures.again c.act-answer.ensures.full
+
+pub returns-clause-again : goal.returns-clause-again
+returns-clause-again g c stop is = c.act-answer.ensures.again stop (stop_stays c.args.pass.now.seen c.enter-held.result.book.items stop c.enter-held.ensures.begins is)

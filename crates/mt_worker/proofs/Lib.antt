@@ -1,0 +1,6 @@
+mod Calls
+mod Giving
+mod Passes
+mod Sessions
+mod Sweeps
+mod Works

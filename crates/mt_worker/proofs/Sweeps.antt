@@ -1,0 +1,125 @@
+-- Parts of a worker's work over several sessions: of one of them, of one after another, and of one job after another.
+use Rattle.std.proofs.Common.{◌≡◌, ◌≢◌, ◌∙◌, refl, sym, ap, subst, ℕ, ◌<◌, Bool, true, false, cond, List, [], ◌∷◌, ◌++◌, Option, Some, Result, Ok, Err, OnOk, All, append-nil, append_assoc, eq-eqb, ne_eqb}
+use Rattle.std.specs.Prelude.{◌||◌, if◌then◌else◌}
+use Rattle.mt_outside.specs.declared.network.Parcel.{Parcel}
+use Rattle.mt_outside.specs.declared.network.Peer.{Peer}
+use Rattle.mt_model.specs.declared.texts.recording.Sent.{Sent}
+use Rattle.mt_queue.specs.declared.job.Job.{Job}
+use Rattle.mt_worker.specs.Accounts.{Account, Accounts, account_over, all_behind, all_sent, sent_over}
+use Rattle.mt_worker.specs.Due.{AreRising, Does, DoesAll, Hears, Sweeps, Takes, Wakes, is_in}
+use Rattle.mt_worker.specs.Gots.{Got}
+use Rattle.mt_worker.specs.Seats.{AreSeats, IsSeatOf}
+use Rattle.mt_worker.specs.Works.{AreOver, AreOverOne, Went, WentOn, WentOver, WentThrough}
+use Rattle.mt_worker.specs.declared.fault.WorkFault.{WorkFault}
+use Rattle.mt_worker.specs.declared.hand.Hand.{Hand}
+use Rattle.mt_worker.specs.declared.seat.Seat.{Seat}
+use Rattle.mt_worker.proofs.Sessions.{all_both, apart, behind_both, first_over, later_over, later_same, one_behind, one_sent, others_behind, over_on, rows_stay, seats_same}
+use Rattle.mt_worker.proofs.Works.{failed_as, ok_as, went_on}
+
+-- ONE JOB AFTER ANOTHER.
+does_push : (ids : List ℕ) (accounts : Accounts) (jobs : List Job) (job : Job) (xs ys : List Got) → DoesAll ids accounts jobs xs → Does ids (all_behind accounts xs) job ys → DoesAll ids accounts (jobs ++ job ∷ []) (xs ++ ys)
+does_push ids accounts [] job xs ys all its =
+    let its_own : Does ids accounts job ys = subst (λ (gots : List Got). Does ids (all_behind accounts gots) job ys) all its in
+    (ys, [], ap (λ (gots : List Got). gots ++ ys) all ∙ sym (append-nil ys), its_own, refl)
+does_push ids accounts (first ∷ jobs) job xs ys all its =
+    let mine = all.0 in
+    let rest = all.1 in
+    let here : Does ids (all_behind (all_behind accounts mine) rest) job ys = subst (λ (f : Accounts). Does ids f job ys) (ap (all_behind accounts) all.2 ∙ behind_both accounts mine rest) its in
+    (mine, rest ++ ys, ap (λ (gots : List Got). gots ++ ys) all.2 ∙ append_assoc mine rest ys, all.3, does_push ids (all_behind accounts mine) jobs job rest ys all.4 here)
+
+module _ {O : Type 0} (given : O → Option (List Parcel)) (faults : O → ℕ) where
+  -- one part after another
+  pub on_on : {T U : Type 0} (t : T) (One Two Both : Accounts → List Got → Type 0) (ids : List ℕ) (x y z : Hand O) (mid seats : List Seat) (result : Result U WorkFault) (accounts : Accounts) (first : WentOn given faults One ids x y mid (Ok {T = T} {E = WorkFault} t) accounts)
+      → WentOn given faults Two ids y z seats result (all_behind accounts first.gots) → ((ys : List Got) → Two (all_behind accounts first.gots) ys → Both accounts (first.gots ++ ys)) → WentOn given faults Both ids x z seats result accounts
+  on_on t One Two Both ids x y z mid seats result accounts first then both = record {
+    gots = first.gots ++ then.gots;
+    went = subst (Went given faults x z result (first.gots ++ then.gots)) (sym (all_both accounts first.gots then.gots)) (went_on given faults t x y z result first.gots then.gots _ _ first.went then.went);
+    over = over_on ids first.gots then.gots first.over then.over;
+    did = ok_as given faults result _ _ (both then.gots) then.did;
+    stands = subst (λ (f : Accounts). OnOk result (AreSeats seats ids f)) (sym (behind_both accounts first.gots then.gots)) then.stands;
+  }
+
+  pub job_on : {T U : Type 0} (t : T) (ids : List ℕ) (jobs : List Job) (job : Job) (x y z : Hand O) (mid seats : List Seat) (result : Result U WorkFault) (accounts : Accounts) (first : WentOn given faults (λ (f : Accounts) (gots : List Got). DoesAll ids f jobs gots) ids x y mid (Ok {T = T} {E = WorkFault} t) accounts)
+      → WentOn given faults (λ (f : Accounts) (gots : List Got). Does ids f job gots) ids y z seats result (all_behind accounts first.gots) → WentOn given faults (λ (f : Accounts) (gots : List Got). DoesAll ids f (jobs ++ job ∷ []) gots) ids x z seats result accounts
+  job_on t ids jobs job x y z mid seats result accounts first then =
+      on_on t _ _ (λ (f : Accounts) (gots : List Got). DoesAll ids f (jobs ++ job ∷ []) gots) ids x y z mid seats result accounts first then (λ ys its. does_push ids accounts jobs job first.gots ys first.did its)
+
+  pub through : {T : Type 0} (ids : List ℕ) (jobs : List Job) (x y : Hand O) (seats : List Seat) (result : Result T WorkFault) (accounts : Accounts) → WentOn given faults (λ (f : Accounts) (gots : List Got). DoesAll ids f jobs gots) ids x y seats result accounts → WentThrough given faults ids jobs x y result accounts
+  through ids jobs x y seats result accounts went = record { gots = went.gots; went = went.went; over = went.over; did = went.did }
+
+  -- a fault stays one, whatever else was due
+  pub on_failed : {T U : Type 0} (One Both : Accounts → List Got → Type 0) (ids : List ℕ) (x y : Hand O) (mid seats : List Seat) (fault : WorkFault) (accounts : Accounts) → WentOn given faults One ids x y mid (Err {T} fault) accounts → WentOn given faults Both ids x y seats (Err {U} fault) accounts
+  on_failed One Both ids x y mid seats fault accounts went = record { gots = went.gots; went = failed_as given faults x y fault went.gots (all_sent accounts went.gots) went.went; over = went.over; did = tt; stands = tt }
+
+  -- ONE SESSION AMONG SEVERAL: the first.
+  module _ (ids : List ℕ) (id : ℕ) (accounts : Accounts) (its : (accounts id).row.session ≡ id) where
+    over_id : (gots : List Got) → AreOverOne (accounts id).row.session gots → AreOverOne id gots
+    over_id gots over = subst (λ (i : ℕ). AreOverOne i gots) its over
+
+    first_went : {T : Type 0} (x y : Hand O) (result : Result T WorkFault) (gots : List Got) → AreOverOne id gots → Went given faults x y result gots (sent_over (accounts id) gots) → Went given faults x y result gots (all_sent accounts gots)
+    first_went x y result gots over went = subst (Went given faults x y result gots) (sym (one_sent accounts id gots over)) went
+
+    first_seats : (seat : Seat) (seats : List Seat) (gots : List Got) → All (λ later. id < later) ids → AreOverOne id gots → IsSeatOf seat (account_over (accounts id) gots) → AreSeats seats ids accounts → AreSeats (seat ∷ seats) (id ∷ ids) (all_behind accounts gots)
+    first_seats seat seats gots above over stands others =
+        let here : all_behind accounts gots id ≡ account_over (accounts id) gots = one_behind accounts id gots over in
+        (ap (λ (a : Account). a.row.session) here ∙ ap (λ row. row.session) (rows_stay (accounts id) gots) ∙ its, subst (IsSeatOf seat) (sym here) stands, seats_same seats ids accounts (all_behind accounts gots) (later_same accounts id ids gots above over) others)
+
+    -- A WAKE: the first session, and then the others.
+    pub wake_failed : {T U : Type 0} (now : ℕ) (x y : Hand O) (seat : Seat) (seats : List Seat) (fault : WorkFault) → WentOver given faults (λ (a : Account) (gots : List Got). Wakes a now gots) x y seat (Err {T} fault) (accounts id)
+        → WentOn given faults (λ (f : Accounts) (gots : List Got). Sweeps now (id ∷ ids) f gots) (id ∷ ids) x y seats (Err {U} fault) accounts
+    wake_failed now x y seat seats fault first =
+        let over = over_id first.gots first.over in
+        record { gots = first.gots; went = failed_as given faults x y fault first.gots (all_sent accounts first.gots) (first_went x y _ first.gots over first.went); over = first_over id ids first.gots over; did = tt; stands = tt }
+
+    pub wake_others : {T : Type 0} (t : T) (now : ℕ) (x y : Hand O) (seat : Seat) (seats : List Seat) → All (λ later. id < later) ids → AreSeats seats ids accounts → (first : WentOver given faults (λ (a : Account) (gots : List Got). Wakes a now gots) x y seat (Ok {T = T} {E = WorkFault} t) (accounts id))
+        → AreSeats seats ids (all_behind accounts first.gots)
+    wake_others t now x y seat seats above others first = seats_same seats ids accounts (all_behind accounts first.gots) (later_same accounts id ids first.gots above (over_id first.gots first.over)) others
+
+    pub wake_then : {T U : Type 0} (t : T) (now : ℕ) (x y z : Hand O) (seat : Seat) (seats : List Seat) (result : Result U WorkFault) → All (λ later. id < later) ids
+        → (first : WentOver given faults (λ (a : Account) (gots : List Got). Wakes a now gots) x y seat (Ok {T = T} {E = WorkFault} t) (accounts id))
+        → WentOn given faults (λ (f : Accounts) (gots : List Got). Sweeps now ids f gots) ids y z seats result (all_behind accounts first.gots)
+        → WentOn given faults (λ (f : Accounts) (gots : List Got). Sweeps now (id ∷ ids) f gots) (id ∷ ids) x z (seat ∷ seats) result accounts
+    wake_then t now x y z seat seats result above first rest =
+        let over = over_id first.gots first.over in
+        let mid : Accounts = all_behind accounts first.gots in
+        let stays : all_behind mid rest.gots id ≡ account_over (accounts id) first.gots = others_behind mid id rest.gots (apart id ids rest.gots above rest.over) ∙ one_behind accounts id first.gots over in
+        let seated : AreSeats seats ids (all_behind mid rest.gots) → AreSeats (seat ∷ seats) (id ∷ ids) (all_behind accounts (first.gots ++ rest.gots)) = λ are.
+        subst (AreSeats (seat ∷ seats) (id ∷ ids)) (sym (behind_both accounts first.gots rest.gots))
+        (ap (λ (a : Account). a.row.session) stays ∙ ap (λ row. row.session) (rows_stay (accounts id) first.gots) ∙ its, subst (IsSeatOf seat) (sym stays) first.stands, are) in
+        record {
+          gots = first.gots ++ rest.gots;
+          went = subst (Went given faults x z result (first.gots ++ rest.gots)) (sym (all_both accounts first.gots rest.gots)) (went_on given faults t x y z result first.gots rest.gots _ _ (first_went x y _ first.gots over first.went) rest.went);
+          over = over_on (id ∷ ids) first.gots rest.gots (first_over id ids first.gots over) (later_over id ids rest.gots rest.over);
+          did = ok_as given faults result _ _ (λ (sweeps : Sweeps now ids mid rest.gots). (first.gots, rest.gots, refl, first.did, sweeps)) rest.did;
+          stands = ok_as given faults result _ _ seated rest.stands;
+        }
+
+    -- A DATAGRAM: it is the first session's, or another's.
+    pub take_first : {T : Type 0} (session now : ℕ) (from : Peer) (bytes : List ℕ) (x y : Hand O) (seat : Seat) (seats : List Seat) (result : Result T WorkFault) → id ≡ session → All (λ later. id < later) ids → AreSeats seats ids accounts
+        → WentOver given faults (λ (a : Account) (gots : List Got). Hears a now from bytes gots) x y seat result (accounts id)
+        → WentOn given faults (λ (f : Accounts) (gots : List Got). Takes (id ∷ ids) f now from bytes (Some session) gots) (id ∷ ids) x y (seat ∷ seats) result accounts
+    take_first session now from bytes x y seat seats result same above others first =
+        let over = over_id first.gots first.over in
+        let is : is_in (id ∷ ids) session ≡ true = ap (λ (b : Bool). b || is_in ids session) (eq-eqb id session same) in
+        record {
+          gots = first.gots;
+          went = first_went x y result first.gots over first.went;
+          over = first_over id ids first.gots over;
+          did = ok_as given faults result _ _ (λ (heard : Hears (accounts id) now from bytes first.gots).
+              subst (λ (b : Bool). if b then Hears (accounts session) now from bytes first.gots else (first.gots ≡ [])) (sym is) (subst (λ (i : ℕ). Hears (accounts i) now from bytes first.gots) same heard)) first.did;
+          stands = ok_as given faults result _ _ (λ (stands : IsSeatOf seat (account_over (accounts id) first.gots)). first_seats seat seats first.gots above over stands others) first.stands;
+        }
+
+    pub take_other : {T : Type 0} (session now : ℕ) (from : Peer) (bytes : List ℕ) (x y : Hand O) (seat : Seat) (seats : List Seat) (result : Result T WorkFault) → id ≢ session → All (λ later. id < later) ids → IsSeatOf seat (accounts id)
+        → WentOn given faults (λ (f : Accounts) (gots : List Got). Takes ids f now from bytes (Some session) gots) ids x y seats result accounts
+        → WentOn given faults (λ (f : Accounts) (gots : List Got). Takes (id ∷ ids) f now from bytes (Some session) gots) (id ∷ ids) x y (seat ∷ seats) result accounts
+    take_other session now from bytes x y seat seats result differs above stands rest =
+        let same : is_in (id ∷ ids) session ≡ is_in ids session = ap (λ (b : Bool). b || is_in ids session) (ne_eqb id session differs) in
+        let stays : all_behind accounts rest.gots id ≡ accounts id = others_behind accounts id rest.gots (apart id ids rest.gots above rest.over) in
+        record {
+          gots = rest.gots;
+          went = rest.went;
+          over = later_over id ids rest.gots rest.over;
+          did = ok_as given faults result _ _ (λ (took : Takes ids accounts now from bytes (Some session) rest.gots). subst (λ (b : Bool). if b then Hears (accounts session) now from bytes rest.gots else (rest.gots ≡ [])) (sym same) took) rest.did;
+          stands = ok_as given faults result _ _ (λ (are : AreSeats seats ids (all_behind accounts rest.gots)). (ap (λ (a : Account). a.row.session) stays ∙ its, subst (IsSeatOf seat) (sym stays) stands, are)) rest.stands;
+        }

@@ -1,0 +1,7 @@
+pub mod Accounts
+pub mod Due
+pub mod Faults
+pub mod Giving
+pub mod Gots
+pub mod Seats
+pub mod Works

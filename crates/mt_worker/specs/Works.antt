@@ -1,0 +1,122 @@
+-- What a worker did, and the reporter.
+use Rattle.std.specs.Prelude.{◌≡◌, ◌≢◌, ℕ, ⊤, true, List, [], ◌∷◌, Option, Result, All, is_some, map, IfErr, IfOk, OnOk}
+use Rattle.mt_interactions.specs.Configured.{ConfiguredInteractions}
+use Rattle.mt_model.specs.declared.texts.config.SessionRow.{SessionRow}
+use Rattle.mt_model.specs.declared.texts.recording.Sent.{Sent}
+use Rattle.mt_outside.specs.declared.network.Parcel.{Parcel}
+use Rattle.mt_queue.specs.declared.job.Job.{Job}
+use Rattle.mt_shared.specs.Book.{done}
+use Rattle.mt_shared.specs.Shared.{NodePass}
+use Rattle.mt_shared.specs.declared.entry.Call.{Call}
+use Rattle.mt_shared.specs.declared.entry.Stamped.{Stamped}
+use Rattle.mt_worker.specs.Accounts.{Account, Accounts, account_over, all_behind, all_sent, sent_over}
+use Rattle.mt_worker.specs.Due.{DoesAll, Ticks, TicksAll, id_of, is_in}
+use Rattle.mt_worker.specs.Faults.{Counts, IsCause, status_of}
+use Rattle.mt_worker.specs.Giving.{Gave, GavePart, parcels_in}
+use Rattle.mt_worker.specs.Gots.{Goes, Got}
+use Rattle.mt_worker.specs.Seats.{AreSeats, IsSeatOf}
+use Rattle.mt_worker.specs.declared.fault.WorkFault.{WorkFault}
+use Rattle.mt_worker.specs.declared.fault.WorkFault.TheVariants.{Link}
+use Rattle.mt_worker.specs.declared.hand.Hand.{Hand}
+use Rattle.mt_worker.specs.declared.seat.Seat.{Seat}
+use Rattle.mt_worker.specs.declared.worker.Done.{Done}
+
+-- all were made over this session
+abbrev pub AreOverOne : ℕ → List Got → Type 0
+AreOverOne session gots = All (λ (got : Got). got.session ≡ session) gots
+
+-- over one of these
+abbrev pub AreOver : List ℕ → List Got → Type 0
+AreOver ids gots = All (λ (got : Got). is_in ids got.session ≡ true) gots
+
+-- a stop, or nothing
+abbrev pub AreStops : ℕ → List Got → Type 0
+AreStops session gots = All (λ (got : Got). (got.session ≡ session) × (is_some got.told.0.stop ≡ true)) gots
+
+pub record GotNone (session : ℕ) (before after : NodePass) (fault : WorkFault) : Type 0 where
+  pub gots : List Got
+  pub goes : Goes before after gots
+  pub stops : AreStops session gots
+  pub not_link : fault ≢ Link
+  pub cause : IsCause after.seen fault
+
+module _ {O : Type 0} (given : O → Option (List Parcel)) (faults : O → ℕ) where
+  -- A part of a worker's work, which ended so: its calls got these, and these messages were to be sent. All were given to the outlet, or, with a
+  -- fault, the first of them.
+  pub record Went {T : Type 0} (before after : Hand O) (result : Result T WorkFault) (gots : List Got) (sent : List Sent) : Type 0 where
+    pub goes : Goes before.pass after.pass gots
+    pub all : OnOk result (Gave (given before.outlet) (given after.outlet) (parcels_in sent))
+    pub part : GavePart (given before.outlet) (given after.outlet) (parcels_in sent)
+    pub counts : Counts result (faults before.outlet) (faults after.outlet)
+    pub cause : IfErr result (IsCause after.pass.seen)
+
+  -- The same over one session: its calls were those that were due, and behind them the seat stands for the account behind them.
+  pub record WentOver {T : Type 0} (Due : Account → List Got → Type 0) (before after : Hand O) (seat : Seat) (result : Result T WorkFault) (a : Account) : Type 0 where
+    pub gots : List Got
+    pub went : Went before after result gots (sent_over a gots)
+    pub over : AreOverOne a.row.session gots
+    pub did : OnOk result (Due a gots)
+    pub stands : OnOk result (IsSeatOf seat (account_over a gots))
+
+  -- and over several
+  pub record WentOn {T : Type 0} (Due : Accounts → List Got → Type 0) (ids : List ℕ) (before after : Hand O) (seats : List Seat) (result : Result T WorkFault) (accounts : Accounts) : Type 0 where
+    pub gots : List Got
+    pub went : Went before after result gots (all_sent accounts gots)
+    pub over : AreOver ids gots
+    pub did : OnOk result (Due accounts gots)
+    pub stands : OnOk result (AreSeats seats ids (all_behind accounts gots))
+
+  -- and through all jobs that were taken
+  pub record WentThrough {T : Type 0} (ids : List ℕ) (jobs : List Job) (before after : Hand O) (result : Result T WorkFault) (accounts : Accounts) : Type 0 where
+    pub gots : List Got
+    pub went : Went before after result gots (all_sent accounts gots)
+    pub over : AreOver ids gots
+    pub did : OnOk result (DoesAll ids accounts jobs gots)
+
+  -- WHAT A WORKER DID, with these accounts as it began. Its calls got these, each over one of its sessions; what its outlet was given are the messages
+  -- that they send, all of them at status 0, else the first of them. At status 0 these calls are exactly those that the jobs give that it took.
+  pub record Worked (rows : List SessionRow) (accounts : Accounts) (pass : NodePass) (outlet : O) (done : Done O) : Type 0 where
+    pub result : Result ⊤ WorkFault
+    pub gots : List Got
+    pub status : done.status ≡ status_of result
+    pub goes : Goes pass done.pass gots
+    pub over : AreOver (map id_of rows) gots
+    pub all : OnOk result (Gave (given outlet) (given done.outlet) (parcels_in (all_sent accounts gots)))
+    pub part : GavePart (given outlet) (given done.outlet) (parcels_in (all_sent accounts gots))
+    pub did : OnOk result (DoesAll (map id_of rows) accounts done.queue.taken gots)
+    pub counts : Counts result (faults outlet) (faults done.outlet)
+    pub cause : IfErr result (IsCause done.pass.seen)
+
+-- what a call that was answered got
+abbrev pub got_by : ℕ → Call → Stamped → Got
+got_by session call stamped = record { place = stamped.place; session = session; told = (done call stamped.ms, stamped.answer) }
+
+-- A call was answered, which is a line of the book; or refused, and then it got nothing, or the stop.
+pub record Acts (origin : ConfiguredInteractions) (session : ℕ) (call : Call) {O : Type 0} (before after : Hand O) (result : Result Stamped WorkFault) : Type 0 where
+  pub answered : IfOk result (λ stamped. Goes before.pass after.pass (got_by session call stamped ∷ []))
+  pub refused : IfErr result (λ fault. GotNone session before.pass after.pass fault)
+
+-- A part of the reporter's work, for these calls that were due.
+
+pub record TickedBy {T : Type 0} (Due : List Got → Type 0) (before after : NodePass) (result : Result T WorkFault) : Type 0 where
+  pub gots : List Got
+  pub goes : Goes before after gots
+  pub did : OnOk result (Due gots)
+  pub not_link : IfErr result (λ fault. fault ≢ Link)
+  pub cause : IfErr result (IsCause after.seen)
+
+abbrev pub Ticked : {T : Type 0} → Job → NodePass → NodePass → Result T WorkFault → Type 0
+Ticked job before after result = TickedBy (Ticks job) before after result
+
+abbrev pub TickedThrough : {T : Type 0} → List Job → NodePass → NodePass → Result T WorkFault → Type 0
+TickedThrough jobs before after result = TickedBy (TicksAll jobs) before after result
+
+-- WHAT THE REPORTER DID. At status 0 its calls are a time step for each wake that it took.
+pub record Reported (pass : NodePass) (done : Done ⊤) : Type 0 where
+  pub result : Result ⊤ WorkFault
+  pub gots : List Got
+  pub status : done.status ≡ status_of result
+  pub goes : Goes pass done.pass gots
+  pub did : OnOk result (TicksAll done.queue.taken gots)
+  pub cause : IfErr result (IsCause done.pass.seen)
+  pub no_link : done.status ≢ 12
