@@ -47,12 +47,8 @@ fn add_end(alloc: Global, page: &mut Page, bench: &Bench) -> Result<(), AllocErr
     Ok(())
 }
 
-/// Whether two maps are the same.
-pub(crate) fn is_same_map(
-    alloc: Global,
-    one: &Durable,
-    other: &Durable,
-) -> Result<bool, AllocError> {
+// Whether two maps are the same.
+fn is_same_map(alloc: Global, one: &Durable, other: &Durable) -> Result<bool, AllocError> {
     let mut first = Vec::new(alloc);
     write_image(alloc, one, &mut first)?;
     let mut second = Vec::new(alloc);

@@ -42,8 +42,8 @@ fn add_answer(alloc: Global, page: &mut Page, answer: &Answer) -> Result<(), All
     add_reply(alloc, page, &answer.reply)
 }
 
-/// Adds the payloads of a reply, each with its opcode.
-pub(crate) fn add_reply(alloc: Global, page: &mut Page, reply: &Reply) -> Result<(), AllocError> {
+// The payloads of a reply, each with its opcode.
+fn add_reply(alloc: Global, page: &mut Page, reply: &Reply) -> Result<(), AllocError> {
     for payload in chunks(alloc, reply)?.as_slice() {
         page.add(" ");
         page.add_hex(&[payload.opcode]);

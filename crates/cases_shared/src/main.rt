@@ -1,15 +1,13 @@
-//! Prints what a node with a book answers: alone, under its lock in one thread, and under its lock in four. What must be
-//! printed is worked out outside of the program.
+//! Prints what a node with a book answers: alone, and under its lock in one thread. What must be printed is worked out outside of
+//! the program.
 //!
 //! - `alone`: a node whose keeper may fail in one of its commits, case by case;
 //! - `turns`: two passes that take turns in one thread;
-//! - `crowd`: four threads with 10,000 calls each, and the replay of their book;
 //! - `answers`: how answers are printed.
 #![tactic(auto)]
 
 mod alone;
 mod answers;
-mod crowd;
 mod turns;
 
 use cases_page::{Page, no_case};
@@ -26,8 +24,6 @@ fn main(rt: HostRuntime) -> io::Result<()> {
     alone::play(alloc, &mut page, &config, cases.as_str())?;
     let lines = fs::read_to_string(&rt, "turns.txt")?;
     turns::play(&rt, alloc, &mut page, &config, lines.as_str())?;
-    let lines = fs::read_to_string(&rt, "crowd.txt")?;
-    crowd::play(&rt, alloc, &mut page, &config, lines.as_str())?;
     print!(rt; "{}", page.whole()?)
 }
 

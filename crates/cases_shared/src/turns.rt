@@ -1,20 +1,18 @@
 //! A node under its lock, with two passes that take turns in one thread. A line is `PASS LINE`: which of the two makes the call,
 //! 1 or 2, and the line of the call. Told are the answer of each call, and at the end the book.
 
-ghost use Rattle.std.specs.Prelude.{◌≡◌, ◌+◌, IfOk};
+ghost use Rattle.std.specs.Prelude.{◌≡◌, OnOk};
 ghost use Rattle.mt_shared.specs.Shared.{IsPassOf};
 
 use crate::answers::{add_acted, add_stop, line_of};
-use cases_node::{begin, call_of};
+use cases_node::{begin, call_of, keepers_cross};
 use cases_page::{Page, no_case};
-use mt_durable::ListKeeper;
-use mt_model::{Config, TableVerdicts};
+use mt_durable::Keeper;
+use mt_model::{Config, Verdicts};
 use mt_shared::{Entry, NodePass, SharedNode};
 use std::alloc::{AllocError, Global};
 use std::io;
 use std::sync::Wait;
-
-pub(crate) type TestNode = SharedNode<ListKeeper, TableVerdicts>;
 
 /// Lets the two passes take their turns, and tells what is answered, and what then stands in the book.
 pub(crate) fn play<R: Wait>(
@@ -24,25 +22,44 @@ pub(crate) fn play<R: Wait>(
     config: &Config,
     lines: &str,
 ) -> io::Result<()> {
+    keepers_cross();
     let begun = begin(alloc, config, &[])?;
     let Ok((shared, mut pass)) = SharedNode::new(alloc, begun.node, begun.keeper, begun.verdicts)
     else {
         return Err(AllocError.into());
     };
-    let mut other = shared.split(&mut pass)?;
-    for line in lines.lines() {
-        play_line(rt, alloc, page, &shared, &mut pass, &mut other, line)?;
-    }
-    shared.join(&mut pass, other);
+    take_turns(rt, alloc, page, &shared, &mut pass, lines)?;
     add_book(alloc, page, &shared.close(pass).book)
 }
 
-// A call of one of the passes.
-fn play_line<R: Wait>(
+// The turns of a pass and of another one that is split from it.
+fn take_turns<R: Wait, K: Keeper + Drop + Send, V: Verdicts + Drop>(
     rt: &R,
     alloc: Global,
     page: &mut Page,
-    shared: &TestNode,
+    shared: &SharedNode<K, V>,
+    pass: &mut NodePass,
+    lines: &str,
+) -> io::Result<()>
+    requires own { IsPassOf shared.now pass.old }
+    requires whole { pass.old.share ≡ 64 }
+    ensures own { IsPassOf shared.now pass.new }
+    ensures whole { OnOk result (pass.new.share ≡ 64) }
+{
+    let mut other = shared.split(pass)?;
+    for line in lines.lines() {
+        play_line(rt, alloc, page, shared, pass, &mut other, line)?;
+    }
+    shared.join(pass, other);
+    Ok(())
+}
+
+// A call of one of the passes.
+fn play_line<R: Wait, K: Keeper + Drop + Send, V: Verdicts + Drop>(
+    rt: &R,
+    alloc: Global,
+    page: &mut Page,
+    shared: &SharedNode<K, V>,
     pass: &mut NodePass,
     other: &mut NodePass,
     line: &str,

@@ -1,5 +1,5 @@
 -- A turn with the node: the book that is found and the one that is left.
-use Rattle.std.proofs.Common.{◌≡◌, ◌∙◌, sym, ap, subst, ℕ, ◌<◌, inl, inr, ⊥, refl, true, false, List, [], ◌∷◌, ◌++◌, length, Result, Ok, Err, IfOk, IfErr, OnOk, slice_get, Option, Some, None, append_assoc}
+use Rattle.std.proofs.Common.{◌≡◌, ◌∙◌, sym, ap, subst, ℕ, ◌<◌, inl, inr, refl, true, false, List, [], ◌∷◌, ◌++◌, length, Result, Ok, Err, IfOk, IfErr, OnOk, slice_get, Option, Some, None, append_assoc}
 use mathlib.Core.List.{IsPrefix}
 use Rattle.mt_turn.specs.Counts.{how_often}
 use Rattle.mt_turn.specs.Known.{GrowsByOne, entered, left, places_after}
@@ -74,16 +74,16 @@ still_seen old found book new mid begins grown outside = subst (IsPrefix old.see
 
 module _ (found : List Entry) (call : Call) where
   -- what a held node answers on a book with a stop, and on one that is full
-  Again : Result Stamped ActFault → Type 0
+  abbrev pub Again : Result Stamped ActFault → Type 0
   Again result = (stop : Stop) → stop_in found ≡ Some stop → result ≡ Err (Stopped stop)
 
-  Full : Result Stamped ActFault → Type 0
+  abbrev pub Full : Result Stamped ActFault → Type 0
   Full result = stop_in found ≡ None → is_full found call ≡ true → result ≡ Err (RecordFull (length (lines_in found)) (record_size found))
 
 none_is_no_stop : (stop : Stop) → None ≡ Some stop → ⊥
 none_is_no_stop stop same = cc
 
-err_same : (a b : ActFault) → Err {T = Stamped} a ≡ Err b → a ≡ b
+err_same : (a b : ActFault) → ◌≡◌ {A = Result Stamped ActFault} (Err a) (Err b) → a ≡ b
 err_same a b same = cc
 
 not_refused : (stamped : Stamped) (fault : ActFault) → Ok stamped ≡ Err fault → ⊥
