@@ -100,7 +100,7 @@ pub answered_if : (result : Result Stamped ActFault) (origin base : ConfiguredIn
     → ((entry : Entry) → book ≡ mid.found ++ entry ∷ [] → new.places ≡ mid.places ++ length mid.found ∷ []) → IfOk result (IsAnswered base old new call)
 answered_if (Ok stamped) origin base old mid new found book call same inside begins above enters room again outside grown =
     subst (λ (o : ConfiguredInteractions). IsAnswered o old new call stamped) same
-      (answered origin old mid new found book call stamped inside begins above enters room (runs_there found call stamped again) outside grown)
+    (answered origin old mid new found book call stamped inside begins above enters room (runs_there found call stamped again) outside grown)
 answered_if (Err fault) origin base old mid new found book call same inside begins above enters room again outside grown = tt
 
 pub refused_if : (result : Result Stamped ActFault) (old mid new : NodePass) (found book : List Entry) (call : Call) → mid ≡ entered old found → IsPrefix old.seen found → IfErr result (λ fault. Refuses fault call found book)

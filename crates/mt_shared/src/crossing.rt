@@ -1,7 +1,7 @@
 //! That a held node may go to another thread. It owns what it names and shares none of it; where a type is too large for the
 //! check to see that by itself, it is told part by part.
 
-ghost use denote.Param.Send.{IsSend};
+ghost use denote.Param.Send.{IsSend, IsSync};
 ghost use Rattle.std.specs.contracts.snapshot.Snapshot as snapshot;
 ghost use Rattle.mt_durable.specs.contracts.durable.Durable as durable;
 ghost use Rattle.mt_events.specs.contracts.rings.Rings as rings;
@@ -11,11 +11,15 @@ ghost use Rattle.mt_model.specs.contracts.node.state.NodeState as state;
 ghost use Rattle.mt_model.specs.contracts.rows.stored.StoredRows as stored;
 ghost use Rattle.mt_node.specs.contracts.node.Node as node;
 ghost use Rattle.mt_shared.specs.contracts.entry.Entry as entry;
+ghost use Rattle.mt_shared.specs.contracts.shared.SharedNode as shared;
 
-use mt_durable::Durable;
+use crate::held::Held;
+use crate::shared::SharedNode;
+use mt_durable::{Durable, Keeper};
 use mt_events::Rings;
 use mt_interactions::{Deed, Interactions};
-use mt_model::StoredRows;
+use mt_model::{StoredRows, Verdicts};
+use mt_turn::locks_are_lent;
 use std::snapshot::Snapshot;
 
 // A type that may go to another thread.
@@ -86,4 +90,28 @@ pub(crate) fn interactions_cross()
 {
     nodes_cross();
     rings_cross();
+}
+
+// A type that may be lent to another thread.
+fn lends<T: Sync>()
+    ensures { IsSync T.row }
+{}
+
+// What is told of a node in proofs alone may be lent.
+fn origins_are_lent()
+    ensures { IsSync (snapshot.the_row interactions.the_row) }
+{
+    lends::<Snapshot<Interactions>>();
+}
+
+/// A shared node may be lent to other threads, where its keeper may go to them and its verdicts may be lent. It does nothing.
+pub fn shared_nodes_are_lent<K: Keeper + Drop + Send, V: Verdicts + Drop + Sync>()
+    ensures { IsSync (shared.the_row K.row V.row K.Keeper V.Verdicts) }
+{
+    origins_cross();
+    interactions_cross();
+    entries_cross();
+    origins_are_lent();
+    locks_are_lent::<Held<K>>();
+    lends::<SharedNode<K, V>>();
 }

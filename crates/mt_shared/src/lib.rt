@@ -19,6 +19,7 @@ mod planning;
 mod room;
 mod shared;
 
+pub use crossing::shared_nodes_are_lent;
 pub use entry::{ActFault, Answer, Call, Entry, Stamped, Stop};
 pub use held::Held;
 pub use shared::{NodePass, SharedNode};

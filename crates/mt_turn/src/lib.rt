@@ -19,7 +19,7 @@ mod turn;
 pub use booked::Booked;
 pub use laws::{Answers, answers_are_of_one_history, two_callers_have_one_order};
 pub use pass::Pass;
-pub use turn::Turn;
+pub use turn::{Turn, locks_are_lent};
 
 #[cfg(test)]
 mod tests;

@@ -1,5 +1,7 @@
 //! The lock and its calls.
 
+ghost use denote.Param.Send.{IsSync};
+ghost use Rattle.mt_turn.specs.contracts.turn.Turn as turn;
 ghost use Rattle.std.specs.Prelude.{◌≡◌, ℕ, ◌<◌, ◌≤◌, ◌⊎◌, ◌++◌, ◌∷◌, [], length, true, false, Some, Ok, IfOk, IfErr};
 ghost use mathlib.Core.List.{IsPrefix};
 ghost use Rattle.mt_turn.specs.Counts.{how_often};
@@ -163,4 +165,16 @@ fn only_value<T>(mut slots: Vec<Option<T>, Global>) -> T
     let last = slots.pop();
     slots.destroy_empty();
     last.unwrap().unwrap()
+}
+
+// A type that may be lent to another thread.
+fn lends<T: Sync>()
+    ensures { IsSync T.row }
+{}
+
+/// A lock may be lent to other threads, where its value may go to them. It does nothing.
+pub fn locks_are_lent<T: Booked + Send>()
+    ensures { IsSync (turn.the_row T.row T.Entry.row T.Origin.row T.Booked) }
+{
+    lends::<Turn<T>>();
 }

@@ -1,5 +1,5 @@
 -- A pass goes on: with a call that was answered, with one that was refused, and with one part of a thread's work after another.
-use Rattle.std.proofs.Common.{◌≡◌, ◌≢◌, ⊥, ◌≤◌, ◌<◌, ◌∙◌, refl, sym, ap, subst, ℕ, zero, suc, inl, inr, true, false, cond, List, [], ◌∷◌, ◌++◌, length, map, Option, Some, None, slice_get, arith, append-nil, append_assoc, length-append, le-ltb, lt-ltb}
+use Rattle.std.proofs.Common.{◌≡◌, ◌≢◌, ◌≤◌, ◌<◌, ◌∙◌, refl, sym, ap, subst, ℕ, zero, suc, inl, inr, true, false, cond, List, [], ◌∷◌, ◌++◌, length, map, Option, Some, None, slice_get, arith, append-nil, append_assoc, length-append, le-ltb, lt-ltb}
 use mathlib.Core.List.{IsPrefix}
 use Rattle.mt_interactions.specs.Configured.{ConfiguredInteractions}
 use Rattle.mt_shared.specs.Acts.{Refuses}

@@ -14,7 +14,7 @@ use Rattle.mt_worker.specs.declared.fault.WorkFault.{WorkFault}
 use Rattle.mt_worker.specs.declared.hand.Hand.{Hand}
 use Rattle.mt_worker.specs.declared.seat.Seat.{Seat}
 use Rattle.mt_worker.proofs.Sessions.{all_both, apart, behind_both, first_over, later_over, later_same, one_behind, one_sent, others_behind, over_on, rows_stay, seats_same}
-use Rattle.mt_worker.proofs.Works.{failed_as, ok_as, went_on}
+use Rattle.mt_worker.proofs.Works.{err, failed_as, ok, ok_as, went_on}
 
 -- ONE JOB AFTER ANOTHER.
 does_push : (ids : List ℕ) (accounts : Accounts) (jobs : List Job) (job : Job) (xs ys : List Got) → DoesAll ids accounts jobs xs → Does ids (all_behind accounts xs) job ys → DoesAll ids accounts (jobs ++ job ∷ []) (xs ++ ys)
@@ -29,7 +29,7 @@ does_push ids accounts (first ∷ jobs) job xs ys all its =
 
 module _ {O : Type 0} (given : O → Option (List Parcel)) (faults : O → ℕ) where
   -- one part after another
-  pub on_on : {T U : Type 0} (t : T) (One Two Both : Accounts → List Got → Type 0) (ids : List ℕ) (x y z : Hand O) (mid seats : List Seat) (result : Result U WorkFault) (accounts : Accounts) (first : WentOn given faults One ids x y mid (Ok {T = T} {E = WorkFault} t) accounts)
+  pub on_on : {T U : Type 0} (t : T) (One Two Both : Accounts → List Got → Type 0) (ids : List ℕ) (x y z : Hand O) (mid seats : List Seat) (result : Result U WorkFault) (accounts : Accounts) (first : WentOn given faults One ids x y mid (ok T t) accounts)
       → WentOn given faults Two ids y z seats result (all_behind accounts first.gots) → ((ys : List Got) → Two (all_behind accounts first.gots) ys → Both accounts (first.gots ++ ys)) → WentOn given faults Both ids x z seats result accounts
   on_on t One Two Both ids x y z mid seats result accounts first then both = record {
     gots = first.gots ++ then.gots;
@@ -39,7 +39,7 @@ module _ {O : Type 0} (given : O → Option (List Parcel)) (faults : O → ℕ) 
     stands = subst (λ (f : Accounts). OnOk result (AreSeats seats ids f)) (sym (behind_both accounts first.gots then.gots)) then.stands;
   }
 
-  pub job_on : {T U : Type 0} (t : T) (ids : List ℕ) (jobs : List Job) (job : Job) (x y z : Hand O) (mid seats : List Seat) (result : Result U WorkFault) (accounts : Accounts) (first : WentOn given faults (λ (f : Accounts) (gots : List Got). DoesAll ids f jobs gots) ids x y mid (Ok {T = T} {E = WorkFault} t) accounts)
+  pub job_on : {T U : Type 0} (t : T) (ids : List ℕ) (jobs : List Job) (job : Job) (x y z : Hand O) (mid seats : List Seat) (result : Result U WorkFault) (accounts : Accounts) (first : WentOn given faults (λ (f : Accounts) (gots : List Got). DoesAll ids f jobs gots) ids x y mid (ok T t) accounts)
       → WentOn given faults (λ (f : Accounts) (gots : List Got). Does ids f job gots) ids y z seats result (all_behind accounts first.gots) → WentOn given faults (λ (f : Accounts) (gots : List Got). DoesAll ids f (jobs ++ job ∷ []) gots) ids x z seats result accounts
   job_on t ids jobs job x y z mid seats result accounts first then =
       on_on t _ _ (λ (f : Accounts) (gots : List Got). DoesAll ids f (jobs ++ job ∷ []) gots) ids x y z mid seats result accounts first then (λ ys its. does_push ids accounts jobs job first.gots ys first.did its)
@@ -48,7 +48,7 @@ module _ {O : Type 0} (given : O → Option (List Parcel)) (faults : O → ℕ) 
   through ids jobs x y seats result accounts went = record { gots = went.gots; went = went.went; over = went.over; did = went.did }
 
   -- a fault stays one, whatever else was due
-  pub on_failed : {T U : Type 0} (One Both : Accounts → List Got → Type 0) (ids : List ℕ) (x y : Hand O) (mid seats : List Seat) (fault : WorkFault) (accounts : Accounts) → WentOn given faults One ids x y mid (Err {T} fault) accounts → WentOn given faults Both ids x y seats (Err {U} fault) accounts
+  pub on_failed : {T U : Type 0} (One Both : Accounts → List Got → Type 0) (ids : List ℕ) (x y : Hand O) (mid seats : List Seat) (fault : WorkFault) (accounts : Accounts) → WentOn given faults One ids x y mid (err T fault) accounts → WentOn given faults Both ids x y seats (err U fault) accounts
   on_failed One Both ids x y mid seats fault accounts went = record { gots = went.gots; went = failed_as given faults x y fault went.gots (all_sent accounts went.gots) went.went; over = went.over; did = tt; stands = tt }
 
   -- ONE SESSION AMONG SEVERAL: the first.
@@ -65,18 +65,18 @@ module _ {O : Type 0} (given : O → Option (List Parcel)) (faults : O → ℕ) 
         (ap (λ (a : Account). a.row.session) here ∙ ap (λ row. row.session) (rows_stay (accounts id) gots) ∙ its, subst (IsSeatOf seat) (sym here) stands, seats_same seats ids accounts (all_behind accounts gots) (later_same accounts id ids gots above over) others)
 
     -- A WAKE: the first session, and then the others.
-    pub wake_failed : {T U : Type 0} (now : ℕ) (x y : Hand O) (seat : Seat) (seats : List Seat) (fault : WorkFault) → WentOver given faults (λ (a : Account) (gots : List Got). Wakes a now gots) x y seat (Err {T} fault) (accounts id)
-        → WentOn given faults (λ (f : Accounts) (gots : List Got). Sweeps now (id ∷ ids) f gots) (id ∷ ids) x y seats (Err {U} fault) accounts
+    pub wake_failed : {T U : Type 0} (now : ℕ) (x y : Hand O) (seat : Seat) (seats : List Seat) (fault : WorkFault) → WentOver given faults (λ (a : Account) (gots : List Got). Wakes a now gots) x y seat (err T fault) (accounts id)
+        → WentOn given faults (λ (f : Accounts) (gots : List Got). Sweeps now (id ∷ ids) f gots) (id ∷ ids) x y seats (err U fault) accounts
     wake_failed now x y seat seats fault first =
         let over = over_id first.gots first.over in
         record { gots = first.gots; went = failed_as given faults x y fault first.gots (all_sent accounts first.gots) (first_went x y _ first.gots over first.went); over = first_over id ids first.gots over; did = tt; stands = tt }
 
-    pub wake_others : {T : Type 0} (t : T) (now : ℕ) (x y : Hand O) (seat : Seat) (seats : List Seat) → All (λ later. id < later) ids → AreSeats seats ids accounts → (first : WentOver given faults (λ (a : Account) (gots : List Got). Wakes a now gots) x y seat (Ok {T = T} {E = WorkFault} t) (accounts id))
+    pub wake_others : {T : Type 0} (t : T) (now : ℕ) (x y : Hand O) (seat : Seat) (seats : List Seat) → All (λ later. id < later) ids → AreSeats seats ids accounts → (first : WentOver given faults (λ (a : Account) (gots : List Got). Wakes a now gots) x y seat (ok T t) (accounts id))
         → AreSeats seats ids (all_behind accounts first.gots)
     wake_others t now x y seat seats above others first = seats_same seats ids accounts (all_behind accounts first.gots) (later_same accounts id ids first.gots above (over_id first.gots first.over)) others
 
     pub wake_then : {T U : Type 0} (t : T) (now : ℕ) (x y z : Hand O) (seat : Seat) (seats : List Seat) (result : Result U WorkFault) → All (λ later. id < later) ids
-        → (first : WentOver given faults (λ (a : Account) (gots : List Got). Wakes a now gots) x y seat (Ok {T = T} {E = WorkFault} t) (accounts id))
+        → (first : WentOver given faults (λ (a : Account) (gots : List Got). Wakes a now gots) x y seat (ok T t) (accounts id))
         → WentOn given faults (λ (f : Accounts) (gots : List Got). Sweeps now ids f gots) ids y z seats result (all_behind accounts first.gots)
         → WentOn given faults (λ (f : Accounts) (gots : List Got). Sweeps now (id ∷ ids) f gots) (id ∷ ids) x z (seat ∷ seats) result accounts
     wake_then t now x y z seat seats result above first rest =

@@ -20,8 +20,16 @@ use Rattle.mt_worker.proofs.Giving.{gave_none, gave_on, parcels_both, part_all, 
 use Rattle.mt_worker.proofs.Passes.{goes_none, goes_on}
 use Rattle.mt_worker.proofs.Sessions.{account_both, one_on, over_both, rows_stay, stops_over, stops_send}
 
+-- results of a type
+
+abbrev pub ok : (T : Type 0) → T → Result T WorkFault
+ok T t = Ok t
+
+abbrev pub err : (T : Type 0) → WorkFault → Result T WorkFault
+err T fault = Err fault
+
 -- a fault that is not the outlet's leaves its count
-counts_same : {T : Type 0} (fault : WorkFault) (before now : ℕ) → fault ≢ Link → now ≡ before → Counts (Err {T} fault) before now
+counts_same : {T : Type 0} (fault : WorkFault) (before now : ℕ) → fault ≢ Link → now ≡ before → Counts (err T fault) before now
 counts_same Memory before now not same = same
 counts_same Stopped before now not same = same
 counts_same Link before now not same = absurd (not refl)
@@ -29,7 +37,7 @@ counts_same Full before now not same = same
 
 module _ {O : Type 0} (given : O → Option (List Parcel)) (faults : O → ℕ) where
   -- WHERE MEMORY FAILED FIRST nothing was done.
-  pub went_nowhere : {T : Type 0} (Due : Account → List Got → Type 0) (x y : Hand O) (seat : Seat) (a : Account) → x.pass.inside ≡ false → y.pass ≡ x.pass → y.outlet ≡ x.outlet → WentOver given faults Due x y seat (Err {T} Memory) a
+  pub went_nowhere : {T : Type 0} (Due : Account → List Got → Type 0) (x y : Hand O) (seat : Seat) (a : Account) → x.pass.inside ≡ false → y.pass ≡ x.pass → y.outlet ≡ x.outlet → WentOver given faults Due x y seat (err T Memory) a
   went_nowhere Due x y seat a outside pass outlet = record {
     gots = [];
     went = record {
@@ -45,7 +53,7 @@ module _ {O : Type 0} (given : O → Option (List Parcel)) (faults : O → ℕ) 
   }
 
   -- WHERE THE NODE REFUSED nothing was sent.
-  pub went_denied : {T : Type 0} (Due : Account → List Got → Type 0) (x y : Hand O) (seat : Seat) (a : Account) (fault : WorkFault) → GotNone a.row.session x.pass y.pass fault → y.outlet ≡ x.outlet → WentOver given faults Due x y seat (Err {T} fault) a
+  pub went_denied : {T : Type 0} (Due : Account → List Got → Type 0) (x y : Hand O) (seat : Seat) (a : Account) (fault : WorkFault) → GotNone a.row.session x.pass y.pass fault → y.outlet ≡ x.outlet → WentOver given faults Due x y seat (err T fault) a
   went_denied Due x y seat a fault none outlet = record {
     gots = none.gots;
     went = record {
@@ -61,7 +69,7 @@ module _ {O : Type 0} (given : O → Option (List Parcel)) (faults : O → ℕ) 
   }
 
   -- WHERE MEMORY FAILED BEHIND THE CALL nothing was given.
-  pub went_unsaid : {T : Type 0} (Due : Account → List Got → Type 0) (x y : Hand O) (seat : Seat) (a : Account) (got : Got) → Goes x.pass y.pass (got ∷ []) → got.session ≡ a.row.session → y.outlet ≡ x.outlet → WentOver given faults Due x y seat (Err {T} Memory) a
+  pub went_unsaid : {T : Type 0} (Due : Account → List Got → Type 0) (x y : Hand O) (seat : Seat) (a : Account) (got : Got) → Goes x.pass y.pass (got ∷ []) → got.session ≡ a.row.session → y.outlet ≡ x.outlet → WentOver given faults Due x y seat (err T Memory) a
   went_unsaid Due x y seat a got goes session outlet = record {
     gots = got ∷ [];
     went = record {
@@ -120,11 +128,11 @@ module _ {O : Type 0} (given : O → Option (List Parcel)) (faults : O → ℕ) 
     stands = stands;
   }
 
-  pub counts_on : {T U : Type 0} (t : T) (result : Result U WorkFault) (a b c : ℕ) → Counts (Ok {T = T} {E = WorkFault} t) a b → Counts result b c → Counts result a c
+  pub counts_on : {T U : Type 0} (t : T) (result : Result U WorkFault) (a b c : ℕ) → Counts (ok T t) a b → Counts result b c → Counts result a c
   counts_on t result a b c first then = subst (λ (n : ℕ). Counts result n c) first then
 
   -- ONE PART AFTER ANOTHER.
-  pub went_on : {T U : Type 0} (t : T) (x y z : Hand O) (result : Result U WorkFault) (xs ys : List Got) (ss ts : List Sent) → Went given faults x y (Ok {T = T} {E = WorkFault} t) xs ss → Went given faults y z result ys ts → Went given faults x z result (xs ++ ys) (ss ++ ts)
+  pub went_on : {T U : Type 0} (t : T) (x y z : Hand O) (result : Result U WorkFault) (xs ys : List Got) (ss ts : List Sent) → Went given faults x y (ok T t) xs ss → Went given faults y z result ys ts → Went given faults x z result (xs ++ ys) (ss ++ ts)
   went_on t x y z result xs ys ss ts first then = record {
     goes = goes_on x.pass y.pass z.pass xs ys first.goes then.goes;
     all = ok_as result _ _ (λ (gave : Gave (given y.outlet) (given z.outlet) (parcels_in ts)). subst (λ (ps : List Parcel). Gave (given x.outlet) (given z.outlet) ps) (sym (parcels_both ss ts)) (gave_on (given x.outlet) (given y.outlet) (given z.outlet) (parcels_in ss) (parcels_in ts) first.all gave)) then.all;
@@ -134,7 +142,7 @@ module _ {O : Type 0} (given : O → Option (List Parcel)) (faults : O → ℕ) 
   }
 
   -- over one session
-  pub over_on : {T U : Type 0} (t : T) (One Two Both : Account → List Got → Type 0) (x y z : Hand O) (mid seat : Seat) (result : Result U WorkFault) (a : Account) (first : WentOver given faults One x y mid (Ok {T = T} {E = WorkFault} t) a)
+  pub over_on : {T U : Type 0} (t : T) (One Two Both : Account → List Got → Type 0) (x y z : Hand O) (mid seat : Seat) (result : Result U WorkFault) (a : Account) (first : WentOver given faults One x y mid (ok T t) a)
       → WentOver given faults Two y z seat result (account_over a first.gots) → ((ys : List Got) → Two (account_over a first.gots) ys → Both a (first.gots ++ ys)) → WentOver given faults Both x z seat result a
   over_on t One Two Both x y z mid seat result a first then both = record {
     gots = first.gots ++ then.gots;
@@ -144,17 +152,17 @@ module _ {O : Type 0} (given : O → Option (List Parcel)) (faults : O → ℕ) 
     stands = subst (λ (b : Account). OnOk result (IsSeatOf seat b)) (sym (account_both a first.gots then.gots)) then.stands;
   }
 
-  counts_as : {T U : Type 0} (fault : WorkFault) (before now : ℕ) → Counts (Err {T} fault) before now → Counts (Err {U} fault) before now
+  counts_as : {T U : Type 0} (fault : WorkFault) (before now : ℕ) → Counts (err T fault) before now → Counts (err U fault) before now
   counts_as Memory before now c = c
   counts_as Stopped before now c = c
   counts_as Link before now c = c
   counts_as Full before now c = c
 
-  pub failed_as : {T U : Type 0} (x y : Hand O) (fault : WorkFault) (gots : List Got) (sent : List Sent) → Went given faults x y (Err {T} fault) gots sent → Went given faults x y (Err {U} fault) gots sent
+  pub failed_as : {T U : Type 0} (x y : Hand O) (fault : WorkFault) (gots : List Got) (sent : List Sent) → Went given faults x y (err T fault) gots sent → Went given faults x y (err U fault) gots sent
   failed_as x y fault gots sent went = record { goes = went.goes; all = tt; part = went.part; counts = counts_as fault (faults x.outlet) (faults y.outlet) went.counts; cause = went.cause }
 
   -- a fault stays one, whatever else was due
-  pub over_failed : {T U : Type 0} (One Both : Account → List Got → Type 0) (x y : Hand O) (mid seat : Seat) (fault : WorkFault) (a : Account) → WentOver given faults One x y mid (Err {T} fault) a → WentOver given faults Both x y seat (Err {U} fault) a
+  pub over_failed : {T U : Type 0} (One Both : Account → List Got → Type 0) (x y : Hand O) (mid seat : Seat) (fault : WorkFault) (a : Account) → WentOver given faults One x y mid (err T fault) a → WentOver given faults Both x y seat (err U fault) a
   over_failed One Both x y mid seat fault a first = record {
     gots = first.gots;
     went = failed_as x y fault first.gots (sent_over a first.gots) first.went;
