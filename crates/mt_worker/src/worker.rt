@@ -22,6 +22,7 @@ use std::alloc::{AllocError, Global};
 use std::sync::Wait;
 
 /// What is left of a worker or of the reporter.
+#[derive(Drop)]
 pub struct Done<O> {
     /// The outlet of a worker; the reporter has none.
     pub outlet: O,
@@ -31,17 +32,6 @@ pub struct Done<O> {
     pub queue: QueuePass,
     /// 0, or the fault that it met: 7 want of memory, 8 a commit that failed, 12 an outlet that failed, 13 a full record.
     pub status: u8,
-}
-
-impl<O: Drop> Drop for Done<O> {
-    fn drop(self) {
-        let Done {
-            outlet: _,
-            pass: _,
-            queue: _,
-            status: _,
-        } = self;
-    }
 }
 
 /// A worker: the sessions of these rows are its own. It takes jobs until the end message. To a datagram it gives what is to be
