@@ -112,6 +112,6 @@ pub fn shared_nodes_are_lent<K: Keeper + Drop + Send, V: Verdicts + Drop + Sync>
     interactions_cross();
     entries_cross();
     origins_are_lent();
-    locks_are_lent::<Held<K>>();
+    locks_are_lent::<Box<Held<K>>>();
     lends::<SharedNode<K, V>>();
 }

@@ -31,7 +31,7 @@ pub type NodePass = Pass<Entry, Interactions>;
 /// The node under a lock, with the verdicts of its configuration. Contracts see the lock, and the node with which its book began.
 #[derive(Drop)]
 pub struct SharedNode<K: Keeper, V: Verdicts> {
-    turn: Turn<Held<K>>,
+    turn: Turn<Box<Held<K>>>,
     verdicts: V,
     origin: Snapshot<Interactions>,
 }
@@ -72,7 +72,11 @@ impl<K: Keeper + Drop + Send, V: Verdicts + Drop> SharedNode<K, V> {
         interactions_cross();
         entries_cross();
         let origin = Snapshot::of(&node);
-        match Turn::new(alloc, Held::new(alloc, node, keeper)) {
+        let held = match Box::new(alloc, Held::new(alloc, node, keeper)) {
+            Ok(held) => held,
+            Err(refused) => return Err(refused.value.into_keeper()),
+        };
+        match Turn::new(alloc, held) {
             Ok((turn, pass)) => Ok((
                 SharedNode {
                     turn,
@@ -81,7 +85,7 @@ impl<K: Keeper + Drop + Send, V: Verdicts + Drop> SharedNode<K, V> {
                 },
                 pass,
             )),
-            Err(held) => Err(held.into_keeper()),
+            Err(held) => Err(Box::into_inner(held).into_keeper()),
         }
     }
 
@@ -154,6 +158,6 @@ impl<K: Keeper + Drop + Send, V: Verdicts + Drop> SharedNode<K, V> {
             verdicts: _,
             origin: _,
         } = self;
-        turn.close(pass)
+        Box::into_inner(turn.close(pass))
     }
 }

@@ -15,3 +15,14 @@ pub trait Booked {
 
     ghost origin: { Self → Self.Origin };
 }
+
+/// What is large lies in a box, so that a turn moves no more than a pointer. The book is that of what is in it.
+impl<T: Booked> Booked for Box<T> {
+    type Entry = T::Entry;
+
+    type Origin = T::Origin;
+
+    ghost book = { λ boxed. T.book boxed.value };
+
+    ghost origin = { λ boxed. T.origin boxed.value };
+}

@@ -2,14 +2,15 @@ use denote.Exit.{no}
 use denote.Param.{arg, param}
 use denote.Param.Send.{arg_send, arg_sync, param_send, param_sync, sendable, view_sync}
 use denote.Param.SendFields.{declared_sync}
-use Rattle.mt_shared.specs.contracts.held.Held as held
 use Rattle.mt_shared.specs.contracts.shared.SharedNode as shared
 use Rattle.mt_shared.specs.contracts.shared.SharedNode.TheInside as inside
+use Rattle.std.proofs.Crossing.{Box-send}
+use Rattle.mt_shared.specs.contracts.held.Held as held
 use Rattle.mt_shared.proofs.Carrying.{held_send}
 use Rattle.mt_shared.proofs.crossing.shared_nodes_are_lent.Goals as goal
 
 pub locks_are_lent-requires-send-T : goal.locks_are_lent-requires-send-T
-locks_are_lent-requires-send-T g c κs within = param_send 0 (arg _ no (held.the_row (param 0 g.row.K) g.K.Keeper)) (arg_send _ no _ (held_send c.origins_cross.ensures c.interactions_cross.ensures c.entries_cross.ensures (param 0 g.row.K) g.K.Keeper c.type_bounds.send-K))
+locks_are_lent-requires-send-T g c κs within = param_send 0 _ (arg_send _ no _ (Box-send (held.the_row (param 0 g.row.K) g.K.Keeper) (held_send c.origins_cross.ensures c.interactions_cross.ensures c.entries_cross.ensures (param 0 g.row.K) g.K.Keeper c.type_bounds.send-K)))
 
 pub lends-requires-sync-T : goal.lends-requires-sync-T
 lends-requires-sync-T g c κs within =

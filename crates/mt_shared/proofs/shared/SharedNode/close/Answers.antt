@@ -1,22 +1,35 @@
-use Rattle.std.proofs.Common.{◌≡◌, ◌∙◌, ap, sym, subst, List}
+use Rattle.std.proofs.Common.{◌≡◌, ◌∙◌, ap, sym, subst, List, length, ◌<◌, ◌≤◌}
 use Rattle.mt_shared.specs.Acts.{IsHalted}
 use Rattle.mt_shared.specs.Book.{stop_in}
 use Rattle.mt_shared.specs.declared.entry.Entry.{Entry}
 use denote.Exit.{no}
-use denote.Param.{arg, param}
+use denote.Param.{param}
 use denote.Param.Send.{arg_send, param_send}
+use Rattle.std.proofs.Crossing.{Box-send}
 use Rattle.mt_shared.specs.contracts.held.Held as held
 use Rattle.mt_shared.proofs.Carrying.{held_send}
 use Rattle.mt_shared.proofs.shared.SharedNode.close.Goals as goal
 
 pub close-requires-send-T : goal.close-requires-send-T
-close-requires-send-T g c κs within = param_send 0 (arg _ no (held.the_row (param 0 g.row.K) g.K.Keeper)) (arg_send _ no _ (held_send c.origins_cross.ensures c.interactions_cross.ensures c.entries_cross.ensures (param 0 g.row.K) g.K.Keeper c.type_bounds.send-K))
+close-requires-send-T g c κs within = param_send 0 _ (arg_send _ no _ (Box-send (held.the_row (param 0 g.row.K) g.K.Keeper) (held_send c.origins_cross.ensures c.interactions_cross.ensures c.entries_cross.ensures (param 0 g.row.K) g.K.Keeper c.type_bounds.send-K)))
+
+pub returns-clause-once : goal.returns-clause-once
+returns-clause-once g c k below = c.close.ensures.once k (subst (λ (entries : List Entry). k < length entries) (sym c.close.ensures.book) below)
+
+pub returns-clause-no_other : goal.returns-clause-no_other
+returns-clause-no_other g c k above = c.close.ensures.no_other k (subst (λ (entries : List Entry). length entries ≤ k) (sym c.close.ensures.book) above)
+
+pub returns-clause-kept : goal.returns-clause-kept
+returns-clause-kept g c none =
+    let closed = c.into_inner.result in
+    let book : closed.book.items ≡ c.args.pass.seen = ap (λ held. held.book.items) c.into_inner.ensures ∙ c.close.ensures.book in
+    closed.kept (sym closed.stop_is ∙ ap stop_in book ∙ none)
 
 pub returns-clause-halted : goal.returns-clause-halted
 returns-clause-halted g c stop is =
-    let closed = c.close.result in
+    let closed = c.into_inner.result in
     let map = g.K.Keeper.map closed.keeper in
-    let book : closed.book.items ≡ c.args.pass.seen = c.close.ensures.book in
+    let book : closed.book.items ≡ c.args.pass.seen = ap (λ held. held.book.items) c.into_inner.ensures ∙ c.close.ensures.book in
     let here = sym closed.stop_is ∙ ap stop_in book ∙ is in
     subst (λ (entries : List Entry). IsHalted stop closed.node entries map) book (record {
       place = closed.stop_is_last stop here;

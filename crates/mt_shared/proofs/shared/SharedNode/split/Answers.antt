@@ -1,9 +1,10 @@
 use denote.Exit.{no}
-use denote.Param.{arg, param}
+use denote.Param.{param}
 use denote.Param.Send.{arg_send, param_send}
+use Rattle.std.proofs.Crossing.{Box-send}
 use Rattle.mt_shared.specs.contracts.held.Held as held
 use Rattle.mt_shared.proofs.Carrying.{held_send}
 use Rattle.mt_shared.proofs.shared.SharedNode.split.Goals as goal
 
 pub split-requires-send-T : goal.split-requires-send-T
-split-requires-send-T g c κs within = param_send 0 (arg _ no (held.the_row (param 0 g.row.K) g.K.Keeper)) (arg_send _ no _ (held_send c.origins_cross.ensures c.interactions_cross.ensures c.entries_cross.ensures (param 0 g.row.K) g.K.Keeper c.type_bounds.send-K))
+split-requires-send-T g c κs within = param_send 0 _ (arg_send _ no _ (Box-send (held.the_row (param 0 g.row.K) g.K.Keeper) (held_send c.origins_cross.ensures c.interactions_cross.ensures c.entries_cross.ensures (param 0 g.row.K) g.K.Keeper c.type_bounds.send-K)))
