@@ -1,10 +1,11 @@
 //! A worker with its rows, the reporter, and the job of an event.
 
-ghost use Rattle.std.specs.Prelude.{◌≡◌, ◌<◌, [], All, IfOk, IsTrue, map};
+ghost use Rattle.std.specs.Prelude.{◌≡◌, ◌<◌, [], ℕ, All, IfOk, IsTrue, map};
 ghost use Rattle.mt_files.specs.Form.{HasForm};
 ghost use Rattle.mt_queue.specs.Jobs.{IsEnded};
 ghost use Rattle.mt_shared.specs.Shared.{IsPassOf};
 ghost use Rattle.mt_worker.specs.Due.{AreRising, IsServed, id_of};
+ghost use Rattle.mt_worker.specs.Gots.{Each};
 
 use cases_page::no_case;
 use mt_durable::Keeper;
@@ -66,7 +67,7 @@ fn are_rising(rows: &[SessionRow]) -> bool
 }
 
 fn are_above(session: u16, rows: &[SessionRow]) -> bool
-    ensures { IsTrue result → All (λ later. session < later) (map id_of rows.now) }
+    ensures { IsTrue result → Each (λ (later : ℕ). session < later) (map id_of rows.now) }
 {
     match rows.split_first() {
         Some((row, later)) => session < row.session && are_above(session, later),
