@@ -31,7 +31,7 @@ abbrev pub status_of : {T : Type 0} → Result T WorkFault → ℕ
 status_of (Ok x) = 0
 status_of (Err fault) = status_in fault
 
--- THE CAUSES, told by what the pass has then seen. Stopped: the book ends with a stop. Full: the book has no room for a call that was refused.
+-- THE CAUSES, told by what the pass has then seen. Stopped: the book has a stop. Full: the book has no room for a call that was refused.
 abbrev pub IsCause : List Entry → WorkFault → Type 0
 IsCause seen Memory = ⊤
 IsCause seen Stopped = (stop : Stop) × (stop_in seen ≡ Some stop)
