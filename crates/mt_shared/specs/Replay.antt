@@ -8,7 +8,9 @@ use Rattle.mt_machine.specs.Lines.{behind_action}
 use Rattle.mt_model.specs.declared.messages.message.Reply.TheVariants as replies
 use Rattle.mt_interactions.specs.Configured.{ConfiguredInteractions, behind}
 use Rattle.mt_interactions.specs.Deeds.{activity_at, closed_with, fabric_at, replied}
+use Rattle.mt_interactions.specs.Plan.{closed_by}
 use Rattle.mt_interactions.specs.declared.deeds.Deed.{Deed}
+use Rattle.mt_interactions.specs.declared.deeds.PlannedDeed.{PlannedDeed}
 use Rattle.mt_shared.specs.declared.entry.Answer.{Answer}
 use Rattle.mt_shared.specs.declared.entry.Entry.{Entry}
 use Rattle.mt_shared.specs.declared.entry.Stop.{Stop}
@@ -51,6 +53,10 @@ answer_to node deed ms = record {
   fabric = fabric_at node.state.node deed;
   closed = closed_with (given_in node) node.state.node deed ms;
 }
+
+-- of what was planned
+abbrev pub answer_of : PlannedDeed → Answer
+answer_of planned = record { reply = planned.reply; fabric = planned.fabric; closed = closed_by planned.outcome }
 
 abbrev pub no_answer : Answer
 no_answer = record { reply = replies.Nothing; fabric = None; closed = [] }

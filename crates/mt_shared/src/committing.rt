@@ -1,6 +1,7 @@
 //! What lasts of a planned deed goes to the keeper.
 
 ghost use Rattle.std.specs.Prelude.{◌≡◌, ◌⊎◌, Some, false, is_err, OnErr, OnOk};
+ghost use Rattle.mt_durable.specs.Keeping.{Committed, HasRoom, IsAdmitted, IsChange, WasOrCommitted};
 ghost use Rattle.mt_outside.specs.Stream.{HasCause};
 ghost use Rattle.mt_interactions.specs.Configured.{behind};
 ghost use Rattle.mt_interactions.specs.Plan.{IsPlanned, applied_ledger, applied_state};
@@ -37,5 +38,19 @@ pub(crate) fn commit_if_any<K: Keeper>(
     if change.is_empty() {
         return Ok(());
     }
+    commit(keeper, change)
+}
+
+// The keeper's commit, apart: few calls change what lasts, and the others then make no room for what it needs.
+#[inline(never)]
+fn commit<K: Keeper>(keeper: &mut K, change: &[u8]) -> Result<(), Failed>
+    requires form { IsChange change.now }
+    requires room { HasRoom change.now (K.map keeper.old) }
+    requires admitted { IsAdmitted K.admits change.now (K.map keeper.old) }
+    ensures committed { OnOk result (Committed change.now (K.map keeper.old) (K.map keeper.new)) }
+    ensures part { OnErr result (WasOrCommitted change.now (K.map keeper.old) (K.map keeper.new)) }
+    ensures failed { K.failed keeper.new ≡ is_err result }
+    ensures cause { K.failed keeper.old ≡ false → HasCause (K.faults keeper.old) (K.faults keeper.new) result }
+{
     keeper.commit(change)
 }

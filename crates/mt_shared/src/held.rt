@@ -15,8 +15,8 @@ ghost use Rattle.mt_shared.specs.Replay.{map_of, replay};
 ghost use Rattle.mt_shared.specs.declared.entry.Stop.{Stop as AnyStop};
 
 use crate::committing::commit_if_any;
-use crate::entry::{ActFault, Call, Entry, Stamped, Stop};
-use crate::planning::plan;
+use crate::entry::{ActFault, Answer, Call, Entry, Stamped, Stop};
+use crate::planning::{closed, plan};
 use crate::room::{Room, time_of};
 use mt_durable::Keeper;
 use mt_files::line_size;
@@ -114,14 +114,17 @@ impl<K: Keeper + Drop> Held<K> {
         let room = self.room_for(&call)?;
         let ms = room.ms;
         let place = self.book.len() as u64;
-        let Ok((answer, outcome)) = plan(self.alloc, &self.node, &call.deed, ms, verdicts) else {
-            return Err(ActFault::Memory);
-        };
         let Ok(()) = self.book.reserve(1) else {
             return Err(ActFault::Memory);
         };
+        let Ok(planned) = plan(&self.node, &call.deed, ms, verdicts) else {
+            return Err(ActFault::Memory);
+        };
+        let Ok(closed) = closed(self.alloc, &planned.outcome) else {
+            return Err(ActFault::Memory);
+        };
         let before = self.keeper.faults();
-        let Ok(()) = commit_if_any(&self.node, &outcome, &mut self.keeper) else {
+        let Ok(()) = commit_if_any(&self.node, &planned.outcome, &mut self.keeper) else {
             let after = self.keeper.faults();
             let stop = Stop {
                 place,
@@ -137,6 +140,7 @@ impl<K: Keeper + Drop> Held<K> {
             });
             return Err(ActFault::Stopped(stop));
         };
+        let (reply, fabric, _, outcome) = planned.into_parts();
         self.node.apply(outcome);
         self.bytes = room.bytes;
         self.last = ms;
@@ -145,6 +149,11 @@ impl<K: Keeper + Drop> Held<K> {
             ms,
             stop: None,
         });
+        let answer = Answer {
+            reply,
+            fabric,
+            closed,
+        };
         Ok(Stamped { place, ms, answer })
     }
 

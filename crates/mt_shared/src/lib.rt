@@ -4,7 +4,7 @@
 //!
 //! - `entry`: what is asked, the entries of the book, what a call answers, and why one is refused;
 //! - `room`: when a call is done;
-//! - `planning`: what a deed is answered and what comes of it;
+//! - `planning`: what a deed is answered, what comes of it, and the sessions that end with it;
 //! - `committing`: what of it lasts goes to the keeper;
 //! - `held`: the node beside its keeper and its book;
 //! - `crossing`: that it may go to another thread;

@@ -2,35 +2,33 @@
 
 ghost use Rattle.std.specs.Prelude.{◌≡◌, IfOk};
 ghost use Rattle.mt_interactions.specs.Deeds.{IsWithin};
-ghost use Rattle.mt_interactions.specs.Plan.{IsDone};
+ghost use Rattle.mt_interactions.specs.Plan.{IsDone, closed_by};
 ghost use Rattle.mt_shared.specs.Acts.{HasVerdicts};
-ghost use Rattle.mt_shared.specs.Replay.{activity_in, answer_to, given_in};
+ghost use Rattle.mt_shared.specs.Replay.{activity_in, answer_of, answer_to, given_in};
 
-use crate::entry::Answer;
 use mt_interactions::{Deed, InteractionOutcome, Interactions, PlannedDeed};
-use mt_model::{Reply, SessionIds, Verdicts};
+use mt_model::{SessionIds, Verdicts};
 use std::alloc::{AllocError, Global};
 
-/// Plans a deed at this time, in ms. It changes nothing, and takes all the memory.
+/// Plans a deed at this time, in ms. It changes nothing, and takes all the memory but that of the sessions that end.
 pub(crate) fn plan<V: Verdicts>(
-    alloc: Global,
     node: &Interactions,
     deed: &Deed,
     ms: u64,
     verdicts: &V,
-) -> Result<(Answer, InteractionOutcome), AllocError>
+) -> Result<PlannedDeed, AllocError>
     requires within { IsWithin deed.now }
     requires verdicts { HasVerdicts node.now (V.roots verdicts.now) (V.csrs verdicts.now) (V.joins verdicts.now) }
-    ensures answer { IfOk result (λ planned. planned.0 ≡ answer_to node.now deed.now ms) }
-    ensures outcome { IfOk result (λ planned. IsDone (given_in node.now) node.now.state node.now.ledger (activity_in node.now deed.now ms) ms planned.1) }
+    ensures answer { IfOk result (λ planned. answer_of planned ≡ answer_to node.now deed.now ms) }
+    ensures outcome { IfOk result (λ planned. IsDone (given_in node.now) node.now.state node.now.ledger (activity_in node.now deed.now ms) ms planned.outcome) }
 {
-    let planned = node.plan_deed(deed, ms, verdicts)?;
-    let (reply, fabric, _, outcome) = planned.into_parts();
-    let closed = SessionIds::from_vec(Vec::from_slice(alloc, outcome.closed())?);
-    let answer = Answer {
-        reply,
-        fabric,
-        closed,
-    };
-    Ok((answer, outcome))
+    node.plan_deed(deed, ms, verdicts)
+}
+
+/// The sessions that end with what was planned.
+pub(crate) fn closed(alloc: Global, outcome: &InteractionOutcome) -> Result<SessionIds, AllocError>
+    ensures { IfOk result (λ closed. closed ≡ closed_by outcome.now) }
+{
+    let closed = Vec::from_slice(alloc, outcome.closed())?;
+    Ok(SessionIds::from_vec(closed))
 }
