@@ -1,5 +1,5 @@
 -- A pass goes on: with a call that was answered, with one that was refused, and with one part of a thread's work after another.
-use Rattle.std.proofs.Common.{◌≡◌, ◌≢◌, ◌≤◌, ◌∙◌, refl, sym, ap, subst, ℕ, zero, suc, inl, inr, false, cond, List, [], ◌∷◌, ◌++◌, length, map, Some, None, slice_get, arith, append-nil, append_assoc, length-append, le-ltb, lt-ltb}
+use Rattle.std.proofs.Common.{◌≡◌, ◌≢◌, ◌≤◌, ◌∙◌, refl, sym, ap, subst, ℕ, ◌+◌, zero, suc, inl, inr, false, cond, List, [], ◌∷◌, ◌++◌, length, map, Some, None, slice_get, arith, append-nil, append_assoc, length-append, le-ltb, lt-ltb}
 use mathlib.Core.List.{IsPrefix}
 use Rattle.mt_interactions.specs.Configured.{ConfiguredInteractions}
 use Rattle.mt_shared.specs.Book.{failed, is_full, stop_in, time_for}
@@ -134,8 +134,8 @@ abbrev stop_got : ℕ → ℕ → Entry → Got
 stop_got session place entry = record { place = place; session = session; told = (entry, no_answer) }
 
 stops_here : (v u : NodePass) (found : List Entry) (session : ℕ) (call : Call) (ms : ℕ) (stop : Stop) → IsOutsideAgain v u → IsPrefix v.seen u.seen → IsPrefix v.seen found → u.places ≡ places_after found u.seen v.places → u.seen ≡ found ++ failed call ms stop ∷ []
-    → stop_in u.seen ≡ Some stop → GotNone session v u faults.Stopped
-stops_here v u found session call ms stop outside grows begins places longer stands =
+    → stop_in u.seen ≡ Some stop → length u.seen ≡ stop.place + 1 → GotNone session v u faults.Stopped
+stops_here v u found session call ms stop outside grows begins places longer stands last =
     let low : length v.seen ≤ length found = prefix_length v.seen found begins in
     let long = ap length longer ∙ length-append found (failed call ms stop ∷ []) in
     record {
@@ -149,13 +149,13 @@ stops_here v u found session call ms stop outside grows begins places longer sta
       };
       stops = ((refl, refl), tt);
       not_link = λ same. cc;
-      cause = (stop, stands);
+      cause = (stop, stands, last);
     }
 
 got_none : (v u : NodePass) (call : Call) (session : ℕ) (refused : ActFault) → IsOutsideAgain v u → IsPrefix v.seen u.seen → IsRefused v u call refused → GotNone session v u (fault_of refused)
 got_none v u call session (Stopped stop) outside grows is = elim is.refuses.grown [
-  | inl same ↦ idle v u is.found session faults.Stopped outside grows is.places same (λ same. cc) (stop, is.refuses.stands)
-  | inr more ↦ stops_here v u is.found session call (time_for is.found call) stop outside grows is.begins is.places more is.refuses.stands
+  | inl same ↦ idle v u is.found session faults.Stopped outside grows is.places same (λ same. cc) (stop, is.refuses.stands, is.refuses.place)
+  | inr more ↦ stops_here v u is.found session call (time_for is.found call) stop outside grows is.begins is.places more is.refuses.stands is.refuses.place
 ]
 got_none v u call session (RecordFull entries bytes) outside grows is =
     idle v u is.found session faults.Full outside grows is.places is.refuses.same (λ same. cc) (call, ap (λ (b : List Entry). is_full b call) is.refuses.same ∙ is.refuses.full)

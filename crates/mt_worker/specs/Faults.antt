@@ -1,5 +1,5 @@
 -- Why a worker stopped working, and with which status.
-use Rattle.std.specs.Prelude.{◌≡◌, ℕ, true, List, Result, Ok, Err, Some, ⊤}
+use Rattle.std.specs.Prelude.{◌≡◌, ℕ, ◌+◌, true, List, Result, Ok, Err, Some, length, ⊤}
 use Rattle.mt_outside.specs.Stream.{one_more}
 use Rattle.mt_shared.specs.Book.{is_full, stop_in}
 use Rattle.mt_shared.specs.Shared.{IsRefused, NodePass}
@@ -31,10 +31,10 @@ abbrev pub status_of : {T : Type 0} → Result T WorkFault → ℕ
 status_of (Ok x) = 0
 status_of (Err fault) = status_in fault
 
--- THE CAUSES, told by what the pass has then seen. Stopped: the book has a stop. Full: the book has no room for a call that was refused.
+-- THE CAUSES, told by what the pass has then seen. Stopped: the book ends with a stop, at its last place. Full: the book has no room for a call that was refused.
 abbrev pub IsCause : List Entry → WorkFault → Type 0
 IsCause seen Memory = ⊤
-IsCause seen Stopped = (stop : Stop) × (stop_in seen ≡ Some stop)
+IsCause seen Stopped = (stop : Stop) × (stop_in seen ≡ Some stop) × (length seen ≡ stop.place + 1)
 IsCause seen Link = ⊤
 IsCause seen Full = (call : Call) × (is_full seen call ≡ true)
 
