@@ -42,11 +42,19 @@ pub(crate) fn tell_hint(
     match status {
         2 => tell_usage(rt),
         3 => eprintln!(rt; "matter_lens --check CONFIG tells more."),
-        4 => eprintln!(rt;
+        4 if is_of_recordings(words) => eprintln!(rt;
             "matter_lens tells more: it shows a recording's first bad line, and --check CONFIG what the node is."
         ),
         5 => tell_unread(rt, words, texts),
         _ => Ok(()),
+    }
+}
+
+// Whether the texts of the command are recordings, which the lens can show. Those of the others are scripts and outputs.
+fn is_of_recordings(words: &[String]) -> bool {
+    match words.first() {
+        Some(command) => command.as_str() == "replay" || command.as_str() == "compare",
+        None => false,
     }
 }
 
