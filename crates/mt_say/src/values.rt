@@ -262,15 +262,22 @@ fn want_float(words: &mut Words<'_>) -> Result<Value, Misfit> {
 
 // `CAT identifier version n`: the subject that means CATs.
 fn want_cat_subject(words: &mut Words<'_>) -> Result<Value, Misfit> {
-    let identifier = match hex_number(words.peek(), 4) {
-        Some(identifier) => identifier,
-        None => return Err(words.misfit(Wanted::Kind("a CAT's identifier in 4 digits of hex"))),
+    let Some(identifier) = cat_identifier(words.peek()) else {
+        return Err(words.misfit(Wanted::Kind("a CAT's identifier in 4 digits of hex")));
     };
     words.next();
     words.want(b"version", &["version"])?;
     let version = want_short(words)?;
     let subject = CAT_SUBJECT | identifier.wrapping_mul(0x1_0000) | version as u64;
     Ok(Value::Uint(subject))
+}
+
+fn cat_identifier(word: &[u8]) -> Option<u64> {
+    if word.len() == 4 {
+        hex_number(word, 4)
+    } else {
+        None
+    }
 }
 
 // A text in quotes, the first of which is next. `\"`, `\\`, `\n` and `\x` with two digits stand for a byte.
