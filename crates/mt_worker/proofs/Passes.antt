@@ -1,6 +1,7 @@
 -- A pass goes on: with a call that was answered, with one that was refused, and with one part of a thread's work after another.
 use Rattle.std.proofs.Common.{◌≡◌, ◌≢◌, ◌≤◌, ◌∙◌, refl, sym, ap, subst, ℕ, ◌+◌, zero, suc, inl, inr, false, cond, List, [], ◌∷◌, ◌++◌, length, map, Some, None, slice_get, arith, append-nil, append_assoc, length-append, le-ltb, lt-ltb}
 use mathlib.Core.List.{IsPrefix}
+use Rattle.mt_files.specs.Form.{HasForm}
 use Rattle.mt_interactions.specs.Configured.{ConfiguredInteractions}
 use Rattle.mt_shared.specs.Book.{failed, is_full, stop_in, time_for}
 use Rattle.mt_shared.specs.Replay.{answer_at, next, no_answer, replay, told}
@@ -152,17 +153,17 @@ stops_here v u found session call ms stop outside grows begins places longer sta
       cause = (stop, stands, last);
     }
 
-got_none : (v u : NodePass) (call : Call) (session : ℕ) (refused : ActFault) → IsOutsideAgain v u → IsPrefix v.seen u.seen → IsRefused v u call refused → GotNone session v u (fault_of refused)
-got_none v u call session (Stopped stop) outside grows is = elim is.refuses.grown [
+got_none : (v u : NodePass) (call : Call) (session : ℕ) (refused : ActFault) → IsOutsideAgain v u → IsPrefix v.seen u.seen → HasForm call.event → IsRefused v u call refused → GotNone session v u (fault_of refused)
+got_none v u call session (Stopped stop) outside grows form is = elim is.refuses.grown [
   | inl same ↦ idle v u is.found session faults.Stopped outside grows is.places same (λ same. cc) (stop, is.refuses.stands, is.refuses.place)
   | inr more ↦ stops_here v u is.found session call (time_for is.found call) stop outside grows is.begins is.places more is.refuses.stands is.refuses.place
 ]
-got_none v u call session (RecordFull entries bytes) outside grows is =
-    idle v u is.found session faults.Full outside grows is.places is.refuses.same (λ same. cc) (call, ap (λ (b : List Entry). is_full b call) is.refuses.same ∙ is.refuses.full)
-got_none v u call session Memory outside grows is = idle v u is.found session faults.Memory outside grows is.places is.refuses.same (λ same. cc) tt
+got_none v u call session (RecordFull entries bytes) outside grows form is =
+    idle v u is.found session faults.Full outside grows is.places is.refuses.same (λ same. cc) (call, form, ap (λ (b : List Entry). is_full b call) is.refuses.same ∙ is.refuses.full)
+got_none v u call session Memory outside grows form is = idle v u is.found session faults.Memory outside grows is.places is.refuses.same (λ same. cc) tt
 
 pub denied : (v u : NodePass) (call : Call) (session : ℕ) (fault : WorkFault) → IsOutsideAgain v u → IsPrefix v.seen u.seen → IsDenied v u call fault → GotNone session v u fault
-denied v u call session fault outside grows is = subst (GotNone session v u) (sym is.1) (got_none v u call session is.0 outside grows is.2)
+denied v u call session fault outside grows is = subst (GotNone session v u) (sym is.1) (got_none v u call session is.0 outside grows is.2 is.3)
 
 pub outside_on : (x y z : NodePass) → IsOutsideAgain x y → IsOutsideAgain y z → IsOutsideAgain x z
 outside_on x y z first then = (then.0 ∙ first.0, then.1, then.2 ∙ first.2, then.3 ∙ first.3)

@@ -1,5 +1,6 @@
 -- Why a worker stopped working, and with which status.
 use Rattle.std.specs.Prelude.{◌≡◌, ℕ, ◌+◌, true, List, Result, Ok, Err, Some, length, ⊤}
+use Rattle.mt_files.specs.Form.{HasForm}
 use Rattle.mt_outside.specs.Stream.{one_more}
 use Rattle.mt_shared.specs.Book.{is_full, stop_in}
 use Rattle.mt_shared.specs.Shared.{IsRefused, NodePass}
@@ -16,9 +17,9 @@ fault_of (acts.Stopped stop) = Stopped
 fault_of (acts.RecordFull entries bytes) = Full
 fault_of acts.Memory = Memory
 
--- the node refused the call, which is this fault
+-- the node refused the call, a line of a recording, which is this fault
 abbrev pub IsDenied : NodePass → NodePass → Call → WorkFault → Type 0
-IsDenied before after call fault = (refused : ActFault) × (fault ≡ fault_of refused) × IsRefused before after call refused
+IsDenied before after call fault = (refused : ActFault) × (fault ≡ fault_of refused) × HasForm call.event × IsRefused before after call refused
 
 -- THE STATUSES
 abbrev pub status_in : WorkFault → ℕ
@@ -31,12 +32,12 @@ abbrev pub status_of : {T : Type 0} → Result T WorkFault → ℕ
 status_of (Ok x) = 0
 status_of (Err fault) = status_in fault
 
--- THE CAUSES, told by what the pass has then seen. Stopped: the book ends with a stop, at its last place. Full: the book has no room for a call that was refused.
+-- THE CAUSES, told by what the pass has then seen. Stopped: the book ends with a stop, at its last place. Full: the book has no room for the line of a call that was refused, one that a recording can have.
 abbrev pub IsCause : List Entry → WorkFault → Type 0
 IsCause seen Memory = ⊤
 IsCause seen Stopped = (stop : Stop) × (stop_in seen ≡ Some stop) × (length seen ≡ stop.place + 1)
 IsCause seen Link = ⊤
-IsCause seen Full = (call : Call) × (is_full seen call ≡ true)
+IsCause seen Full = (call : Call) × HasForm call.event × (is_full seen call ≡ true)
 
 -- Link: the outlet's count of faults rose by one. Else it is as it was.
 abbrev pub Counts : {T : Type 0} → Result T WorkFault → ℕ → ℕ → Type 0
