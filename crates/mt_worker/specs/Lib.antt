@@ -3,5 +3,6 @@ pub mod Due
 pub mod Faults
 pub mod Giving
 pub mod Gots
+pub mod Made
 pub mod Seats
 pub mod Works
