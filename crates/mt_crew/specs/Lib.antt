@@ -1,3 +1,5 @@
 pub mod Members
+pub mod Receiving
 pub mod Seats
 pub mod Gathered
+pub mod Served

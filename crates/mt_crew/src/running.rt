@@ -1,0 +1,141 @@
+//! From a node to its book.
+
+ghost use Rattle.std.specs.Prelude.{◌≡◌, ◌<◌, ◌≤◌, ◌×◌, [], List, None, Some, length};
+ghost use Rattle.mt_shared.specs.Acts.{IsHalted};
+ghost use Rattle.mt_shared.specs.Book.{stop_in};
+ghost use Rattle.mt_shared.specs.Replay.{map_of, replay};
+ghost use Rattle.mt_shared.specs.declared.entry.Stop.{Stop as AnyStop};
+ghost use Rattle.mt_turn.specs.Known.{first_pass};
+ghost use Rattle.mt_crew.specs.Served.{Served, received_status};
+
+use crate::gathering::{first_of, gather, take_in};
+use crate::seating::{Places, seat_all};
+use crate::threads::{Reception, serve_all};
+use mt_durable::Keeper;
+use mt_model::Verdicts;
+use mt_outside::{Gate, Intake, Outlet, Progress};
+use mt_receiver::{ReceiveFault, Received};
+use mt_shared::{Held, NodePass, SharedNode};
+use mt_worker::Done;
+use std::alloc::Global;
+use std::sync::Wait;
+use std::thread::Threads;
+
+/// How serving ended: with which status, the node beside its keeper and its book, what was received, and what was lent for it.
+pub struct Ended<K: Keeper, I, O> {
+    /// 0; or the first that is not, of the receiver's (7 want of memory, 12 the intake failed), the workers' by rising number, and the
+    /// reporter's (7, 8 a commit failed, 12 an outlet failed, 13 the record is full).
+    pub status: u8,
+    pub held: Held<K>,
+    pub received: Received,
+    pub intake: I,
+    pub outlets: Vec<O>,
+}
+
+impl<K: Keeper + Drop, I: Drop, O: Drop> Drop for Ended<K, I, O> {
+    fn drop(self) {
+        let Ended {
+            status: _,
+            held: _,
+            received: _,
+            intake: _,
+            outlets: _,
+        } = self;
+    }
+}
+
+/// Serves a node: one worker for each outlet, a reporter and a receiver beside each other, until so many datagrams have come, the intake
+/// has ended, or the receiver meets a fault. It takes no memory before the threads begin. Where it returns, all threads have ended.
+pub fn run<R: Threads + Wait + Sync, K: Keeper + Drop + Send, V: Verdicts + Drop + Sync, I: Intake + Drop + Send, O: Outlet + Drop + Send, G: Gate + Sync, P: Progress + Drop + Send>(
+    rt: &R,
+    alloc: Global,
+    node: SharedNode<K, V>,
+    mut pass: NodePass,
+    places: Places<O>,
+    intake: I,
+    mut outlets: Vec<O>,
+    gate: &G,
+    limit: u32,
+    progress: P,
+) -> Ended<K, I, O>
+    requires first { pass ≡ first_pass node.lock node.origin }
+    requires several { (0 < length outlets.items) × (length outlets.items ≤ 8) }
+    requires places { length places.rows.items ≡ length outlets.items }
+    requires some { 0 < limit }
+    ensures origin { result.held.origin.value ≡ node.origin }
+    ensures node { result.held.node ≡ replay node.origin result.held.book.items }
+    ensures kept { stop_in result.held.book.items ≡ None → K.map result.held.keeper ≡ Some (map_of result.held.node) }
+    ensures halted { (stop : AnyStop) → stop_in result.held.book.items ≡ Some stop → IsHalted stop result.held.node result.held.book.items (K.map result.held.keeper) }
+    ensures length { length result.outlets.items ≡ length outlets.items }
+    ensures served { Served O.given O.faults I.held I.clock I.faults node.origin places.rows.items places.ids.items limit intake outlets.items result.held.book.items result.status result.received.ended result.intake result.outlets.items }
+{
+    let Places {
+        senders,
+        mut jobs,
+        mut rows,
+        mut members,
+        ids,
+    } = places;
+    let number = outlets.len() as u32;
+    let Some(ticks) = jobs.pop() else {
+        unreachable!()
+    };
+    let Ok(given) = node.split(&mut pass) else {
+        unreachable!()
+    };
+    seat_all(
+        &node,
+        &mut pass,
+        &mut outlets,
+        &mut jobs,
+        &mut rows,
+        &mut members,
+    );
+    let reception = Reception {
+        intake,
+        senders,
+        ids,
+        limit,
+        progress,
+    };
+    let ((received, reception), (reported, mut members)) = serve_all(
+        rt, alloc, &node, gate, reception, number, given, ticks, members,
+    );
+    let Reception {
+        intake,
+        mut senders,
+        ids: _,
+        limit: _,
+        progress: _,
+    } = reception;
+    let Some(clock) = senders.pop() else {
+        unreachable!()
+    };
+    let Done {
+        outlet: _,
+        pass: other,
+        queue,
+        status: last,
+    } = reported;
+    take_in(&node, &mut pass, clock, other, queue);
+    let worked = gather(&node, &mut pass, &mut outlets, &mut senders, &mut members);
+    let held = node.close(pass);
+    Ended {
+        status: first_of(status_of(&received), first_of(worked, last)),
+        held,
+        received,
+        intake,
+        outlets,
+    }
+}
+
+// The status of how the receiver ended.
+fn status_of(received: &Received) -> u8
+    ensures { result ≡ received_status received.now.ended }
+{
+    match received.ended {
+        Ok(()) => 0,
+        Err(ReceiveFault::Memory) => 7,
+        Err(ReceiveFault::Link) => 12,
+    }
+}

@@ -1,0 +1,158 @@
+//! All threads beside each other.
+
+ghost use Rattle.std.specs.Prelude.{◌≡◌, ◌<◌, [], ℕ, All, length, slice_index_or};
+ghost use Rattle.mt_shared.specs.Shared.{IsPassOf};
+ghost use Rattle.mt_crew.specs.Members.{HasReported, HasWorked, MayWork};
+ghost use Rattle.mt_crew.specs.Receiving.{HasReceived};
+
+use crate::member::Member;
+use mt_durable::Keeper;
+use mt_model::Verdicts;
+use mt_outside::{Gate, Intake, Outlet, Progress};
+use mt_queue::{JobSender, Jobs};
+use mt_receiver::{Received, receive};
+use mt_shared::{NodePass, SharedNode, shared_nodes_are_lent};
+use mt_worker::{Done, reporter};
+use std::alloc::Global;
+use std::sync::Wait;
+use std::thread::{Threads, for_each_mut, join};
+
+/// What the receiver works with.
+pub(crate) struct Reception<I, P> {
+    pub(crate) intake: I,
+    pub(crate) senders: Vec<JobSender>,
+    pub(crate) ids: Vec<u16>,
+    pub(crate) limit: u32,
+    pub(crate) progress: P,
+}
+
+impl<I: Drop, P: Drop> Drop for Reception<I, P> {
+    fn drop(self) {
+        let Reception {
+            intake: _,
+            senders: _,
+            ids: _,
+            limit: _,
+            progress: _,
+        } = self;
+    }
+}
+
+impl<I: Intake + Drop, P: Progress + Drop> Reception<I, P> {
+    // Receives all that comes, and gives it back with how that ended.
+    fn receive<R: Wait>(mut self, rt: &R, alloc: Global) -> (Received, Reception<I, P>)
+        requires several { 1 < length self.senders.items }
+        requires some { 0 < self.limit }
+        ensures { HasReceived I.held I.clock I.faults self result.0 result.1 }
+    {
+        let received = receive(
+            rt,
+            alloc,
+            &mut self.intake,
+            self.senders.as_mut_slice(),
+            &self.ids,
+            self.limit,
+            &mut self.progress,
+        );
+        (received, self)
+    }
+}
+
+// The workers beside each other.
+fn work_all<R: Threads + Wait + Sync, K: Keeper + Drop + Send, V: Verdicts + Drop + Sync, O: Outlet + Drop + Send, G: Gate + Sync>(
+    rt: &R,
+    alloc: Global,
+    node: &SharedNode<K, V>,
+    gate: &G,
+    mut members: Vec<Member<O>>,
+) -> Vec<Member<O>>
+    requires ready { All (MayWork node.now) members.items }
+    ensures length { length result.items ≡ length members.items }
+    ensures worked { (k : ℕ) (d : _) → k < length members.items → HasWorked O.given O.faults (slice_index_or members.items k d) (slice_index_or result.items k d) }
+{
+    shared_nodes_are_lent::<K, V>();
+    let count = members.len();
+    if count == 0 {
+        return members;
+    }
+    for_each_mut(
+        rt,
+        members.as_mut_slice(),
+        count,
+        &|_, member: &mut Member<O>|
+            requires { MayWork node.now member.old }
+            ensures { HasWorked O.given O.faults member.old member.new }
+        { member.serve(rt, alloc, node, gate) },
+    );
+    members
+}
+
+// The reporter beside the workers.
+fn report_beside<R: Threads + Wait + Sync, K: Keeper + Drop + Send, V: Verdicts + Drop + Sync, O: Outlet + Drop + Send, G: Gate + Sync>(
+    rt: &R,
+    alloc: Global,
+    node: &SharedNode<K, V>,
+    gate: &G,
+    number: u32,
+    pass: NodePass,
+    jobs: Jobs,
+    members: Vec<Member<O>>,
+) -> (Done<()>, Vec<Member<O>>)
+    requires own { IsPassOf node.now pass }
+    requires fresh { jobs.taken ≡ [] }
+    requires ready { All (MayWork node.now) members.items }
+    ensures reported { HasReported pass jobs result.0 }
+    ensures length { length result.1.items ≡ length members.items }
+    ensures worked { (k : ℕ) (d : _) → k < length members.items → HasWorked O.given O.faults (slice_index_or members.items k d) (slice_index_or result.1.items k d) }
+{
+    shared_nodes_are_lent::<K, V>();
+    join(
+        rt,
+        move || -> Done<()>
+            requires { IsPassOf node.now pass × (jobs.taken ≡ []) }
+            ensures { HasReported pass jobs result }
+        { reporter(rt, node, pass, number, jobs, gate) },
+        move || -> Vec<Member<O>>
+            requires { All (MayWork node.now) members.items }
+            ensures length { length result.items ≡ length members.items }
+            ensures worked { (k : ℕ) (d : _) → k < length members.items → HasWorked O.given O.faults (slice_index_or members.items k d) (slice_index_or result.items k d) }
+        { work_all(rt, alloc, node, gate, members) },
+    )
+}
+
+/// The receiver beside all of them.
+pub(crate) fn serve_all<R: Threads + Wait + Sync, K: Keeper + Drop + Send, V: Verdicts + Drop + Sync, I: Intake + Drop + Send, O: Outlet + Drop + Send, G: Gate + Sync, P: Progress + Drop + Send>(
+    rt: &R,
+    alloc: Global,
+    node: &SharedNode<K, V>,
+    gate: &G,
+    reception: Reception<I, P>,
+    number: u32,
+    pass: NodePass,
+    jobs: Jobs,
+    members: Vec<Member<O>>,
+) -> ((Received, Reception<I, P>), (Done<()>, Vec<Member<O>>))
+    requires several { (1 < length reception.senders.items) × (0 < reception.limit) }
+    requires own { IsPassOf node.now pass }
+    requires fresh { jobs.taken ≡ [] }
+    requires ready { All (MayWork node.now) members.items }
+    ensures received { HasReceived I.held I.clock I.faults reception result.0.0 result.0.1 }
+    ensures reported { HasReported pass jobs result.1.0 }
+    ensures length { length result.1.1.items ≡ length members.items }
+    ensures worked { (k : ℕ) (d : _) → k < length members.items → HasWorked O.given O.faults (slice_index_or members.items k d) (slice_index_or result.1.1.items k d) }
+{
+    shared_nodes_are_lent::<K, V>();
+    join(
+        rt,
+        move || -> (Received, Reception<I, P>)
+            requires { (1 < length reception.senders.items) × (0 < reception.limit) }
+            ensures { HasReceived I.held I.clock I.faults reception result.0 result.1 }
+        { reception.receive(rt, alloc) },
+        move || -> (Done<()>, Vec<Member<O>>)
+            requires { IsPassOf node.now pass × (jobs.taken ≡ []) × All (MayWork node.now) members.items }
+            ensures reported { HasReported pass jobs result.0 }
+            ensures length { length result.1.items ≡ length members.items }
+            ensures worked { (k : ℕ) (d : _) → k < length members.items → HasWorked O.given O.faults (slice_index_or members.items k d) (slice_index_or result.1.items k d) }
+        { report_beside(rt, alloc, node, gate, number, pass, jobs, members) },
+    )
+}
