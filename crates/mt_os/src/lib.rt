@@ -3,16 +3,19 @@
 //!
 //! - `adapters`: a source over a reader, and a sink over a writer;
 //! - `file_disk`: a disk over a file;
-//! - `progress`: how far a long run is, on a terminal.
+//! - `progress`: how far a long run is, on a terminal;
+//! - `udp`: an intake and outlets over a UDP socket.
 #![tactic(auto)]
 
 mod adapters;
 mod file_disk;
 mod progress;
+mod udp;
 
 pub use adapters::{ReaderSource, WriterSink};
 pub use file_disk::FileDisk;
 pub use progress::TerminalProgress;
+pub use udp::{UdpIntake, UdpOutlet};
 
 // How often a call is made that signals interrupt, before it counts as failed: so that it ends.
 const ATTEMPTS: u32 = 1_000;

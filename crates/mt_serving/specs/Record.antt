@@ -1,0 +1,18 @@
+-- The record of a book.
+use Rattle.std.specs.Prelude.{◌≡◌, ℕ, List, Option, Result, Ok, Err}
+use Rattle.mt_files.specs.Recording.{recording_text}
+use Rattle.mt_outside.specs.Stream.{RoseByOne, Took, TookLess}
+use Rattle.mt_shared.specs.Book.{lines_in}
+use Rattle.mt_shared.specs.declared.entry.Entry.{Entry}
+use Rattle.mt_serving.specs.declared.recording.RecordFault.{RecordFault}
+use Rattle.mt_serving.specs.declared.recording.RecordFault.TheVariants.{Memory, Write}
+
+-- a recording of its lines, in their order, each at the time at which it was done
+abbrev pub record_of : List Entry → List ℕ
+record_of book = recording_text (lines_in book)
+
+-- All of it was written, or a beginning: where the sink failed, or where memory was wanting.
+abbrev pub Writes : {T : Type 0} → Result T RecordFault → List ℕ → Option (List ℕ) → Option (List ℕ) → ℕ → ℕ → Type 0
+Writes (Ok x) text before after old new = Took before after text × (new ≡ old)
+Writes (Err Write) text before after old new = TookLess before after text × RoseByOne old new
+Writes (Err Memory) text before after old new = TookLess before after text × (new ≡ old)

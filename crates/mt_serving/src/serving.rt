@@ -1,0 +1,118 @@
+//! From a disk to the record.
+
+use crate::ending::{ServeFault, finish_serving};
+use crate::recording::{RecordFault, write_record};
+use mt_crew::{Ended, reserve, run};
+use mt_model::Config;
+use mt_outside::{Disk, Gate, Intake, Outlet, Progress, Sink};
+use mt_shared::{Entry, SharedNode};
+use mt_starting::{Started, start_on};
+use std::alloc::Global;
+use std::sync::Wait;
+use std::thread::Threads;
+
+/// What is given back when serving has ended: the exit status, and what was lent for it.
+pub struct Served<D, I, O> {
+    pub status: u8,
+    pub disk: D,
+    pub intake: I,
+    pub outlets: Vec<O>,
+}
+
+impl<D: Drop, I: Drop, O: Drop> Drop for Served<D, I, O> {
+    fn drop(self) {
+        let Served {
+            status: _,
+            disk: _,
+            intake: _,
+            outlets: _,
+        } = self;
+    }
+}
+
+/// Starts a node with what a disk has, serves it with one worker for each outlet until so many datagrams have come or the intake has ended,
+/// and writes its record. The status is 0; or 6 where `out` failed, 7 where memory was wanting, 8 where a call of the disk failed, 9 where
+/// the journal is none, 12 where the intake or an outlet failed, 13 where the record was full, and 17 where no boot more can be counted.
+/// Where a fault ends it, the last line names it, behind the record of what was done before.
+pub fn serve_with<R: Threads + Wait + Sync, D: Disk + Drop + Send, I: Intake + Drop + Send, O: Outlet + Drop + Send, G: Gate + Sync, P: Progress + Drop + Send, W: Sink>(
+    rt: &R,
+    alloc: Global,
+    config: &Config,
+    disk: D,
+    intake: I,
+    outlets: Vec<O>,
+    gate: &G,
+    limit: u32,
+    progress: P,
+    out: &mut W,
+) -> Served<D, I, O>
+    requires several { (0 < length outlets.items) × (length outlets.items ≤ 8) }
+    requires some { 0 < limit }
+{
+    let Started {
+        node,
+        store,
+        verdicts,
+    } = match start_on(alloc, config, disk) {
+        Ok(started) => started,
+        Err((disk, fault)) => {
+            let status = finish_serving(alloc, ServeFault::of_start(fault), out);
+            return Served {
+                status,
+                disk,
+                intake,
+                outlets,
+            };
+        }
+    };
+    let boot = node.state().boot;
+    let Ok(places) = reserve(alloc, config.sessions.as_slice(), boot, outlets.len() as u32) else {
+        let status = finish_serving(alloc, ServeFault::Memory, out);
+        return Served {
+            status,
+            disk: store.into_disk(),
+            intake,
+            outlets,
+        };
+    };
+    let (shared, pass) = match SharedNode::new(alloc, node, store, verdicts) {
+        Ok(both) => both,
+        Err(store) => {
+            let status = finish_serving(alloc, ServeFault::Memory, out);
+            return Served {
+                status,
+                disk: store.into_disk(),
+                intake,
+                outlets,
+            };
+        }
+    };
+    let Ended {
+        status,
+        held,
+        received: _,
+        intake,
+        outlets,
+    } = run(
+        rt, alloc, shared, pass, places, intake, outlets, gate, limit, progress,
+    );
+    let status = tell_end(alloc, &held.book, status, out);
+    Served {
+        status,
+        disk: held.into_keeper().into_disk(),
+        intake,
+        outlets,
+    }
+}
+
+// Writes the record of a book, and then the last line of why the threads stopped, where they did. The answer is the exit status.
+fn tell_end<W: Sink>(alloc: Global, book: &[Entry], status: u8, out: &mut W) -> u8 {
+    match write_record(alloc, book, out) {
+        Ok(()) => match ServeFault::of_status(status) {
+            Some(fault) => finish_serving(alloc, fault, out),
+            None => 0,
+        },
+        Err(RecordFault::Write) if status != 7 => 6,
+        Err(_) => finish_serving(alloc, ServeFault::Memory, out),
+    }
+}
