@@ -1,5 +1,5 @@
 -- A worker before its thread begins, and behind it.
-use Rattle.std.specs.Prelude.{◌≡◌, ℕ, List, [], Option, All, map}
+use Rattle.std.specs.Prelude.{◌≡◌, ℕ, List, [], Option, Some, None, All, map}
 use Rattle.mt_model.specs.declared.texts.config.SessionRow.{SessionRow}
 use Rattle.mt_outside.specs.declared.network.Parcel.{Parcel}
 use Rattle.mt_queue.specs.Ends.{Taken}
@@ -13,6 +13,16 @@ use Rattle.mt_worker.specs.declared.working.Done.{Done}
 use Rattle.mt_crew.specs.declared.member.Member.{Member}
 use Rattle.mt_crew.specs.declared.member.Post.{Post}
 use Rattle.mt_crew.specs.declared.member.Post.TheVariants.{Waits, Left, Serves}
+
+abbrev pub start_of : {O : Type 0} → Post O → Option (NodePass × Taken × O)
+start_of (Waits pass jobs outlet) = Some (pass, jobs, outlet)
+start_of (Left ended) = None
+start_of Serves = None
+
+abbrev pub left_of : {O : Type 0} → Post O → Option (Done O)
+left_of (Left ended) = Some ended
+left_of (Waits pass jobs outlet) = None
+left_of Serves = None
 
 -- WHAT A THREAD BEGINS WITH: a pass of the node, rows that a worker may have, and a queue of which nothing was taken.
 pub record IsReady (node : SharedView) (rows : List SessionRow) (pass : NodePass) (jobs : Taken) : Type 0 where

@@ -7,7 +7,7 @@ ghost use Rattle.mt_shared.specs.Shared.{IsPassOf};
 ghost use Rattle.mt_worker.specs.declared.working.Done.{Done as Leavings};
 ghost use Rattle.mt_crew.specs.Gathered.{Gathered, HaveLeft, IsBackFrom, TakesAll, TookIn, first_of, first_status, outlet_of, status_of};
 
-use crate::member::{Member, Post};
+use crate::member::Member;
 use mt_durable::Keeper;
 use mt_model::Verdicts;
 use mt_queue::{JobSender, QueuePass};
@@ -58,12 +58,7 @@ pub(crate) fn gather<K: Keeper + Drop + Send, V: Verdicts + Drop, O: Drop>(
         unreachable!()
     };
     let before = gather(node, pass, outlets, senders, members);
-    let Member {
-        number: _,
-        rows: _,
-        post,
-    } = member;
-    let Post::Left(ended) = post else {
+    let Some(ended) = member.into_left() else {
         unreachable!()
     };
     let Done {

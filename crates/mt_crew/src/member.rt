@@ -1,6 +1,7 @@
 //! A worker of a crew, before its thread begins and behind it.
 
-ghost use Rattle.mt_crew.specs.Members.{HasWorked, MayWork};
+ghost use Rattle.std.specs.Prelude.{◌≡◌};
+ghost use Rattle.mt_crew.specs.Members.{HasWorked, MayWork, left_of, start_of};
 
 use mt_durable::Keeper;
 use mt_model::{SessionRows, Verdicts};
@@ -57,6 +58,48 @@ impl<O: Drop> Drop for Post<O> {
     }
 }
 
+impl<O: Drop> Post<O> {
+    // What its thread begins with, where it has not begun.
+    fn into_start(self) -> Option<(NodePass, Jobs, O)>
+        ensures { result ≡ start_of self }
+    {
+        match self {
+            Post::Waits { pass, jobs, outlet } => Some((pass, jobs, outlet)),
+            Post::Left(_) => None,
+            Post::Serves => None,
+        }
+    }
+
+    // What its thread has left, where it has ended.
+    fn into_left(self) -> Option<Done<O>>
+        ensures { result ≡ left_of self }
+    {
+        match self {
+            Post::Left(ended) => Some(ended),
+            Post::Waits {
+                pass: _,
+                jobs: _,
+                outlet: _,
+            } => None,
+            Post::Serves => None,
+        }
+    }
+}
+
+impl<O: Drop> Member<O> {
+    /// What its thread has left, where it has ended.
+    pub(crate) fn into_left(self) -> Option<Done<O>>
+        ensures { result ≡ left_of self.post }
+    {
+        let Member {
+            number: _,
+            rows: _,
+            post,
+        } = self;
+        post.into_left()
+    }
+}
+
 impl<O: Outlet + Drop> Member<O> {
     /// What its thread does, from its first job to the end message.
     pub(crate) fn serve<R: Wait, K: Keeper + Drop + Send, V: Verdicts + Drop, G: Gate>(
@@ -69,7 +112,8 @@ impl<O: Outlet + Drop> Member<O> {
         requires ready { MayWork node.now self.old }
         ensures worked { HasWorked O.given O.faults self.old self.new }
     {
-        if let Post::Waits { pass, jobs, outlet } = mem::replace(&mut self.post, Post::Serves) {
+        let start = mem::replace(&mut self.post, Post::Serves).into_start();
+        if let Some((pass, jobs, outlet)) = start {
             self.post = Post::Left(worker(
                 rt,
                 alloc,

@@ -44,6 +44,22 @@ impl<K: Keeper + Drop, I: Drop, O: Drop> Drop for Ended<K, I, O> {
     }
 }
 
+impl<K: Keeper + Drop, I: Drop, O: Drop> Ended<K, I, O> {
+    /// The status, the node beside its keeper and its book, the intake and the outlets.
+    pub fn into_parts(self) -> (u8, Held<K>, I, Vec<O>)
+        ensures { result ≡ (self.status, self.held, self.intake, self.outlets) }
+    {
+        let Ended {
+            status,
+            held,
+            received: _,
+            intake,
+            outlets,
+        } = self;
+        (status, held, intake, outlets)
+    }
+}
+
 /// Serves a node: one worker for each outlet, a reporter and a receiver beside each other, until so many datagrams have come, the intake
 /// has ended, or the receiver meets a fault. It takes no memory before the threads begin. Where it returns, all threads have ended.
 pub fn run<R: Threads + Wait + Sync, K: Keeper + Drop + Send, V: Verdicts + Drop + Sync, I: Intake + Drop + Send, O: Outlet + Drop + Send, G: Gate + Sync, P: Progress + Drop + Send>(
@@ -69,13 +85,7 @@ pub fn run<R: Threads + Wait + Sync, K: Keeper + Drop + Send, V: Verdicts + Drop
     ensures length { length result.outlets.items ≡ length outlets.items }
     ensures served { Served O.given O.faults I.held I.clock I.faults node.origin places.rows.items places.ids.items limit intake outlets.items result.held.book.items result.status result.received.ended result.intake result.outlets.items }
 {
-    let Places {
-        senders,
-        mut jobs,
-        mut rows,
-        mut members,
-        ids,
-    } = places;
+    let (senders, mut jobs, mut rows, mut members, ids) = places.into_parts();
     let number = outlets.len() as u32;
     let Some(ticks) = jobs.pop() else {
         unreachable!()
@@ -101,13 +111,7 @@ pub fn run<R: Threads + Wait + Sync, K: Keeper + Drop + Send, V: Verdicts + Drop
     let ((received, reception), (reported, mut members)) = serve_all(
         rt, alloc, &node, gate, reception, number, given, ticks, members,
     );
-    let Reception {
-        intake,
-        mut senders,
-        ids: _,
-        limit: _,
-        progress: _,
-    } = reception;
+    let (intake, mut senders) = reception.into_parts();
     let Some(clock) = senders.pop() else {
         unreachable!()
     };

@@ -47,6 +47,35 @@ impl<O: Drop> Drop for Places<O> {
     }
 }
 
+impl<O: Drop> Places<O> {
+    /// The queues, the rows, the room for the workers, and the ids.
+    pub(crate) fn into_parts(self) -> Parts<O>
+        ensures senders { result.0 ≡ self.senders }
+        ensures jobs { result.1 ≡ self.jobs }
+        ensures rows { result.2 ≡ self.rows }
+        ensures members { result.3 ≡ self.members }
+        ensures ids { result.4 ≡ self.ids }
+    {
+        let Places {
+            senders,
+            jobs,
+            rows,
+            members,
+            ids,
+        } = self;
+        (senders, jobs, rows, members, ids)
+    }
+}
+
+// What places are made of.
+type Parts<O> = (
+    Vec<JobSender>,
+    Vec<Jobs>,
+    Vec<SessionRows>,
+    Vec<Member<O>>,
+    Vec<u16>,
+);
+
 /// The places of so many workers, who own the sessions of this boot.
 pub fn reserve<O: Drop>(
     alloc: Global,

@@ -38,6 +38,22 @@ impl<I: Drop, P: Drop> Drop for Reception<I, P> {
     }
 }
 
+impl<I: Drop, P: Drop> Reception<I, P> {
+    /// The intake and the queues.
+    pub(crate) fn into_parts(self) -> (I, Vec<JobSender>)
+        ensures { result ≡ (self.intake, self.senders) }
+    {
+        let Reception {
+            intake,
+            senders,
+            ids: _,
+            limit: _,
+            progress: _,
+        } = self;
+        (intake, senders)
+    }
+}
+
 impl<I: Intake + Drop, P: Progress + Drop> Reception<I, P> {
     // Receives all that comes, and gives it back with how that ended.
     fn receive<R: Wait>(mut self, rt: &R, alloc: Global) -> (Received, Reception<I, P>)

@@ -1,12 +1,14 @@
 //! From a disk to the record.
 
+ghost use Rattle.std.specs.Prelude.{◌<◌, ◌≤◌, length};
+
 use crate::ending::{ServeFault, finish_serving};
 use crate::recording::{RecordFault, write_record};
-use mt_crew::{Ended, reserve, run};
+use mt_crew::{reserve, run};
 use mt_model::Config;
 use mt_outside::{Disk, Gate, Intake, Outlet, Progress, Sink};
 use mt_shared::{Entry, SharedNode};
-use mt_starting::{Started, start_on};
+use mt_starting::start_on;
 use std::alloc::Global;
 use std::sync::Wait;
 use std::thread::Threads;
@@ -49,12 +51,8 @@ pub fn serve_with<R: Threads + Wait + Sync, D: Disk + Drop + Send, I: Intake + D
     requires several { (0 < length outlets.items) × (length outlets.items ≤ 8) }
     requires some { 0 < limit }
 {
-    let Started {
-        node,
-        store,
-        verdicts,
-    } = match start_on(alloc, config, disk) {
-        Ok(started) => started,
+    let (node, store, verdicts) = match start_on(alloc, config, disk) {
+        Ok(started) => started.into_parts(),
         Err((disk, fault)) => {
             let status = finish_serving(alloc, ServeFault::of_start(fault), out);
             return Served {
@@ -87,15 +85,10 @@ pub fn serve_with<R: Threads + Wait + Sync, D: Disk + Drop + Send, I: Intake + D
             };
         }
     };
-    let Ended {
-        status,
-        held,
-        received: _,
-        intake,
-        outlets,
-    } = run(
+    let ended = run(
         rt, alloc, shared, pass, places, intake, outlets, gate, limit, progress,
     );
+    let (status, held, intake, outlets) = ended.into_parts();
     let status = tell_end(alloc, &held.book, status, out);
     Served {
         status,
