@@ -59,7 +59,7 @@ impl<D: Disk + Drop> Drop for Started<D> {
 impl<D: Disk + Drop> Started<D> {
     /// The node, the store and the verdicts.
     pub fn into_parts(self) -> (Interactions, Store<D>, TableVerdicts)
-        ensures { result ≡ (self.node, self.store, self.verdicts) }
+        ensures parts { result ≡ (self.node, self.store, self.verdicts) }
         ensures keeps { told_map result.1 ≡ map_of result.0 }
         ensures runs { result.1.store.journal.failed ≡ false }
         ensures judged { HasVerdicts result.0 result.2.roots result.2.csrs result.2.joins }
