@@ -1,9 +1,11 @@
+pub mod Apart
 pub mod Commanded
 pub mod Forms
 pub mod Found
 pub mod Names
 pub mod Numbers
 pub mod Places
+pub mod Serving
 pub mod Sessions
 pub mod Settled
 pub mod Walks

@@ -20,6 +20,12 @@ high most (Some value) number is =
     let both = kept (leb value most) value number is in
     (subst (λ n. n ≤ most) both.1 (leb-true value most both.0), ap Some both.1)
 
+pub number_within : (least most : ℕ) (word : List ℕ) (number : ℕ) → number_between least most word ≡ Some number → (least ≤ number) × (number ≤ most)
+number_within least most word number is =
+    let above = low least (up_to most (number_of word)) number is in
+    let below = high most (number_of word) number above.1 in
+    (above.0, below.0)
+
 pub number_written : ((text : List ℕ) (number : ℕ) → number_of text ≡ Some number → number < 2 ^ 64 → text ≡ decimal number)
     → (least most number : ℕ) (word : List ℕ) → most < 2 ^ 64 → number_between least most word ≡ Some number → (decimal number ≡ word) × (least ≤ number) × (number ≤ most)
 number_written spelled least most number word small is =

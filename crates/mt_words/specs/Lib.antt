@@ -1,2 +1,3 @@
 pub mod Words
 pub mod Parsed
+pub mod Sorting

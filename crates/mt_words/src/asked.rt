@@ -52,7 +52,8 @@ pub enum WordsFault {
 }
 
 /// What the words of a command line ask for, the first being the command. Where memory runs out for the
-/// parser, that is no answer on the words.
+/// parser, that is no answer on the words. What those of `serve` ask for, `serve_of` says: here they are
+/// bad words.
 pub fn asked_of(alloc: Global, words: &[String]) -> Result<Asked, WordsFault>
     ensures ok { IfOk result (λ found. asked (words_of words.now) ≡ Some found) }
     ensures bad { IfErr result (λ fault. fault ≡ WordsFault.Bad → asked (words_of words.now) ≡ None) }
@@ -67,6 +68,7 @@ pub fn asked_of(alloc: Global, words: &[String]) -> Result<Asked, WordsFault>
         Some(Command::Settle) => settle_asked(alloc, words),
         Some(Command::Ask) => ask_asked(alloc, words),
         Some(Command::Show) => show_asked(alloc, words),
+        Some(Command::Serve) => Err(WordsFault::Bad),
         None => Err(WordsFault::Bad),
     }
 }

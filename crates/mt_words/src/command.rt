@@ -18,6 +18,8 @@ pub enum Command {
     Ask,
     /// `show S CONFIG OUTPUT`.
     Show,
+    /// `serve --workers W --datagrams N CONFIG JOURNAL BIND`.
+    Serve,
 }
 
 /// The command that a first word names.
@@ -31,6 +33,7 @@ pub fn command_of(word: &str) -> Option<Command>
         "settle" => Some(Command::Settle),
         "ask" => Some(Command::Ask),
         "show" => Some(Command::Show),
+        "serve" => Some(Command::Serve),
         _ => None,
     }
 }
@@ -62,8 +65,8 @@ pub fn places<const N: usize>(words: &[String]) -> Option<[usize; N]>
     if count == N { Some(places) } else { None }
 }
 
-// Whether a word begins with `-` and is longer than that; `--` is one.
-fn is_option(word: &[u8]) -> bool
+/// Whether a word begins with `-` and is longer than that; `--` is one.
+pub fn is_option(word: &[u8]) -> bool
     ensures { result ≡ is_option word.now }
 {
     match word {

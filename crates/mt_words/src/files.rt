@@ -1,11 +1,12 @@
 //! Which words name files.
 
 ghost use Rattle.std.specs.Prelude.{◌≡◌};
-ghost use Rattle.std.specs.Option.{option_and_then};
+ghost use Rattle.std.specs.Option.{option_and_then, option_map};
 ghost use Rattle.std.specs.Result.{result_ok};
-ghost use Rattle.mt_words.specs.Words.{files_at, files_of, positional_from, words_of};
+ghost use Rattle.mt_words.specs.Words.{files_at, files_of, positional_from, serve_files, served, words_of};
 
 use crate::command::{Command, command_of, places};
+use crate::sorting::served;
 
 /// Which words name the files of a command, by their places from 0; None where the command has no
 /// such word.
@@ -28,7 +29,8 @@ pub struct Files {
 pub struct BadWords;
 
 /// The files that the words of a command line name, its first word being the command. It takes no
-/// memory. Numbers among the words are not looked at.
+/// memory. Numbers among the words are not looked at, but for those of the options of `serve`: its words
+/// are bad where `serve_of` says so.
 pub fn files_of(words: &[String]) -> Result<Files, BadWords>
     ensures { result_ok result ≡ files_of (words_of words.now) }
 {
@@ -42,6 +44,7 @@ pub fn files_of(words: &[String]) -> Result<Files, BadWords>
         Some(Command::Settle) => settle_files(others),
         Some(Command::Ask) => session_files(others),
         Some(Command::Show) => session_files(others),
+        Some(Command::Serve) => serve_files(others),
         None => Err(BadWords),
     }
 }
@@ -127,6 +130,21 @@ fn session_files(words: &[String]) -> Result<Files, BadWords>
                 bind: None,
             })
         }
+        None => Err(BadWords),
+    }
+}
+
+fn serve_files(words: &[String]) -> Result<Files, BadWords>
+    ensures { result_ok result ≡ option_map serve_files (served (words_of words.now)) }
+{
+    match served(words) {
+        Some(found) => Ok(Files {
+            config: found.config,
+            first: None,
+            second: None,
+            journal: Some(found.journal),
+            bind: Some(found.bind),
+        }),
         None => Err(BadWords),
     }
 }

@@ -5,6 +5,8 @@
 //! - `parse`: the commands as the parser of command lines has them;
 //! - `number`: words that are numbers;
 //! - `asked`: what the words ask for;
+//! - `serve`: what those of `serve` ask for;
+//! - `sorting`: the words behind `serve`, gone over;
 //! - `laws`: what holds of all words.
 #![tactic(auto)]
 
@@ -14,8 +16,13 @@ mod files;
 mod laws;
 mod number;
 mod parse;
+mod serve;
+mod sorting;
 
 pub use asked::{Asked, WordsFault, asked_of};
 pub use files::{BadWords, Files, files_of};
-pub use laws::{numbers_are_as_they_are_written, words_that_ask_name_files};
-pub use number::MOST_COUNT;
+pub use laws::{
+    numbers_are_as_they_are_written, words_that_ask_name_files, words_that_serve_name_files,
+};
+pub use number::{MOST_COUNT, MOST_DATAGRAMS, MOST_WORKERS};
+pub use serve::{Serve, serve_of};
