@@ -40,6 +40,7 @@ module _ {O : Type 0} (given : O → Option (List Parcel)) (faults : O → ℕ) 
     status = status;
     goes = subst (λ (p : NodePass). Goes x.pass p its.gots) (sym pass) its.went.goes;
     over = its.over;
+    made = its.made;
     all = subst (λ (o : O). OnOk result (Gave (given x.outlet) (given o) (parcels_in (all_sent accounts its.gots)))) (sym outlet) its.went.all;
     part = subst (λ (o : O). GavePart (given x.outlet) (given o) (parcels_in (all_sent accounts its.gots))) (sym outlet) its.went.part;
     did = ok_both result _ _ _ (λ (same : done.queue.taken ≡ jobs) (did : DoesAll (map id_of rows) accounts jobs its.gots). subst (λ (js : List Job). DoesAll (map id_of rows) accounts js its.gots) (sym same) did) taken its.did;

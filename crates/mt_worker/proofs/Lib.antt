@@ -1,6 +1,7 @@
 mod Calls
 mod Ended
 mod Giving
+mod Made
 mod Passes
 mod Seats
 mod Sessions

@@ -116,8 +116,8 @@ after_longer found book entry places longer =
     let long = ap length longer ∙ length-append found (entry ∷ []) in
     ap (λ b. cond b (places ++ length found ∷ []) places) (lt-ltb (length found) (length book) (omega (arith, long)))
 
-idle : (v u : NodePass) (found : List Entry) (session : ℕ) (fault : WorkFault) → IsOutsideAgain v u → IsPrefix v.seen u.seen → u.places ≡ places_after found u.seen v.places → u.seen ≡ found → fault ≢ faults.Link → IsCause u.seen fault → GotNone session v u fault
-idle v u found session fault outside grows places same not_link cause = record {
+idle : (v u : NodePass) (found : List Entry) (session : ℕ) (call : Call) (fault : WorkFault) → IsOutsideAgain v u → IsPrefix v.seen u.seen → u.places ≡ places_after found u.seen v.places → u.seen ≡ found → fault ≢ faults.Link → IsCause u.seen fault → GotNone session call v u fault
+idle v u found session call fault outside grows places same not_link cause = record {
   gots = [];
   goes = record {
     outside = outside;
@@ -135,7 +135,7 @@ abbrev stop_got : ℕ → ℕ → Entry → Got
 stop_got session place entry = record { place = place; session = session; told = (entry, no_answer) }
 
 stops_here : (v u : NodePass) (found : List Entry) (session : ℕ) (call : Call) (ms : ℕ) (stop : Stop) → IsOutsideAgain v u → IsPrefix v.seen u.seen → IsPrefix v.seen found → u.places ≡ places_after found u.seen v.places → u.seen ≡ found ++ failed call ms stop ∷ []
-    → stop_in u.seen ≡ Some stop → length u.seen ≡ stop.place + 1 → GotNone session v u faults.Stopped
+    → stop_in u.seen ≡ Some stop → length u.seen ≡ stop.place + 1 → GotNone session call v u faults.Stopped
 stops_here v u found session call ms stop outside grows begins places longer stands last =
     let low : length v.seen ≤ length found = prefix_length v.seen found begins in
     let long = ap length longer ∙ length-append found (failed call ms stop ∷ []) in
@@ -148,22 +148,22 @@ stops_here v u found session call ms stop outside grows begins places longer sta
         told_are = λ origin is. (subst (λ (b : List Entry). slice_get (told origin b) (length found) ≡ Some (failed call ms stop, no_answer)) (sym longer) (told_last origin found (failed call ms stop)), tt);
         rise = (low, omega (arith, long));
       };
-      stops = ((refl, refl), tt);
+      stops = (record { session_is = refl; call_is = refl; stop = refl }, tt);
       not_link = λ same. cc;
       cause = (stop, stands, last);
     }
 
-got_none : (v u : NodePass) (call : Call) (session : ℕ) (refused : ActFault) → IsOutsideAgain v u → IsPrefix v.seen u.seen → HasForm call.event → IsRefused v u call refused → GotNone session v u (fault_of refused)
+got_none : (v u : NodePass) (call : Call) (session : ℕ) (refused : ActFault) → IsOutsideAgain v u → IsPrefix v.seen u.seen → HasForm call.event → IsRefused v u call refused → GotNone session call v u (fault_of refused)
 got_none v u call session (Stopped stop) outside grows form is = elim is.refuses.grown [
-  | inl same ↦ idle v u is.found session faults.Stopped outside grows is.places same (λ same. cc) (stop, is.refuses.stands, is.refuses.place)
+  | inl same ↦ idle v u is.found session call faults.Stopped outside grows is.places same (λ same. cc) (stop, is.refuses.stands, is.refuses.place)
   | inr more ↦ stops_here v u is.found session call (time_for is.found call) stop outside grows is.begins is.places more is.refuses.stands is.refuses.place
 ]
 got_none v u call session (RecordFull entries bytes) outside grows form is =
-    idle v u is.found session faults.Full outside grows is.places is.refuses.same (λ same. cc) (call, form, ap (λ (b : List Entry). is_full b call) is.refuses.same ∙ is.refuses.full)
-got_none v u call session Memory outside grows form is = idle v u is.found session faults.Memory outside grows is.places is.refuses.same (λ same. cc) tt
+    idle v u is.found session call faults.Full outside grows is.places is.refuses.same (λ same. cc) (call, form, ap (λ (b : List Entry). is_full b call) is.refuses.same ∙ is.refuses.full)
+got_none v u call session Memory outside grows form is = idle v u is.found session call faults.Memory outside grows is.places is.refuses.same (λ same. cc) tt
 
-pub denied : (v u : NodePass) (call : Call) (session : ℕ) (fault : WorkFault) → IsOutsideAgain v u → IsPrefix v.seen u.seen → IsDenied v u call fault → GotNone session v u fault
-denied v u call session fault outside grows is = subst (GotNone session v u) (sym is.1) (got_none v u call session is.0 outside grows is.2 is.3)
+pub denied : (v u : NodePass) (call : Call) (session : ℕ) (fault : WorkFault) → IsOutsideAgain v u → IsPrefix v.seen u.seen → IsDenied v u call fault → GotNone session call v u fault
+denied v u call session fault outside grows is = subst (GotNone session call v u) (sym is.1) (got_none v u call session is.0 outside grows is.2 is.3)
 
 pub outside_on : (x y z : NodePass) → IsOutsideAgain x y → IsOutsideAgain y z → IsOutsideAgain x z
 outside_on x y z first then = (then.0 ∙ first.0, then.1, then.2 ∙ first.2, then.3 ∙ first.3)

@@ -3,6 +3,7 @@ use Rattle.std.proofs.Common.{◌≡◌, ◌≢◌, ◌∙◌, refl, sym, ap, su
 use Rattle.std.specs.Prelude.{◌==◌, ◌||◌, ◌<◌, is_some, if◌then◌else◌}
 use Rattle.mt_model.specs.declared.texts.recording.Sent.{Sent}
 use Rattle.mt_shared.specs.Replay.{unless_stopped}
+use Rattle.mt_shared.specs.declared.entry.Call.{Call}
 use Rattle.mt_shared.specs.declared.entry.Stop.{Stop}
 use Rattle.mt_worker.specs.Accounts.{Account, Accounts, account_behind, account_over, all_behind, all_sent, behind, sent_by, sent_in, sent_over, standing_behind, talk_in}
 use Rattle.mt_worker.specs.Due.{is_in}
@@ -35,7 +36,7 @@ over_on ids (x ∷ xs) ys a b = (a.0, over_on ids xs ys a.1 b)
 
 -- AN ENTRY CHANGES THE ACCOUNT OF ITS SESSION ALONE.
 
-here : (accounts : Accounts) (got : Got) (id : ℕ) → got.session ≡ id → behind accounts got id ≡ account_behind (accounts id) got.told
+pub here : (accounts : Accounts) (got : Got) (id : ℕ) → got.session ≡ id → behind accounts got id ≡ account_behind (accounts id) got.told
 here accounts got id is = ap (λ (b : Bool). if b then account_behind (accounts id) got.told else accounts id) (eq-eqb id got.session (sym is))
 
 there : (accounts : Accounts) (got : Got) (id : ℕ) → got.session ≢ id → behind accounts got id ≡ accounts id
@@ -74,13 +75,13 @@ stop_sends a told =
     let each : (o : Option Stop) → is_some o ≡ true → unless_stopped o (sent_in told.0.call.event told.0.ms told.1 a) [] ≡ [] = elim [ None ↦ λ is. absurd (true≢false (sym is)) | Some stop ↦ λ is. refl ] in
     each told.0.stop
 
-pub stops_send : (a : Account) (session : ℕ) (gots : List Got) → AreStops session gots → sent_over a gots ≡ []
-stops_send a session [] stops = refl
-stops_send a session (got ∷ gots) stops = ap (λ (sent : List Sent). sent ++ sent_over (account_behind a got.told) gots) (stop_sends a got.told stops.0.1) ∙ stops_send (account_behind a got.told) session gots stops.1
+pub stops_send : (a : Account) (session : ℕ) (call : Call) (gots : List Got) → AreStops session call gots → sent_over a gots ≡ []
+stops_send a session call [] stops = refl
+stops_send a session call (got ∷ gots) stops = ap (λ (sent : List Sent). sent ++ sent_over (account_behind a got.told) gots) (stop_sends a got.told stops.0.stop) ∙ stops_send (account_behind a got.told) session call gots stops.1
 
-pub stops_over : (session : ℕ) (gots : List Got) → AreStops session gots → AreOverOne session gots
-stops_over session [] stops = tt
-stops_over session (got ∷ gots) stops = (stops.0.0, stops_over session gots stops.1)
+pub stops_over : (session : ℕ) (call : Call) (gots : List Got) → AreStops session call gots → AreOverOne session gots
+stops_over session call [] stops = tt
+stops_over session call (got ∷ gots) stops = (stops.0.session_is, stops_over session call gots stops.1)
 
 -- WHICH SESSIONS.
 

@@ -5,6 +5,7 @@ use Rattle.mt_outside.specs.declared.network.Parcel.{Parcel}
 use Rattle.mt_outside.specs.declared.network.Peer.{Peer}
 use Rattle.mt_queue.specs.declared.job.Job.{Job}
 use Rattle.mt_queue.specs.declared.job.Job.TheVariants.{End}
+use Rattle.mt_runs.specs.Datagrams.{session_named}
 use Rattle.mt_worker.specs.Accounts.{Account, Accounts, account_over, all_behind, all_sent, sent_over}
 use Rattle.mt_worker.specs.Due.{AreRising, Does, DoesAll, Hears, Sweeps, Takes, Wakes, is_in}
 use Rattle.mt_worker.specs.Gots.{Each, Got}
@@ -15,6 +16,7 @@ use Rattle.mt_worker.specs.declared.fault.WorkFault.TheVariants.{Memory}
 use Rattle.mt_worker.specs.declared.hand.Hand.{Hand}
 use Rattle.mt_worker.specs.declared.seat.Seat.{Seat}
 use Rattle.mt_worker.proofs.Giving.{gave_none, part_none}
+use Rattle.mt_worker.proofs.Made.{all_made_on, one_made}
 use Rattle.mt_worker.proofs.Passes.{goes_none}
 use Rattle.mt_worker.proofs.Sessions.{all_both, apart, behind_both, first_over, later_over, later_same, one_behind, one_sent, others_behind, over_on, rows_stay, seats_same}
 use Rattle.mt_worker.proofs.Works.{err, failed_as, ok, ok_as, went_on}
@@ -38,6 +40,7 @@ module _ {O : Type 0} (given : O → Option (List Parcel)) (faults : O → ℕ) 
     gots = first.gots ++ then.gots;
     went = subst (Went given faults x z result (first.gots ++ then.gots)) (sym (all_both accounts first.gots then.gots)) (went_on given faults t x y z result first.gots then.gots _ _ first.went then.went);
     over = over_on ids first.gots then.gots first.over then.over;
+    made = all_made_on accounts first.gots then.gots first.made then.made;
     did = ok_as given faults result _ _ (both then.gots) then.did;
     stands = subst (λ (f : Accounts). OnOk result (AreSeats seats ids f)) (sym (behind_both accounts first.gots then.gots)) then.stands;
   }
@@ -48,11 +51,11 @@ module _ {O : Type 0} (given : O → Option (List Parcel)) (faults : O → ℕ) 
       on_on t _ _ (λ (f : Accounts) (gots : List Got). DoesAll ids f (jobs ++ job ∷ []) gots) ids x y z mid seats result accounts first then (λ ys its. does_push ids accounts jobs job first.gots ys first.did its)
 
   pub through : {T : Type 0} (ids : List ℕ) (jobs : List Job) (x y : Hand O) (seats : List Seat) (result : Result T WorkFault) (accounts : Accounts) → WentOn given faults (λ (f : Accounts) (gots : List Got). DoesAll ids f jobs gots) ids x y seats result accounts → WentThrough given faults ids jobs x y result accounts
-  through ids jobs x y seats result accounts went = record { gots = went.gots; went = went.went; over = went.over; did = went.did }
+  through ids jobs x y seats result accounts went = record { gots = went.gots; went = went.went; over = went.over; made = went.made; did = went.did }
 
   -- a fault stays one, whatever else was due
   pub on_failed : (T U : Type 0) (One Both : Accounts → List Got → Type 0) (ids : List ℕ) (x y : Hand O) (mid seats : List Seat) (fault : WorkFault) (accounts : Accounts) → WentOn given faults One ids x y mid (err T fault) accounts → WentOn given faults Both ids x y seats (err U fault) accounts
-  on_failed T U One Both ids x y mid seats fault accounts went = record { gots = went.gots; went = failed_as given faults T U x y fault went.gots (all_sent accounts went.gots) went.went; over = went.over; did = tt; stands = tt }
+  on_failed T U One Both ids x y mid seats fault accounts went = record { gots = went.gots; went = failed_as given faults T U x y fault went.gots (all_sent accounts went.gots) went.went; over = went.over; made = went.made; did = tt; stands = tt }
 
   -- ONE SESSION AMONG SEVERAL: the first.
   module _ (ids : List ℕ) (id : ℕ) (accounts : Accounts) (its : (accounts id).row.session ≡ id) where
@@ -72,7 +75,7 @@ module _ {O : Type 0} (given : O → Option (List Parcel)) (faults : O → ℕ) 
         → WentOn given faults (λ (f : Accounts) (gots : List Got). Sweeps now (id ∷ ids) f gots) (id ∷ ids) x y seats (err U fault) accounts
     wake_failed T U now x y seat seats fault first =
         let over = over_id first.gots first.over in
-        record { gots = first.gots; went = failed_as given faults T U x y fault first.gots (all_sent accounts first.gots) (first_went x y _ first.gots over first.went); over = first_over id ids first.gots over; did = tt; stands = tt }
+        record { gots = first.gots; went = failed_as given faults T U x y fault first.gots (all_sent accounts first.gots) (first_went x y _ first.gots over first.went); over = first_over id ids first.gots over; made = one_made accounts id first.gots over first.made; did = tt; stands = tt }
 
     pub wake_others : {T : Type 0} (t : T) (now : ℕ) (x y : Hand O) (seat : Seat) (seats : List Seat) → Each (λ (later : ℕ). id < later) ids → AreSeats seats ids accounts → (first : WentOver given faults (λ (a : Account) (gots : List Got). Wakes a now gots) x y seat (ok T t) (accounts id))
         → AreSeats seats ids (all_behind accounts first.gots)
@@ -93,6 +96,7 @@ module _ {O : Type 0} (given : O → Option (List Parcel)) (faults : O → ℕ) 
           gots = first.gots ++ rest.gots;
           went = subst (Went given faults x z result (first.gots ++ rest.gots)) (sym (all_both accounts first.gots rest.gots)) (went_on given faults t x y z result first.gots rest.gots _ _ (first_went x y _ first.gots over first.went) rest.went);
           over = over_on (id ∷ ids) first.gots rest.gots (first_over id ids first.gots over) (later_over id ids rest.gots rest.over);
+          made = all_made_on accounts first.gots rest.gots (one_made accounts id first.gots over first.made) rest.made;
           did = ok_as given faults result _ _ (λ (sweeps : Sweeps now ids mid rest.gots). (first.gots, rest.gots, refl, first.did, sweeps)) rest.did;
           stands = ok_as given faults result _ _ seated rest.stands;
         }
@@ -108,6 +112,7 @@ module _ {O : Type 0} (given : O → Option (List Parcel)) (faults : O → ℕ) 
           gots = first.gots;
           went = first_went x y result first.gots over first.went;
           over = first_over id ids first.gots over;
+          made = one_made accounts id first.gots over first.made;
           did = ok_as given faults result _ _ (λ (heard : Hears (accounts id) now from bytes first.gots).
               subst (λ (b : Bool). MatchBool b (Hears (accounts session) now from bytes first.gots) (first.gots ≡ [])) (sym is) (subst (λ (i : ℕ). Hears (accounts i) now from bytes first.gots) same heard)) first.did;
           stands = ok_as given faults result _ _ (λ (stands : IsSeatOf seat (account_over (accounts id) first.gots)). first_seats seat seats first.gots above over stands others) first.stands;
@@ -123,6 +128,7 @@ module _ {O : Type 0} (given : O → Option (List Parcel)) (faults : O → ℕ) 
           gots = rest.gots;
           went = rest.went;
           over = later_over id ids rest.gots rest.over;
+          made = rest.made;
           did = ok_as given faults result _ _ (λ (took : Takes ids accounts now from bytes (Some session) rest.gots). subst (λ (b : Bool). MatchBool b (Hears (accounts session) now from bytes rest.gots) (rest.gots ≡ [])) (sym same) took) rest.did;
           stands = ok_as given faults result _ _ (λ (are : AreSeats seats ids (all_behind accounts rest.gots)). (ap (λ (a : Account). a.row.session) stays ∙ its, subst (IsSeatOf seat) (sym stays) stands, are)) rest.stands;
         }
@@ -133,6 +139,7 @@ module _ {O : Type 0} (given : O → Option (List Parcel)) (faults : O → ℕ) 
     gots = [];
     went = record { goes = goes_none x.pass outside; all = gave_none (given x.outlet); part = part_none (given x.outlet) (given x.outlet) [] refl; counts = refl; cause = tt };
     over = tt;
+    made = tt;
     did = due;
     stands = are;
   }
@@ -179,13 +186,14 @@ module _ {O : Type 0} (given : O → Option (List Parcel)) (faults : O → ℕ) 
       on_idle T t (λ (f : Accounts) (gots : List Got). Takes ids f now from bytes named gots) ids x seats accounts outside (subst (λ (o : Option ℕ). Takes ids accounts now from bytes o []) (sym none) refl) are
 
   module _ (session now : ℕ) (from : Peer) (bytes : List ℕ) (x y : Hand O) (whole : List Seat) (seat later : Seat) (others : List Seat) (is : whole ≡ seat ∷ others) where
-    pub take_here : (T : Type 0) (ids : List ℕ) (accounts : Accounts) (result : Result T WorkFault) → AreSeats whole ids accounts → AreRising ids → ((a : Account) → IsSeatOf seat a → a.row.session ≡ session)
-        → ((a : Account) → IsSeatOf seat a → WentOver given faults (λ (a : Account) (gots : List Got). Hears a now from bytes gots) x y later result a)
+    pub take_here : (T : Type 0) (ids : List ℕ) (accounts : Accounts) (result : Result T WorkFault) → AreSeats whole ids accounts → AreRising ids → session_named bytes ≡ Some session → ((a : Account) → IsSeatOf seat a → a.row.session ≡ session)
+        → ((a : Account) → IsSeatOf seat a → session_named bytes ≡ Some a.row.session → WentOver given faults (λ (a : Account) (gots : List Got). Hears a now from bytes gots) x y later result a)
         → WentOn given faults (λ (f : Accounts) (gots : List Got). Takes ids f now from bytes (Some session) gots) ids x y (later ∷ others) result accounts
-    take_here T [] accounts result are rising same went = absurd (subst (λ (l : List Seat). AreSeats l [] accounts) is are)
-    take_here T (id ∷ ids) accounts result are rising same went =
+    take_here T [] accounts result are rising named same went = absurd (subst (λ (l : List Seat). AreSeats l [] accounts) is are)
+    take_here T (id ∷ ids) accounts result are rising named same went =
         let first = subst (λ (l : List Seat). AreSeats l (id ∷ ids) accounts) is are in
-        take_first ids id accounts first.0 session now from bytes x y later others result (sym first.0 ∙ same (accounts id) first.1) rising.0 first.2 (went (accounts id) first.1)
+        let its = same (accounts id) first.1 in
+        take_first ids id accounts first.0 session now from bytes x y later others result (sym first.0 ∙ its) rising.0 first.2 (went (accounts id) first.1 (named ∙ ap (λ (i : ℕ). Some i) (sym its)))
 
     pub take_there : (T : Type 0) (ids : List ℕ) (accounts : Accounts) (seats : List Seat) (result : Result T WorkFault) → AreSeats whole ids accounts → AreRising ids → ((a : Account) → IsSeatOf seat a → a.row.session ≢ session)
         → ((ids : List ℕ) (accounts : Accounts) → AreSeats others ids accounts → AreRising ids → WentOn given faults (λ (f : Accounts) (gots : List Got). Takes ids f now from bytes (Some session) gots) ids x y seats result accounts)
@@ -206,6 +214,7 @@ module _ {O : Type 0} (given : O → Option (List Parcel)) (faults : O → ℕ) 
     gots = its.gots;
     went = record { goes = its.went.goes; all = its.went.all; part = its.went.part; counts = its.went.counts; cause = tt };
     over = its.over;
+    made = its.made;
     did = its.did;
     stands = its.stands;
   }
@@ -216,5 +225,6 @@ module _ {O : Type 0} (given : O → Option (List Parcel)) (faults : O → ℕ) 
     gots = [];
     went = record { goes = goes_none x.pass outside; all = tt; part = part_none (given x.outlet) (given x.outlet) [] refl; counts = refl; cause = tt };
     over = tt;
+    made = tt;
     did = tt;
   }

@@ -6,6 +6,7 @@ use Rattle.mt_worker.specs.Due.{Ticks, TicksAll}
 use Rattle.mt_worker.specs.Gots.{Got}
 use Rattle.mt_worker.specs.Works.{TickedBy}
 use Rattle.mt_worker.specs.declared.fault.WorkFault.{WorkFault}
+use Rattle.mt_worker.proofs.Made.{ticks_on}
 use Rattle.mt_worker.proofs.Passes.{goes_none, goes_on}
 use Rattle.mt_worker.proofs.Seats.{ok_is}
 use Rattle.mt_worker.proofs.Works.{err, ok}
@@ -15,19 +16,20 @@ ticks_push [] job xs ys all its = (ys, [], ap (λ (gots : List Got). gots ++ ys)
 ticks_push (first ∷ jobs) job xs ys all its = (all.0, all.1 ++ ys, ap (λ (gots : List Got). gots ++ ys) all.2 ∙ append_assoc all.0 all.1 ys, all.3, ticks_push jobs job all.1 ys all.4 its)
 
 pub ticked_none : (T : Type 0) (t : T) (v : NodePass) → v.inside ≡ false → TickedBy (TicksAll []) v v (ok T t)
-ticked_none T t v outside = record { gots = []; goes = goes_none v outside; did = refl; not_link = tt; cause = tt }
+ticked_none T t v outside = record { gots = []; goes = goes_none v outside; ticks = tt; did = refl; not_link = tt; cause = tt }
 
 pub tick_on : (T U : Type 0) (t : T) (v u w : NodePass) (jobs : List Job) (job : Job) (result : Result U WorkFault) → TickedBy (TicksAll jobs) v u (ok T t) → TickedBy (Ticks job) u w result → TickedBy (TicksAll (jobs ++ job ∷ [])) v w result
 tick_on T U t v u w jobs job result first then = record {
   gots = first.gots ++ then.gots;
   goes = goes_on v u w first.gots then.gots first.goes then.goes;
+  ticks = ticks_on first.gots then.gots first.ticks then.ticks;
   did = ok_is result (Ticks job then.gots) (TicksAll (jobs ++ job ∷ []) (first.gots ++ then.gots)) (ticks_push jobs job first.gots then.gots first.did) then.did;
   not_link = then.not_link;
   cause = then.cause;
 }
 
 pub ticked_fine : (T U : Type 0) (t : T) (other : U) (Due : List Got → Type 0) (v u : NodePass) → TickedBy Due v u (ok T t) → TickedBy Due v u (ok U other)
-ticked_fine T U t other Due v u its = record { gots = its.gots; goes = its.goes; did = its.did; not_link = tt; cause = tt }
+ticked_fine T U t other Due v u its = record { gots = its.gots; goes = its.goes; ticks = its.ticks; did = its.did; not_link = tt; cause = tt }
 
 pub ticked_failed : (T U : Type 0) (fault : WorkFault) (Due : List Got → Type 0) (v u : NodePass) → TickedBy Due v u (err T fault) → TickedBy Due v u (err U fault)
-ticked_failed T U fault Due v u its = record { gots = its.gots; goes = its.goes; did = tt; not_link = its.not_link; cause = its.cause }
+ticked_failed T U fault Due v u its = record { gots = its.gots; goes = its.goes; ticks = its.ticks; did = tt; not_link = its.not_link; cause = its.cause }

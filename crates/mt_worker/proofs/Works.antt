@@ -15,6 +15,7 @@ use Rattle.mt_worker.specs.Due.{Ticks, call_tick}
 use Rattle.mt_worker.specs.Faults.{Counts, IsCause, IsDenied}
 use Rattle.mt_worker.specs.Giving.{Gave, GavePart, parcels_in}
 use Rattle.mt_worker.specs.Gots.{Goes, Got}
+use Rattle.mt_worker.specs.Made.{IsMade, Makes}
 use Rattle.mt_worker.specs.Seats.{IsSeatOf}
 use Rattle.mt_worker.specs.Works.{Acts, AreOverOne, GotNone, TickedBy, Went, WentOver, got_by}
 use Rattle.mt_worker.specs.declared.fault.WorkFault.{WorkFault}
@@ -22,6 +23,7 @@ use Rattle.mt_worker.specs.declared.fault.WorkFault.TheVariants.{Memory, Stopped
 use Rattle.mt_worker.specs.declared.hand.Hand.{Hand}
 use Rattle.mt_worker.specs.declared.seat.Seat.{Seat}
 use Rattle.mt_worker.proofs.Giving.{gave_none, gave_on, parcels_both, part_none, part_on}
+use Rattle.mt_worker.proofs.Made.{made_on, stops_made, stops_tick}
 use Rattle.mt_worker.proofs.Passes.{denied, goes_answered, goes_none, goes_on}
 use Rattle.mt_worker.proofs.Sessions.{account_both, one_on, over_both, rows_stay, stops_over}
 
@@ -48,15 +50,16 @@ acts_of origin session call x y (Err fault) from outside grows answered denies =
 
 -- The reporter's part of that.
 
-pub ticked_denied : (T : Type 0) (Due : List Got → Type 0) (v u : NodePass) (call : Call) (fault : WorkFault) → IsOutsideAgain v u → IsPrefix v.seen u.seen → IsDenied v u call fault → TickedBy Due v u (err T fault)
-ticked_denied T Due v u call fault outside grows is =
-    let none = denied v u call 0 fault outside grows is in
-    record { gots = none.gots; goes = none.goes; did = tt; not_link = none.not_link; cause = none.cause }
+pub ticked_denied : (T : Type 0) (Due : List Got → Type 0) (v u : NodePass) (now : ℕ) (fault : WorkFault) → IsOutsideAgain v u → IsPrefix v.seen u.seen → IsDenied v u (call_tick now) fault → TickedBy Due v u (err T fault)
+ticked_denied T Due v u now fault outside grows is =
+    let none = denied v u (call_tick now) 0 fault outside grows is in
+    record { gots = none.gots; goes = none.goes; ticks = stops_tick now none.gots none.stops; did = tt; not_link = none.not_link; cause = none.cause }
 
 pub ticked_once : (T : Type 0) (t : T) (origin : ConfiguredInteractions) (v u : NodePass) (now : ℕ) (stamped : Stamped) → v.origin ≡ Some origin → IsOutsideAgain v u → IsPrefix v.seen u.seen → IsAnswered origin v u (call_tick now) stamped → TickedBy (Ticks (Wake now)) v u (ok T t)
 ticked_once T t origin v u now stamped from outside grows answered = record {
   gots = got_by 0 (call_tick now) stamped ∷ [];
   goes = goes_answered origin v u (call_tick now) stamped 0 from outside grows answered;
+  ticks = (record { nobody = refl; now = now; call_is = refl }, tt);
   did = (got_by 0 (call_tick now) stamped, [], refl, record { session_is = refl; call_is = refl; line = refl }, refl);
   not_link = tt;
   cause = tt;
@@ -75,13 +78,14 @@ module _ {O : Type 0} (given : O → Option (List Parcel)) (faults : O → ℕ) 
       cause = tt;
     };
     over = tt;
+    made = tt;
     did = tt;
     stands = tt;
   }
 
   -- WHERE THE NODE REFUSED nothing was sent.
-  pub went_denied : (T : Type 0) (Due : Account → List Got → Type 0) (x y : Hand O) (seat : Seat) (a : Account) (fault : WorkFault) → GotNone a.row.session x.pass y.pass fault → y.outlet ≡ x.outlet → WentOver given faults Due x y seat (err T fault) a
-  went_denied T Due x y seat a fault none outlet = record {
+  pub went_denied : (T : Type 0) (Due : Account → List Got → Type 0) (x y : Hand O) (seat : Seat) (a : Account) (call : Call) (fault : WorkFault) → Makes a.row.session a call call.event → GotNone a.row.session call x.pass y.pass fault → y.outlet ≡ x.outlet → WentOver given faults Due x y seat (err T fault) a
+  went_denied T Due x y seat a call fault makes none outlet = record {
     gots = none.gots;
     went = record {
       goes = none.goes;
@@ -90,14 +94,15 @@ module _ {O : Type 0} (given : O → Option (List Parcel)) (faults : O → ℕ) 
       counts = counts_same T fault (faults x.outlet) (faults y.outlet) none.not_link (ap faults outlet);
       cause = none.cause;
     };
-    over = stops_over a.row.session none.gots none.stops;
+    over = stops_over a.row.session call none.gots none.stops;
+    made = stops_made a call none.gots makes none.stops;
     did = tt;
     stands = tt;
   }
 
   -- WHERE MEMORY FAILED BEHIND THE CALL nothing was given.
-  pub went_unsaid : (T : Type 0) (Due : Account → List Got → Type 0) (x y : Hand O) (seat : Seat) (a : Account) (got : Got) → Goes x.pass y.pass (got ∷ []) → got.session ≡ a.row.session → y.outlet ≡ x.outlet → WentOver given faults Due x y seat (err T Memory) a
-  went_unsaid T Due x y seat a got goes session outlet = record {
+  pub went_unsaid : (T : Type 0) (Due : Account → List Got → Type 0) (x y : Hand O) (seat : Seat) (a : Account) (got : Got) → Goes x.pass y.pass (got ∷ []) → got.session ≡ a.row.session → IsMade a got → y.outlet ≡ x.outlet → WentOver given faults Due x y seat (err T Memory) a
+  went_unsaid T Due x y seat a got goes session made outlet = record {
     gots = got ∷ [];
     went = record {
       goes = goes;
@@ -107,6 +112,7 @@ module _ {O : Type 0} (given : O → Option (List Parcel)) (faults : O → ℕ) 
       cause = tt;
     };
     over = (session, tt);
+    made = (made, tt);
     did = tt;
     stands = tt;
   }
@@ -128,10 +134,10 @@ module _ {O : Type 0} (given : O → Option (List Parcel)) (faults : O → ℕ) 
   ok_as (Err e) P Q follows p = tt
 
   -- ELSE what the call sends was given, up to where the outlet failed.
-  pub went_said : (T : Type 0) (Due : Account → List Got → Type 0) (x y : Hand O) (seat : Seat) (a : Account) (got : Got) (sent : List Sent) (result : Result T WorkFault) → Goes x.pass y.pass (got ∷ []) → got.session ≡ a.row.session → sent ≡ sent_over a (got ∷ [])
+  pub went_said : (T : Type 0) (Due : Account → List Got → Type 0) (x y : Hand O) (seat : Seat) (a : Account) (got : Got) (sent : List Sent) (result : Result T WorkFault) → Goes x.pass y.pass (got ∷ []) → got.session ≡ a.row.session → IsMade a got → sent ≡ sent_over a (got ∷ [])
       → OnOk result (Gave (given x.outlet) (given y.outlet) (parcels_in sent)) → GavePart (given x.outlet) (given y.outlet) (parcels_in sent) → IfErr result (λ fault. fault ≡ Link) → HasCause (faults x.outlet) (faults y.outlet) result
       → Due a (got ∷ []) → IsSeatOf seat (account_over a (got ∷ [])) → WentOver given faults Due x y seat result a
-  went_said T Due x y seat a got sent result goes session is all part link cause due stands = record {
+  went_said T Due x y seat a got sent result goes session made is all part link cause due stands = record {
     gots = got ∷ [];
     went = record {
       goes = goes;
@@ -141,15 +147,16 @@ module _ {O : Type 0} (given : O → Option (List Parcel)) (faults : O → ℕ) 
       cause = cause_sent result y.pass link;
     };
     over = (session, tt);
+    made = (made, tt);
     did = on_ok result (Due a (got ∷ [])) due;
     stands = on_ok result (IsSeatOf seat (account_over a (got ∷ []))) stands;
   }
 
-  pub went_sent : (T : Type 0) (Due : Account → List Got → Type 0) (x z : Hand O) (seat : Seat) (a : Account) (got : Got) (messages sent : List Sent) (before : O) (result : Result T WorkFault) → Goes x.pass z.pass (got ∷ []) → got.session ≡ a.row.session → before ≡ x.outlet → messages ≡ sent → sent ≡ sent_over a (got ∷ [])
+  pub went_sent : (T : Type 0) (Due : Account → List Got → Type 0) (x z : Hand O) (seat : Seat) (a : Account) (got : Got) (messages sent : List Sent) (before : O) (result : Result T WorkFault) → Goes x.pass z.pass (got ∷ []) → got.session ≡ a.row.session → IsMade a got → before ≡ x.outlet → messages ≡ sent → sent ≡ sent_over a (got ∷ [])
       → OnOk result (Gave (given before) (given z.outlet) (parcels_in messages)) → GavePart (given before) (given z.outlet) (parcels_in messages) → IfErr result (λ fault. fault ≡ Link) → HasCause (faults before) (faults z.outlet) result
       → Due a (got ∷ []) → IsSeatOf seat (account_over a (got ∷ [])) → WentOver given faults Due x z seat result a
-  went_sent T Due x z seat a got messages sent before result goes session same those is all part link cause due stands =
-      went_said T Due x z seat a got messages result goes session (those ∙ is)
+  went_sent T Due x z seat a got messages sent before result goes session made same those is all part link cause due stands =
+      went_said T Due x z seat a got messages result goes session made (those ∙ is)
       (subst (λ (o : O). OnOk result (Gave (given o) (given z.outlet) (parcels_in messages))) same all)
       (subst (λ (o : O). GavePart (given o) (given z.outlet) (parcels_in messages)) same part)
       link
@@ -162,6 +169,7 @@ module _ {O : Type 0} (given : O → Option (List Parcel)) (faults : O → ℕ) 
     gots = [];
     went = record { goes = goes_none x.pass outside; all = gave_none (given x.outlet); part = part_none (given x.outlet) (given x.outlet) [] refl; counts = refl; cause = tt };
     over = tt;
+    made = tt;
     did = due;
     stands = stands;
   }
@@ -186,6 +194,7 @@ module _ {O : Type 0} (given : O → Option (List Parcel)) (faults : O → ℕ) 
     gots = first.gots ++ then.gots;
     went = subst (Went given faults x z result (first.gots ++ then.gots)) (sym (over_both a first.gots then.gots)) (went_on t x y z result first.gots then.gots _ _ first.went then.went);
     over = one_on a.row.session first.gots then.gots first.over (subst (λ row. AreOverOne row.session then.gots) (rows_stay a first.gots) then.over);
+    made = made_on a first.gots then.gots first.made then.made;
     did = ok_as result _ _ (both then.gots) then.did;
     stands = subst (λ (b : Account). OnOk result (IsSeatOf seat b)) (sym (account_both a first.gots then.gots)) then.stands;
   }
@@ -205,6 +214,7 @@ module _ {O : Type 0} (given : O → Option (List Parcel)) (faults : O → ℕ) 
     gots = first.gots;
     went = failed_as T U x y fault first.gots (sent_over a first.gots) first.went;
     over = first.over;
+    made = first.made;
     did = tt;
     stands = tt;
   }

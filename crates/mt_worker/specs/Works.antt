@@ -14,6 +14,7 @@ use Rattle.mt_worker.specs.Due.{DoesAll, Ticks, TicksAll, id_of, is_in}
 use Rattle.mt_worker.specs.Faults.{Counts, IsCause, status_of}
 use Rattle.mt_worker.specs.Giving.{Gave, GavePart, parcels_in}
 use Rattle.mt_worker.specs.Gots.{Each, Goes, Got}
+use Rattle.mt_worker.specs.Made.{AreMade, AreMadeOver, AreTicks}
 use Rattle.mt_worker.specs.Seats.{AreSeats, IsSeatOf}
 use Rattle.mt_worker.specs.declared.fault.WorkFault.{WorkFault}
 use Rattle.mt_worker.specs.declared.fault.WorkFault.TheVariants.{Link}
@@ -29,14 +30,21 @@ AreOverOne session gots = Each (λ (got : Got). got.session ≡ session) gots
 abbrev pub AreOver : List ℕ → List Got → Type 0
 AreOver ids gots = Each (λ (got : Got). is_in ids got.session ≡ true) gots
 
--- a stop, or nothing
-abbrev pub AreStops : ℕ → List Got → Type 0
-AreStops session gots = Each (λ (got : Got). (got.session ≡ session) × (is_some got.told.0.stop ≡ true)) gots
+-- this call over this session, whose entry is a stop
+pub record IsStopOf (session : ℕ) (call : Call) (got : Got) : Type 0 where
+  pub session_is : got.session ≡ session
+  pub call_is : got.told.0.call ≡ call
+  pub stop : is_some got.told.0.stop ≡ true
 
-pub record GotNone (session : ℕ) (before after : NodePass) (fault : WorkFault) : Type 0 where
+-- a stop, or nothing
+abbrev pub AreStops : ℕ → Call → List Got → Type 0
+AreStops session call gots = Each (IsStopOf session call) gots
+
+-- what a call got that was refused
+pub record GotNone (session : ℕ) (call : Call) (before after : NodePass) (fault : WorkFault) : Type 0 where
   pub gots : List Got
   pub goes : Goes before after gots
-  pub stops : AreStops session gots
+  pub stops : AreStops session call gots
   pub not_link : fault ≢ Link
   pub cause : IsCause after.seen fault
 
@@ -50,11 +58,13 @@ module _ {O : Type 0} (given : O → Option (List Parcel)) (faults : O → ℕ) 
     pub counts : Counts result (faults before.outlet) (faults after.outlet)
     pub cause : IfErr result (IsCause after.pass.seen)
 
-  -- The same over one session: its calls were those that were due, and behind them the seat stands for the account behind them.
+  -- The same over one session: each of its calls was one to be made then; without a fault they were those that were due, and behind them the seat
+  -- stands for the account behind them.
   pub record WentOver {T : Type 0} (Due : Account → List Got → Type 0) (before after : Hand O) (seat : Seat) (result : Result T WorkFault) (a : Account) : Type 0 where
     pub gots : List Got
     pub went : Went before after result gots (sent_over a gots)
     pub over : AreOverOne a.row.session gots
+    pub made : AreMadeOver a gots
     pub did : OnOk result (Due a gots)
     pub stands : OnOk result (IsSeatOf seat (account_over a gots))
 
@@ -63,6 +73,7 @@ module _ {O : Type 0} (given : O → Option (List Parcel)) (faults : O → ℕ) 
     pub gots : List Got
     pub went : Went before after result gots (all_sent accounts gots)
     pub over : AreOver ids gots
+    pub made : AreMade accounts gots
     pub did : OnOk result (Due accounts gots)
     pub stands : OnOk result (AreSeats seats ids (all_behind accounts gots))
 
@@ -71,16 +82,19 @@ module _ {O : Type 0} (given : O → Option (List Parcel)) (faults : O → ℕ) 
     pub gots : List Got
     pub went : Went before after result gots (all_sent accounts gots)
     pub over : AreOver ids gots
+    pub made : AreMade accounts gots
     pub did : OnOk result (DoesAll ids accounts jobs gots)
 
-  -- WHAT A WORKER DID, with these accounts as it began. Its calls got these, each over one of its sessions; what its outlet was given are the messages
-  -- that they send, all of them at status 0, else the first of them. At status 0 these calls are exactly those that the jobs give that it took.
+  -- WHAT A WORKER DID, with these accounts as it began. Its calls got these, each over one of its sessions, and each was one to be made then, at every
+  -- status; what its outlet was given are the messages that they send, all of them at status 0, else the first of them. At status 0 these calls are
+  -- exactly those that the jobs give that it took.
   pub record Worked (rows : List SessionRow) (accounts : Accounts) (pass : NodePass) (outlet : O) (done : Done O) : Type 0 where
     pub result : Result ⊤ WorkFault
     pub gots : List Got
     pub status : done.status ≡ status_of result
     pub goes : Goes pass done.pass gots
     pub over : AreOver (map id_of rows) gots
+    pub made : AreMade accounts gots
     pub all : OnOk result (Gave (given outlet) (given done.outlet) (parcels_in (all_sent accounts gots)))
     pub part : GavePart (given outlet) (given done.outlet) (parcels_in (all_sent accounts gots))
     pub did : OnOk result (DoesAll (map id_of rows) accounts done.queue.taken gots)
@@ -94,13 +108,14 @@ got_by session call stamped = record { place = stamped.place; session = session;
 -- A call was answered, which is a line of the book; or refused, and then it got nothing, or the stop.
 pub record Acts (origin : ConfiguredInteractions) (session : ℕ) (call : Call) {O : Type 0} (before after : Hand O) (result : Result Stamped WorkFault) : Type 0 where
   pub answered : IfOk result (λ stamped. Goes before.pass after.pass (got_by session call stamped ∷ []))
-  pub refused : IfErr result (λ fault. GotNone session before.pass after.pass fault)
+  pub refused : IfErr result (λ fault. GotNone session call before.pass after.pass fault)
 
--- A part of the reporter's work, for these calls that were due.
+-- A part of the reporter's work, for these calls that were due: each call was a time step.
 
 pub record TickedBy {T : Type 0} (Due : List Got → Type 0) (before after : NodePass) (result : Result T WorkFault) : Type 0 where
   pub gots : List Got
   pub goes : Goes before after gots
+  pub ticks : AreTicks gots
   pub did : OnOk result (Due gots)
   pub not_link : IfErr result (λ fault. fault ≢ Link)
   pub cause : IfErr result (IsCause after.seen)
@@ -111,12 +126,13 @@ Ticked job before after result = TickedBy (Ticks job) before after result
 abbrev pub TickedThrough : {T : Type 0} → List Job → NodePass → NodePass → Result T WorkFault → Type 0
 TickedThrough jobs before after result = TickedBy (TicksAll jobs) before after result
 
--- WHAT THE REPORTER DID. At status 0 its calls are a time step for each wake that it took.
+-- WHAT THE REPORTER DID. Its calls are time steps, at every status; at status 0 one for each wake that it took.
 pub record Reported (pass : NodePass) (done : Done ⊤) : Type 0 where
   pub result : Result ⊤ WorkFault
   pub gots : List Got
   pub status : done.status ≡ status_of result
   pub goes : Goes pass done.pass gots
+  pub ticks : AreTicks gots
   pub did : OnOk result (TicksAll done.queue.taken gots)
   pub cause : IfErr result (IsCause done.pass.seen)
   pub no_link : done.status ≢ 12

@@ -1,6 +1,6 @@
 //! What a worker does over its sessions: a datagram, a resend step and report steps over one of them, and a wake over all.
 
-ghost use Rattle.std.specs.Prelude.{◌≡◌, ◌≤◌, ◌∷◌, [], ℕ, List, Some, drop, length, IfOk};
+ghost use Rattle.std.specs.Prelude.{◌≡◌, ◌≤◌, ◌∷◌, [], ℕ, Contains, List, Some, drop, length, IfOk};
 ghost use Rattle.mt_files.specs.Form.{HasForm};
 ghost use Rattle.mt_interactions.specs.Deeds.{IsWithin};
 ghost use Rattle.mt_model.specs.declared.limits.TheConstants.{LAST_TIME, RECEIVED_BYTES};
@@ -53,7 +53,7 @@ impl<O> Hand<O> {
 }
 
 impl<O: Outlet> Hand<O> {
-    // A datagram over its session.
+    // A datagram over the session that it names.
     fn hear<R: Wait, K: Keeper + Drop + Send, V: Verdicts + Drop, G: Gate>(
         &mut self,
         desk: &Desk<'_, R, K, V, G>,
@@ -67,7 +67,7 @@ impl<O: Outlet> Hand<O> {
         requires short { length bytes ≤ RECEIVED_BYTES }
         ensures own { IsPassOf desk.now.node.now self.new.pass }
         ensures outside { IsOutsideAgain self.old.pass self.new.pass }
-        ensures went { (a : Account) → IsSeatOf seat.old a
+        ensures went { (a : Account) → IsSeatOf seat.old a → session_named bytes ≡ Some a.row.session
             → WentOver O.given O.faults (λ a gots. Hears a now from bytes gots) self.old self.new seat.new result a }
     {
         let (call, pending) = seat.listen(now, from, bytes)?;
@@ -96,7 +96,7 @@ impl<O: Outlet> Hand<O> {
         send_all(&mut self.outlet, sent.as_slice())
     }
 
-    // A report step to a subscription of a session.
+    // A report step to one of the subscriptions of a session.
     fn report<R: Wait, K: Keeper + Drop + Send, V: Verdicts + Drop, G: Gate>(
         &mut self,
         desk: &Desk<'_, R, K, V, G>,
@@ -109,7 +109,7 @@ impl<O: Outlet> Hand<O> {
         requires reportable { IsReportable subscription }
         ensures own { IsPassOf desk.now.node.now self.new.pass }
         ensures outside { IsOutsideAgain self.old.pass self.new.pass }
-        ensures went { (a : Account) → IsSeatOf seat.old a
+        ensures went { (a : Account) → IsSeatOf seat.old a → Contains a.subscriptions subscription
             → WentOver O.given O.faults (λ a gots. Reports a.row.session now (subscription ∷ []) gots) self.old self.new seat.new result a }
         ensures same { seat.new.subscriptions ≡ seat.old.subscriptions }
     {
@@ -226,6 +226,7 @@ impl<O: Outlet> Hand<O> {
         requires own { IsPassOf desk.now.node.now self.old.pass }
         requires time { now ≤ LAST_TIME }
         requires short { length bytes ≤ RECEIVED_BYTES }
+        requires named { session_named bytes ≡ Some session }
         ensures own { IsPassOf desk.now.node.now self.new.pass }
         ensures outside { IsOutsideAgain self.old.pass self.new.pass }
         ensures went { (ids : List ℕ) (accounts : Accounts) → AreSeats seats.old ids accounts → AreRising ids

@@ -1,6 +1,6 @@
 use Rattle.std.proofs.Common.{◌≡◌, Err, sym, subst, rules}
 use Rattle.mt_queue.specs.declared.job.Job.TheVariants.{Wake}
-use Rattle.mt_worker.specs.Due.{Ticks, call_tick}
+use Rattle.mt_worker.specs.Due.{Ticks}
 use Rattle.mt_worker.specs.Works.{TickedBy}
 use Rattle.mt_worker.proofs.Works.{ticked_denied, ticked_once}
 use Rattle.mt_worker.proofs.reporting.tick.Goals as goal
@@ -9,7 +9,7 @@ pub returns-in_err-act-clause-ticked : goal.returns-in_err-act-clause-ticked
 returns-in_err-act-clause-ticked g c =
     let same : c.from_residual.result ≡ Err c.in_err-act.field-0.0 = search rules in
     subst (TickedBy (Ticks (Wake c.args.now)) c.args.pass.now c.act.new.pass) (sym same)
-    (ticked_denied _ (Ticks (Wake c.args.now)) c.args.pass.now c.act.new.pass (call_tick c.args.now) c.in_err-act.field-0.0 c.in_err-act.ensures.outside c.in_err-act.ensures.seen c.in_err-act.ensures.refused)
+    (ticked_denied _ (Ticks (Wake c.args.now)) c.args.pass.now c.act.new.pass c.args.now c.in_err-act.field-0.0 c.in_err-act.ensures.outside c.in_err-act.ensures.seen c.in_err-act.ensures.refused)
 
 pub returns-clause-ticked : goal.returns-clause-ticked
 returns-clause-ticked g c =

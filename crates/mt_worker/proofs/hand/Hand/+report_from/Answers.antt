@@ -5,6 +5,7 @@ use Rattle.mt_worker.specs.Gots.{Got}
 use Rattle.mt_worker.specs.Works.{WentOver}
 use Rattle.mt_worker.specs.declared.seat.Subscription.{Subscription}
 use Rattle.mt_worker.proofs.Calls.{reports_both}
+use Rattle.mt_worker.proofs.Made.{found_there}
 use Rattle.mt_worker.proofs.Works.{over_failed, over_on, went_idle}
 use Rattle.mt_worker.proofs.hand.Hand.+report_from.Goals as goal
 
@@ -18,8 +19,9 @@ pub returns-in_err-report-clause-went : goal.returns-in_err-report-clause-went
 returns-in_err-report-clause-went g t c a is =
     let same : c.from_residual.result ≡ Err c.in_err-report.field-0.0 = search rules in
     let Due = λ (b : Account) (gots : List Got). Reports b.row.session c.args.now (drop c.args.at b.subscriptions) gots in
+    let there = found_there a.subscriptions c.args.at c.in-Some.subscription (drop (c.args.at + 1) a.subscriptions) (c.in-Some.ensures.found a is) in
     subst (λ r. WentOver g.O.Outlet.given g.O.Outlet.faults Due c.args.self.now c.report.new.self c.report.new.seat r a) (sym same)
-    (over_failed g.O.Outlet.given g.O.Outlet.faults _ _ _ Due c.args.self.now c.report.new.self c.report.new.seat c.report.new.seat c.in_err-report.field-0.0 a (c.in_err-report.ensures.went a is))
+    (over_failed g.O.Outlet.given g.O.Outlet.faults _ _ _ Due c.args.self.now c.report.new.self c.report.new.seat c.report.new.seat c.in_err-report.field-0.0 a (c.in_err-report.ensures.went a is there))
 
 pub overflow_add-at : goal.overflow_add-at
 overflow_add-at g t c =
@@ -29,7 +31,8 @@ overflow_add-at g t c =
 
 pub returns-clause-went : goal.returns-clause-went
 returns-clause-went g t c a is =
-    let first = c.in_ok-report.ensures.went a is in
+    let there = found_there a.subscriptions c.args.at c.in-Some.subscription (drop (c.args.at + 1) a.subscriptions) (c.in-Some.ensures.found a is) in
+    let first = c.in_ok-report.ensures.went a is there in
     let b = account_over a first.gots in
     over_on g.O.Outlet.given g.O.Outlet.faults _ (λ (d : Account) (gots : List Got). Reports d.row.session c.args.now (c.in-Some.subscription ∷ []) gots) (λ (d : Account) (gots : List Got). Reports d.row.session c.args.now (drop (c.args.at + 1) d.subscriptions) gots)
     (λ (d : Account) (gots : List Got). Reports d.row.session c.args.now (drop c.args.at d.subscriptions) gots)

@@ -12,7 +12,7 @@ returns-in_default-clause-went g t c ids accounts are rising =
 pub returns-then-session-clause-went : goal.returns-then-session-clause-went
 returns-then-session-clause-went g t c ids accounts are rising =
     let is : c.args.seats.now ≡ c.in-Some.seat.now ∷ c.in-Some.others.now = search rules in
-    take_here g.O.Outlet.given g.O.Outlet.faults c.args.session c.args.now c.args.from c.args.bytes c.args.self.now c.hear.new.self c.args.seats.now c.in-Some.seat.now c.hear.new.seat c.in-Some.others.now is _ ids accounts c.hear.result are rising
+    take_here g.O.Outlet.given g.O.Outlet.faults c.args.session c.args.now c.args.from c.args.bytes c.args.self.now c.hear.new.self c.args.seats.now c.in-Some.seat.now c.hear.new.seat c.in-Some.others.now is _ ids accounts c.hear.result are rising c.requires.named
     (λ a stands. sym (c.session.ensures a stands) ∙ c.if-session.true) c.hear.ensures.went
 
 pub returns-clause-went : goal.returns-clause-went
