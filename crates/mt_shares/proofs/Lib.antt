@@ -1,0 +1,5 @@
+pub mod Lists
+pub mod Made
+pub mod Merging
+pub mod Sending
+pub mod Sessions
