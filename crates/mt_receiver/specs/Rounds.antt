@@ -40,11 +40,20 @@ abbrev pub take_jobs : ℕ → ℕ → List ℕ → Arrival → List Job
 take_jobs workers worker ids (Quiet now) = []
 take_jobs workers worker ids (Datagram now from bytes) = take_named workers worker ids now from bytes (session_named bytes)
 
+-- what one answer gives
+abbrev pub jobs_of : ℕ → ℕ → List ℕ → ℕ → Arrival → List Job
+jobs_of workers worker ids woken arrival = wake_jobs woken arrival ++ take_jobs workers worker ids arrival
+
 -- ALL JOBS of the worker of this number, in their order. The number of the workers is the reporter's, which has wakes alone.
 abbrev pub jobs_for : ℕ → ℕ → List ℕ → ℕ → List Arrival → List Job
 jobs_for workers worker ids woken [] = []
 jobs_for workers worker ids woken (arrival ∷ arrivals) =
-    (wake_jobs woken arrival ++ take_jobs workers worker ids arrival) ++ jobs_for workers worker ids (woken_behind woken arrival) arrivals
+    jobs_of workers worker ids woken arrival ++ jobs_for workers worker ids (woken_behind woken arrival) arrivals
+
+-- the latest second behind these answers
+abbrev pub woken_over : ℕ → List Arrival → ℕ
+woken_over woken [] = woken
+woken_over woken (arrival ∷ arrivals) = woken_over (woken_behind woken arrival) arrivals
 
 -- how many wakes there are
 abbrev pub wake_count : ℕ → List Arrival → ℕ
