@@ -83,6 +83,10 @@ impl Intake for UdpIntake<'_> {
         // A datagram of more bytes than one may have fills it.
         let mut bytes = [0; DATAGRAM_BYTES + 1];
         let came = self.receive(&mut bytes);
+        if let Came::Fault = came {
+            self.faults = self.faults.saturating_add(1);
+            return Err(Failed);
+        }
         self.clock = self.now();
         let now = self.clock;
         match came {
@@ -90,11 +94,7 @@ impl Intake for UdpIntake<'_> {
                 into[..length].copy_from_slice(&bytes[..length]);
                 Ok(Taken::Datagram { now, from, length })
             }
-            Came::Datagram { .. } | Came::Nothing => Ok(Taken::Quiet { now }),
-            Came::Fault => {
-                self.faults = self.faults.saturating_add(1);
-                Err(Failed)
-            }
+            _ => Ok(Taken::Quiet { now }),
         }
     }
 
