@@ -17,10 +17,9 @@ import sys
 import time
 from pathlib import Path
 
-from served import HOST, TOP, Server, free_port, is_bound, make_config, program_of, temporary_folder
+from served import HOST, TOP, Server, fill_up, free_port, is_bound, make_config, program_of, temporary_folder
 
 FABRICS, CASE_SESSIONS, PASE_SESSIONS = 16, 3, 4
-JUNK = b'\xff' * 8
 CLOCK = os.sysconf('SC_CLK_TCK')
 
 
@@ -86,17 +85,6 @@ class Node(Server):
             replay, lines = self.replayed()
             told += f', its replay with status {replay} and {len(lines)} lines'
         return told
-
-
-def fill_up(server, seconds=60):
-    """Sends datagrams that are none until the node has ended."""
-    import socket
-    with socket.socket(socket.AF_INET, socket.SOCK_DGRAM) as link:
-        until = time.monotonic() + seconds
-        while server.process.poll() is None and time.monotonic() < until:
-            for _ in range(200):
-                link.sendto(JUNK, (HOST, server.port))
-            time.sleep(0.002)
 
 
 def seconds_used(process):

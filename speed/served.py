@@ -18,6 +18,7 @@ import make_config  # noqa: E402
 import matter  # noqa: E402
 
 HOST = '127.0.0.1'
+JUNK = b'\xff' * 8
 ON_OFF, NODE_LABEL, LABELS, ITEMS = (1, 0x06, 0), (0, 0x28, 5), (1, 0x41, 0), (1, 0xfff1fc00, 0)
 
 
@@ -179,6 +180,16 @@ class Peer(matter.Controller):
                 else:
                     values[place] = value
         return values
+
+
+def fill_up(server, seconds=60):
+    """Sends datagrams that are none until the node has ended."""
+    with socket.socket(socket.AF_INET, socket.SOCK_DGRAM) as link:
+        until = time.monotonic() + seconds
+        while server.process.poll() is None and time.monotonic() < until:
+            for _ in range(200):
+                link.sendto(JUNK, (HOST, server.port))
+            time.sleep(0.002)
 
 
 def temporary_folder(folder):
