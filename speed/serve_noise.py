@@ -2,12 +2,13 @@
 """Sends a node that serves a million datagrams that are none of its sessions', and sees that it goes on answering, that all attributes have the
 values and the versions that they had, and that its journal has the bytes that it had.
 
-    speed/serve_noise.py PROGRAM [--count 1000000] [--workers 4] [--seed SEED] [--replay] [--folder FOLDER]
+    speed/serve_noise.py PROGRAM [--count 1000000] [--boots 10] [--workers 4] [--seed SEED] [--folder FOLDER]
 
 The noise is made of datagrams that are sealed as they should be, reads, toggles and writes over the sessions of the boot, but were never sent
 so: with bits and bytes changed, cut short, lengthened, under the number of another session, under keys of another boot; and of datagrams that
 were sent before, of answers of the node sent back, of random bytes, and of random bytes behind the header of a session. It comes from another
-address. With --replay the node's record is replayed at the end, and must send each peer what it received."""
+address. So many boots have a part of it each, since what names a session stands in the node's record, which has at most 64 MiB. The record of
+the first boot is replayed, and must send each peer what it received."""
 import argparse
 import collections
 import random
@@ -15,9 +16,8 @@ import socket
 import struct
 import sys
 import time
-from pathlib import Path
 
-from served import (HOST, ITEMS, LABELS, NODE_LABEL, Gone, Peer, Server, fill_up, make_config, matter, program_of, settled, temporary_folder)
+from served import HOST, ITEMS, LABELS, NODE_LABEL, Gone, Peer, Server, fill_up, make_config, matter, program_of, temporary_folder
 
 BETWEEN_LOOKS, QUEUE_MOST, AHEAD = 5000, 60_000, 1000
 
@@ -25,10 +25,10 @@ BETWEEN_LOOKS, QUEUE_MOST, AHEAD = 5000, 60_000, 1000
 class Noise:
     """Makes datagrams that a node is to drop, each by one of its kinds."""
 
-    def __init__(self, peers, config, generator):
+    def __init__(self, peers, config, boot, generator):
         self.generator, self.peers, self.counts = generator, peers, collections.Counter()
         self.numbers = [row['session'] for row in config['sessions']]
-        rows = make_config.configuration_of([2])['sessions']
+        rows = make_config.configuration_of([boot + 1])['sessions']
         strangers = [matter.Session(row | {'session': number}) for row in rows for number in (*self.numbers, row['session'])]
         self.sealed = [datagram for peer in peers for datagram in self.requests(peer.session, peer.counter + AHEAD)]
         self.never_sent = set(self.sealed)
@@ -67,7 +67,7 @@ class Noise:
         return datagram[:self.generator.randrange(len(datagram))]
 
     def lengthened(self):
-        return self.generator.choice(self.sealed) + self.generator.randbytes(self.generator.choice((1, 16, 1000)))
+        return self.generator.choice(self.sealed) + self.generator.randbytes(self.generator.choice((1, 16, 16, 1000)))
 
     def of_another(self):
         datagram = bytearray(self.generator.choice(self.sealed))
@@ -95,7 +95,7 @@ class Noise:
 
     def random_behind_header(self):
         header = struct.pack('<BHBI', 0, self.generator.choice(self.numbers), 0, self.generator.randrange(1 << self.generator.choice((10, 14, 32))))
-        return header + self.generator.randbytes(self.generator.choice((0, 16, 22, 43, 200, 1272)))
+        return header + self.generator.randbytes(self.generator.choice((0, 16, 22, 22, 43, 43, 43, 200, 1272)))
 
 
 def queue_of(port):
@@ -144,49 +144,64 @@ def same_lines(server, peers):
     return status, len(lines), sum(told[peer.address()] != [datagram.hex() for datagram in peer.received] for peer in peers)
 
 
+def settle_down(peers, boot):
+    """Gives the node values to keep."""
+    for place in (0, 2):
+        items = [{1: f'item {place}', 2: bytes([boot])}]
+        peers[place].ask(matter.WRITE, matter.write_request((NODE_LABEL, f'label {boot}'), (LABELS, [{0: 'room', 1: f'hall {boot}'}]), (ITEMS, items)))
+    peers[1].ask(matter.INVOKE, matter.invoke_request(1, 6, 2))
+
+
+def run_boot(asked, folder, boot, wrong, counts):
+    """One boot of the node, with its part of the noise."""
+    count = asked.count // asked.boots
+    config = make_config.configuration_of([boot])
+    server = Server(asked.program, folder, config, asked.workers, count + count // 50 + 2000)
+    try:
+        server.wait_until_bound()
+        peers = [Peer(row, server.port) for row in config['sessions']]
+        settle_down(peers, boot)
+        values, journal = [all_values(peer) for peer in peers], server.journal.read_bytes()
+        wrong += ['no value is read'] * (not all(values))
+        noise = Noise(peers, config, boot, random.Random(asked.seed + boot))
+        speed = make_noise(server, peers, noise, count)
+        for peer in peers:
+            peer.drain()
+        wrong += [f'session {peer.session.number} reads other values' for peer, before in zip(peers, values) if all_values(peer) != before]
+        lost = queue_of(server.port)[1]
+        wrong += [f'boot {boot}: the journal is another'] * (server.journal.read_bytes() != journal)
+        fill_up(server)
+        status = server.wait(60)
+        wrong += [f'boot {boot}: the node ended with status {status}, {server.errors()}'] * (status != 0)
+    finally:
+        server.kill()
+    for peer in peers:
+        peer.drain()
+    if boot == 1 and status == 0:
+        replay, lines, others = same_lines(server, peers)
+        print(f'the replay of the first record ends with status {replay} and sends {lines} lines', flush=True)
+        wrong += [f'of {others} peers it sends other lines than they received'] * (others > 0) + ['its status'] * (replay != 0)
+    for peer in peers:
+        peer.socket.close()
+    counts.update(noise.counts)
+    print(f'boot {boot}: {count} datagrams, {speed:.0f} a second, {lost} of them lost at the socket; {sum(map(len, values))} values compared, '
+          f'{sum(len(peer.received) for peer in peers)} datagrams received, a record of {server.record.stat().st_size} bytes', flush=True)
+
+
 def main():
     parser = argparse.ArgumentParser(usage=__doc__)
     parser.add_argument('program', type=program_of)
     parser.add_argument('--count', type=int, default=1_000_000)
+    parser.add_argument('--boots', type=int, default=10)
     parser.add_argument('--workers', type=int, default=4)
     parser.add_argument('--seed', type=int, default=1)
-    parser.add_argument('--replay', action='store_true')
     parser.add_argument('--folder')
     asked = parser.parse_args()
-    wrong = []
+    wrong, counts = [], collections.Counter()
     with temporary_folder(asked.folder) as folder:
-        config = make_config.configuration_of([1])
-        server = Server(asked.program, folder, config, asked.workers, asked.count + asked.count // 100 + 2000)
-        try:
-            server.wait_until_bound()
-            peers = [Peer(row, server.port) for row in config['sessions']]
-            for place in (0, 2):
-                items = [{1: f'item {place}', 2: b'\1\2\3'}]
-                peers[place].ask(matter.WRITE, matter.write_request((NODE_LABEL, f'label {place}'), (LABELS, [{0: 'room', 1: 'hall'}]), (ITEMS, items)))
-            peers[1].ask(matter.INVOKE, matter.invoke_request(1, 6, 2))
-            values, journal = [all_values(peer) for peer in peers], server.journal.read_bytes()
-            wrong += ['no value is read'] * (not all(values))
-            noise = Noise(peers, config, random.Random(asked.seed))
-            speed = make_noise(server, peers, noise, asked.count)
-            for peer in peers:
-                peer.drain()
-            wrong += [f'session {peer.session.number} reads other values' for peer, before in zip(peers, values) if all_values(peer) != before]
-            lost = queue_of(server.port)[1]
-            wrong += ['the journal is another'] * (server.journal.read_bytes() != journal)
-            fill_up(server)
-            status = server.wait(60)
-            wrong += [f'the node ended with status {status}, {server.errors()}'] * (status != 0)
-        finally:
-            server.kill()
-        for peer in peers:
-            peer.drain()
-        if asked.replay and status == 0:
-            replay, lines, others = same_lines(server, peers)
-            print(f'the replay of the record ends with status {replay} and sends {lines} lines')
-            wrong += [f'of {others} peers it sends other lines than they received'] * (others > 0) + ['its status'] * (replay != 0)
-        settled(asked.program, folder, config)
-    print(f'{asked.count} datagrams, {speed:.0f} a second, {lost} of them lost at the socket: {dict(noise.counts)}')
-    print(f'{sum(map(len, values))} values and versions compared, {sum(len(peer.received) for peer in peers)} datagrams received; wrong: {wrong or "nothing"}')
+        for boot in range(1, 1 + asked.boots):
+            run_boot(asked, folder, boot, wrong, counts)
+    print(f'{sum(counts.values())} datagrams: {dict(counts)}; wrong: {wrong or "nothing"}')
     return bool(wrong)
 
 
