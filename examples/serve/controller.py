@@ -10,8 +10,8 @@
                                            prints reports as they come, for 60 seconds where nothing is said
 
 SESSION is the node's id of a session in CONFIG, from which keys, ids and the first counter are taken. A PLACE is ENDPOINT/CLUSTER/ATTRIBUTE,
-by numbers or by the names that the lens shows, where `-`, blanks and capitals do not matter; in a read `*` stands for all. A VALUE is true, false, null, a number, a list
-or a structure as JSON writes them, octets behind 0x, and any other text itself, as is a text in quotes.
+by numbers or by the names that the lens shows, where `-` and capitals do not matter; in a read `*` stands for all. A VALUE is true, false,
+null, a number, a list or a structure as JSON writes them, octets behind 0x, and any other text itself, as is a text in quotes.
 
 No counter may be used twice in a boot of the node. So the next one stands in FILE, which is CONFIG.SESSION.counter where nothing is said. It
 may go on in a later boot, and must not be removed while this one lasts.
@@ -62,7 +62,7 @@ INVALID_SUBSCRIPTION = 0x7d
 
 def simple(name):
     """A name without what does not matter in it."""
-    return name.lower().replace('-', '').replace(' ', '')
+    return name.lower().replace('-', '')
 
 
 def number_in(word, names):
@@ -207,9 +207,17 @@ class CounterFile:
         return counter
 
 
+class Words(argparse.ArgumentParser):
+    """Words on a command line. What does not fit is told in a line."""
+
+    def error(self, message):
+        print(f'{message}; controller.py without words tells what fits', file=sys.stderr)
+        sys.exit(2)
+
+
 def words_of(words):
     """What the words on the command line ask."""
-    parser = argparse.ArgumentParser(usage=__doc__.replace('%', '%%'), add_help=False)
+    parser = Words(add_help=False)
     parser.add_argument('config')
     parser.add_argument('session', type=int)
     parser.add_argument('node')
@@ -240,6 +248,9 @@ def request_of(asked):
 
 
 def main(words):
+    if not words:
+        print(__doc__)
+        return 2
     asked = words_of(words)
     with open(asked.config, encoding='utf-8') as file:
         rows = [row for row in json.load(file)['sessions'] if row['session'] == asked.session]
