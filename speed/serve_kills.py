@@ -227,7 +227,7 @@ class Kills:
             for thread in threads if not last else ():
                 thread.start()
             if not last:
-                time.sleep(self.generator.uniform(0, 0.08))
+                time.sleep(self.generator.uniform(0, 0.15))
                 self.checker.counts['kills'] += 1
         finally:
             server.kill()
