@@ -1,0 +1,146 @@
+#!/usr/bin/env python3
+"""How fast a node that serves answers, and after how long: reads of On/Off over as many sessions as a boot may have, with 1, 2, 4 and 8 workers.
+
+    speed/serve_load.py PROGRAM [--workers 1,2,4,8] [--reads 200000] [--rates RATE,..] [--threads T] [--sessions S] [--replay] [--folder FOLDER]
+    speed/serve_load.py --peer shared|own [the same words]
+
+Each line is a run of speed/serve_load.c against a new node: first a closed loop, in which each session has one read under way; then open
+loops at these rates, in reads a second of all sessions, or at a half and at four fifths of what the closed loop came to. Of sixteen fabrics
+each has three sessions, and four are of PASE, so that there are 52. Half of the answers came within the 50th percentile.
+
+With --peer the node is speed/serve_peer.c, the yardstick, with as many threads as it would have workers. With --replay the node's record is
+replayed afterwards, and what it sends is counted."""
+import argparse
+import os
+import subprocess
+import sys
+import time
+from pathlib import Path
+
+from served import HOST, TOP, Server, fill_up, free_port, is_bound, make_config, program_of, temporary_folder
+
+FABRICS, CASE_SESSIONS, PASE_SESSIONS = 16, 3, 4
+CLOCK = os.sysconf('SC_CLK_TCK')
+
+
+def configuration_of(count):
+    """Sixteen fabrics, each with an administrator over three sessions, and four sessions of PASE; the first so many of all, by turns."""
+    rows = [(1 + place * FABRICS + fabric, 1 + fabric) for place in range(CASE_SESSIONS) for fabric in range(FABRICS)]
+    rows += [(1 + CASE_SESSIONS * FABRICS + place, 0) for place in range(PASE_SESSIONS)]
+    fabrics = [make_config.fabric_of(fabric, (make_config.ADMINISTER, 1)) for fabric in range(1, 1 + FABRICS)]
+    return {'fabrics': fabrics, 'sessions': [make_config.session_of(1, number, fabric, 1) for number, fabric in rows[:count]]}
+
+
+def rows_told(config):
+    """The sessions as the programs in C read them."""
+    lines = []
+    for row in config['sessions']:
+        nodes = row.get('own_node', '0'), row.get('peer_node', '0')
+        lines.append(' '.join(map(str, (row['session'], row['peer_session'], *nodes, row['key_in'], row['key_out'], row['counter_in'], row['counter_out']))))
+    return '\n'.join(lines) + '\n'
+
+
+def built(name, folder):
+    """The path of a program in C, built there."""
+    path = Path(folder) / name
+    subprocess.run(['gcc', '-O2', '-pthread', TOP / f'speed/{name}.c', '-o', path], check=True)
+    return path
+
+
+class Yardstick:
+    """serve_peer.c in the place of a node."""
+
+    def __init__(self, program, folder, config, threads, kind):
+        self.port = free_port()
+        self.process = subprocess.Popen([program, Path(folder) / 'sessions.txt', str(self.port), str(threads), kind])
+
+    def wait_until_bound(self):
+        while not is_bound(self.port):
+            time.sleep(0.001)
+
+    def finish(self):
+        """Ends it."""
+        self.process.kill()
+        self.process.wait()
+        return ''
+
+
+class Node(Server):
+    """A node that serves, which is given datagrams that are none until it has had all that it waits for."""
+
+    def __init__(self, program, folder, config, workers, reads, replay):
+        (Path(folder) / 'journal').unlink(missing_ok=True)
+        super().__init__(program, folder, config, workers, reads * 2 + 1000)
+        self.replay = replay
+
+    def finish(self):
+        """Lets it end by itself; answers what is told of that."""
+        begin = time.monotonic()
+        fill_up(self)
+        status = self.wait(60)
+        told = f', ended with status {status} in {time.monotonic() - begin:.1f} s'
+        if status != 0:
+            told += f', {self.errors()}'
+        if self.replay and status == 0:
+            replay, lines = self.replayed()
+            told += f', its replay with status {replay} and {len(lines)} lines'
+        return told
+
+
+def seconds_used(process):
+    """How long its threads have worked."""
+    with open(f'/proc/{process.pid}/stat', encoding='ascii') as file:
+        fields = file.read().rpartition(')')[2].split()
+    return (int(fields[11]) + int(fields[12])) / CLOCK
+
+
+def measure(node, load, folder, asked, rate):
+    """Plays one load; answers the reads a second that were answered, and what is told of them."""
+    node.wait_until_bound()
+    used = seconds_used(node.process)
+    run = subprocess.run([load, Path(folder) / 'sessions.txt', HOST, str(node.port), str(asked.reads), str(rate), str(asked.threads)],
+                         stdout=subprocess.PIPE, check=True)
+    used = seconds_used(node.process) - used
+    _, answers, lost, others, sent, seconds, half, most, longest, busy = run.stdout.decode().split()
+    speed = int(answers) / float(seconds)
+    return speed, (f'{speed:9.0f} answers a second, {lost} lost, {others} others, 50th {int(half) / 1000:.2f} ms, 99th {int(most) / 1000:.2f} ms, '
+                   f'longest {int(longest) / 1000:.1f} ms; {sent} datagrams sent, node on {used / float(seconds):.2f} processors, load on {busy} %')
+
+
+def main():
+    parser = argparse.ArgumentParser(usage=__doc__)
+    parser.add_argument('program', type=program_of, nargs='?')
+    parser.add_argument('--peer', choices=('shared', 'own'))
+    parser.add_argument('--workers', default='1,2,4,8')
+    parser.add_argument('--reads', type=int, default=200_000)
+    parser.add_argument('--rates')
+    parser.add_argument('--threads', type=int, default=1)
+    parser.add_argument('--sessions', type=int, default=FABRICS * CASE_SESSIONS + PASE_SESSIONS)
+    parser.add_argument('--replay', action='store_true')
+    parser.add_argument('--folder')
+    asked = parser.parse_args()
+    if bool(asked.program) == bool(asked.peer):
+        parser.error('a PROGRAM or --peer')
+    with temporary_folder(asked.folder) as folder:
+        load, config = built('serve_load', folder), configuration_of(asked.sessions)
+        peer = built('serve_peer', folder) if asked.peer else None
+        (Path(folder) / 'sessions.txt').write_text(rows_told(config), encoding='ascii')
+        for workers in map(int, asked.workers.split(',')):
+            rates = [0]
+            for rate in rates:
+                node = (Yardstick(peer, folder, config, workers, asked.peer) if peer else
+                        Node(asked.program, folder, config, workers, asked.reads, asked.replay))
+                try:
+                    speed, told = measure(node, load, folder, asked, rate)
+                    ended = node.finish()
+                finally:
+                    node.process.kill()
+                    node.process.wait()
+                loop = f'open {rate}/s' if rate else f'closed, {asked.sessions} sessions'
+                print(f'{workers} {"threads" if peer else "workers"}, {loop:20} {told}{ended}', flush=True)
+                if rate == 0:
+                    rates += [int(rate) for rate in asked.rates.split(',')] if asked.rates else [int(speed / 2), int(speed * 4 / 5)]
+
+
+if __name__ == '__main__':
+    sys.exit(main())
