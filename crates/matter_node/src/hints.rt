@@ -63,6 +63,7 @@ fn tell_usage(rt: &HostRuntime) -> io::Result<()> {
     eprintln!(rt; "usage: matter_node replay CONFIG RECORDING")?;
     eprintln!(rt; "       matter_node soak BEGIN COUNT CONFIG")?;
     eprintln!(rt; "       matter_node compare F CONFIG FIRST SECOND")?;
+    eprintln!(rt; "       matter_node serve --workers W --datagrams N CONFIG JOURNAL BIND")?;
     eprintln!(rt; "       matter_node settle CONFIG JOURNAL")?;
     eprintln!(rt; "       matter_node ask S CONFIG SCRIPT")?;
     eprintln!(rt; "       matter_node show S CONFIG OUTPUT")

@@ -1,10 +1,12 @@
 //! The program: opens the files that the words name, and hands them to the top call. What the last line on standard output
 //! leaves unsaid for a person is told on standard error.
 //!
-//! - `hints`: what is told there.
+//! - `hints`: what is told there;
+//! - `serving`: the node on the network.
 #![tactic(auto)]
 
 mod hints;
+mod serving;
 
 use hints::{tell_hint, text_of};
 use mt_os::{FileDisk, ReaderSource, TerminalProgress, WriterSink};
@@ -26,14 +28,22 @@ fn main(rt: HostRuntime) -> ExitCode {
         // A word that is not UTF-8 is in no command, and neither is no word at all.
         Err(_) => Vec::new(rt.alloc()),
     };
-    let (config, first, second, journal) = match files_of(&words) {
+    if serving::is_asked(&words) {
+        return ExitCode::from(serving::serve_on(&rt, &words));
+    }
+    ExitCode::from(run_on(&rt, &words))
+}
+
+// Runs what the words ask for, on the files that they name. The answer is the status.
+fn run_on(rt: &HostRuntime, words: &[String]) -> u8 {
+    let (config, first, second, journal) = match files_of(words) {
         Ok(files) => (Some(files.config), files.first, files.second, files.journal),
         Err(_) => (None, None, None, None),
     };
     let files = [
-        named(&rt, &words, config),
-        named(&rt, &words, first),
-        named(&rt, &words, second),
+        named(rt, words, config),
+        named(rt, words, first),
+        named(rt, words, second),
     ];
     let texts = [
         text_of(config, &files[0]),
@@ -44,12 +54,12 @@ fn main(rt: HostRuntime) -> ExitCode {
     let mut config = ReaderSource::new(config);
     let mut first = ReaderSource::new(first);
     let mut second = ReaderSource::new(second);
-    let mut disk = disk_named(&rt, &words, journal);
-    let mut out = WriterSink::new(io::writer(&rt));
-    let mut terminal = TerminalProgress::new(&rt);
+    let mut disk = disk_named(rt, words, journal);
+    let mut out = WriterSink::new(io::writer(rt));
+    let mut terminal = TerminalProgress::new(rt);
     let status = run_watched(
         rt.alloc(),
-        &words,
+        words,
         &mut config,
         &mut first,
         &mut second,
@@ -58,19 +68,19 @@ fn main(rt: HostRuntime) -> ExitCode {
         &mut terminal,
     );
     // Where even this can't be written, the status alone tells.
-    let _ = tell_hint(&rt, status, &words, &texts);
-    ExitCode::from(status)
+    let _ = tell_hint(rt, status, words, &texts);
+    status
 }
 
-// The file that the word at this place names; None where there is none, or it can't be opened.
-fn named(rt: &HostRuntime, words: &[String], place: Option<usize>) -> Option<File> {
+/// The file that the word at this place names; None where there is none, or it can't be opened.
+pub(crate) fn named(rt: &HostRuntime, words: &[String], place: Option<usize>) -> Option<File> {
     let name = words.get(place?)?;
     File::open(rt, name.as_str()).ok()
 }
 
-// The disk over the file that the word at this place names, which is made where it is missing. Where no word names one, every call
-// of the disk fails.
-fn disk_named(rt: &HostRuntime, words: &[String], place: Option<usize>) -> FileDisk {
+/// The disk over the file that the word at this place names, which is made where it is missing. Where no word names one, every call
+/// of the disk fails.
+pub(crate) fn disk_named(rt: &HostRuntime, words: &[String], place: Option<usize>) -> FileDisk {
     let word = match place {
         Some(place) => words.get(place),
         None => None,
