@@ -29,7 +29,7 @@ fn main(rt: HostRuntime) -> ExitCode {
         Err(_) => Vec::new(rt.alloc()),
     };
     if serving::is_asked(&words) {
-        return ExitCode::from(serving::serve_on(&rt, &words));
+        return ExitCode::from(serving::serve_on(&rt, &rt, &words));
     }
     ExitCode::from(run_on(&rt, &words))
 }

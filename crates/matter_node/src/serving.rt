@@ -8,6 +8,8 @@ use mt_top::{Files, Serve, files_of, serve_of, serve_watched};
 use std::alloc::AllocError;
 use std::io;
 use std::net::UdpSocket;
+use std::sync::Wait;
+use std::thread::Threads;
 
 // The status where there is no memory for the outlets.
 const NO_MEMORY: u8 = 7;
@@ -20,12 +22,16 @@ pub(crate) fn is_asked(words: &[String]) -> bool {
     }
 }
 
-/// Serves the node on the files and at the address that the words name. The answer is the status.
-pub(crate) fn serve_on(rt: &HostRuntime, words: &[String]) -> u8 {
+/// Serves the node on the files and at the address that the words name, with threads of `threads`. The answer is the status.
+pub(crate) fn serve_on<R: Threads + Wait + Sync>(
+    threads: &R,
+    rt: &HostRuntime,
+    words: &[String],
+) -> u8 {
     let files = files_of(words).ok();
     let socket = socket_named(rt, words, files.and_then(bind_of));
     match outlets_over(rt, words, &socket) {
-        Ok(outlets) => serve_over(rt, words, files, socket, outlets),
+        Ok(outlets) => serve_over(threads, rt, words, files, socket, outlets),
         Err(_) => NO_MEMORY,
     }
 }
@@ -35,7 +41,8 @@ fn bind_of(files: Files) -> Option<usize> {
 }
 
 // The same over a socket, with an outlet for each worker.
-fn serve_over(
+fn serve_over<R: Threads + Wait + Sync>(
+    threads: &R,
     rt: &HostRuntime,
     words: &[String],
     files: Option<Files>,
@@ -53,7 +60,7 @@ fn serve_over(
     let intake = UdpIntake::new(rt, socket);
     let mut out = WriterSink::new(io::writer(rt));
     let served = serve_watched(
-        rt,
+        threads,
         rt.alloc(),
         words,
         &mut config,
