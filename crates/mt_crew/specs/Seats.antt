@@ -44,4 +44,7 @@ WaitsWith Serves p j o = ⊥
 abbrev pub AreSeated : {O : Type 0} → NodePass → List (Member O) → List Taken → List O → Type 0
 AreSeated pass [] [] [] = Unit {0}
 AreSeated pass (member ∷ members) (jobs ∷ all) (outlet ∷ outlets) = WaitsWith member.post (part_given pass) jobs outlet × AreSeated pass members all outlets
-AreSeated pass members all outlets = ⊥
+AreSeated pass [] [] (outlet ∷ outlets) = ⊥
+AreSeated pass [] (jobs ∷ all) outlets = ⊥
+AreSeated pass (member ∷ members) [] outlets = ⊥
+AreSeated pass (member ∷ members) (jobs ∷ all) [] = ⊥

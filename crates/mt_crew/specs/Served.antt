@@ -53,7 +53,10 @@ module _ {O I : Type 0} (given : O → Option (List Parcel)) (faults : O → ℕ
   abbrev pub AreWorked : NodePass → List (List SessionRow) → List O → List (Done O) → Type 0
   AreWorked pass [] [] [] = Unit {0}
   AreWorked pass (own ∷ rows) (outlet ∷ outlets) (ended ∷ all) = ((accounts : Accounts) → HaveBegun own accounts → Worked given faults own accounts pass outlet ended) × AreWorked pass rows outlets all
-  AreWorked pass rows outlets all = ⊥
+  AreWorked pass [] [] (ended ∷ all) = ⊥
+  AreWorked pass [] (outlet ∷ outlets) all = ⊥
+  AreWorked pass (own ∷ rows) [] all = ⊥
+  AreWorked pass (own ∷ rows) (outlet ∷ outlets) [] = ⊥
 
   pub record Served (origin : ConfiguredInteractions) (rows : List (List SessionRow)) (ids : List ℕ) (limit : ℕ) (intake : I) (outlets : List O) (book : List Entry) (status : ℕ) (received : Result (Unit {0}) ReceiveFault) (left : I) (returned : List O) : Type 0 where
     -- what each worker left, and the reporter
