@@ -1,7 +1,9 @@
 //! From a disk to a node that may serve.
 
 ghost use Rattle.std.specs.Prelude.{◌≡◌, ◌↔◌, ℕ, List, Some, false, true, nat_lt, IfErr, IfOk, IsTrue};
+ghost use Rattle.std.specs.Coded.{codes};
 ghost use Rattle.std.specs.List.{list_all};
+ghost use Rattle.mt_tlv.specs.contracts.value.Value as values;
 ghost use Rattle.mt_machine.specs.State.{IsValid};
 ghost use Rattle.mt_model.specs.texts.Contents.{contents_of};
 ghost use Rattle.mt_regained.specs.Laws.{is_of_bytes};
@@ -15,11 +17,12 @@ use mt_durable::{Durable, Entry, Keeper};
 use mt_grammar::kept_in;
 use mt_interactions::Interactions;
 use mt_journal::JournalFault;
-use mt_keeping::{Store, states_may_be_committed};
-use mt_lasting::maps_are_maps;
+use mt_keeping::{Store, states_are_reopened, states_may_be_committed};
 use mt_model::{Config, TableVerdicts};
 use mt_outside::Disk;
-use mt_regained::{boots_begin_valid, durable_maps_are_kept, reopened_nodes_may_start};
+use mt_regained::{
+    durable_maps_are_kept, reopened_nodes_may_start, reopenings_roll_back, states_are_regained,
+};
 use std::alloc::{AllocError, Global};
 
 /// Why no node starts on a disk.
@@ -40,7 +43,7 @@ pub struct Started<D: Disk> {
     pub node: Interactions,
     pub store: Store<D>,
     pub verdicts: TableVerdicts,
-    pub ghost keeps: { told_map store ≡ map_of node },
+    pub ghost keeps: { told_map store ≡ map_of node } by { Prim.hlevel (codes, values.the_row.coded) },
     pub ghost runs: { store.store.journal.failed ≡ false },
     pub ghost judged: { HasVerdicts node verdicts.roots verdicts.csrs verdicts.joins },
     pub ghost valid: { IsValid node.state.node },
@@ -116,10 +119,11 @@ fn start_with<D: Disk + Drop>(
     ensures calm { IfOk result (λ started. D.faults started.store.store.journal.disk ≡ D.faults store.store.journal.disk) }
 {
     reopened_nodes_may_start();
-    boots_begin_valid();
+    states_are_reopened();
+    reopenings_roll_back();
+    states_are_regained();
     durable_maps_are_kept();
     states_may_be_committed();
-    maps_are_maps();
     match has_room(alloc, &map) {
         Ok(true) => {}
         Ok(false) => return Err((store.into_disk(), StartFault::Worn)),
@@ -129,6 +133,7 @@ fn start_with<D: Disk + Drop>(
         return Err((store.into_disk(), StartFault::Memory));
     };
     keys_are_of_bytes(image.as_slice());
+    keys_are_of_bytes(map.as_slice());
     let Ok(verdicts) = TableVerdicts::new(config) else {
         return Err((store.into_disk(), StartFault::Memory));
     };
