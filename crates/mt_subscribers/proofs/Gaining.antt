@@ -2,9 +2,8 @@
 use Rattle.std.proofs.Common.{◌≡◌, ℕ, ◌<◌, ◌-◌, ◌==◌, if◌then◌else◌, Bool, true, false, List, [], ◌∷◌, Option, Some, None, Ok, refl, sym, ap, subst, ◌∙◌, inl, inr, eqb-true}
 use Rattle.std.specs.List.{find}
 use Rattle.std.specs.Option.{option_and_then, option_map}
-use Rattle.std.proofs.lemmas.Bool.{cases_Bool, cond_both}
+use Rattle.std.proofs.lemmas.Bool.{cases_Bool}
 use Rattle.mt_model.specs.messages.Status.{code_of}
-use Rattle.mt_model.specs.declared.messages.message.Item.{Item}
 use Rattle.mt_model.specs.declared.messages.message.Reply.{Reply}
 use Rattle.mt_model.specs.declared.messages.message.Reply.TheVariants as replies
 use Rattle.mt_model.specs.declared.messages.message.Request.{Request}
@@ -16,7 +15,6 @@ use Rattle.mt_model.specs.declared.node.state.Standing.{Standing}
 use Rattle.mt_model.specs.declared.node.state.Standing.TheVariants.{Waits, Live, Ended}
 use Rattle.mt_model.specs.declared.tables.access.Actor.{Actor}
 use Rattle.mt_subs.specs.Subscriptions.{IsSubs, added, next_id}
-use Rattle.mt_subs.specs.declared.subscription.Kept.{Kept}
 use Rattle.mt_subs.specs.declared.subscription.SubState.{SubState}
 use Rattle.mt_machine.specs.Environment.{Environment}
 use Rattle.mt_machine.specs.Step.{asked_reply, live_actor, refusal, session_actor}

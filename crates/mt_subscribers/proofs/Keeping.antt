@@ -2,7 +2,7 @@
 use Rattle.std.proofs.Common.{◌≡◌, ℕ, ◌<◌, ◌≤◌, ◌==◌, inl, inr, Bool, true, false, Some, sym, ap, subst, arith, eqb-true}
 use Rattle.std.proofs.lemmas.Bool.{cases_Bool, eqb-false, lt-ltb, ltb-true}
 use Rattle.mt_subs.specs.Leaving.{staying}
-use Rattle.mt_subs.specs.Subscriptions.{IsSubs, added, begun, changed, is_full, is_named, is_used, next_id}
+use Rattle.mt_subs.specs.Subscriptions.{IsSubs, added, begun, changed, is_named, is_used, next_id}
 use Rattle.mt_subs.specs.declared.subscription.Kept.{Kept}
 use Rattle.mt_subs.specs.declared.subscription.Sub.{Sub}
 use Rattle.mt_subs.specs.declared.subscription.SubState.{SubState}

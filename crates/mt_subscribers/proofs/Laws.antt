@@ -8,8 +8,6 @@ use Rattle.mt_ledger.specs.Behind.{Activity, acts, state_done, subs_done}
 use Rattle.mt_ledger.specs.Ledger.{IsLedger, Ledger}
 use Rattle.mt_ledger.specs.Subscribing.{confirm_reply}
 use Rattle.mt_machine.specs.Environment.{Environment}
-use Rattle.mt_model.specs.declared.messages.message.Item.{Item}
-use Rattle.mt_model.specs.declared.messages.message.Reply.{Reply}
 use Rattle.mt_model.specs.declared.messages.message.Reply.TheVariants as replies
 use Rattle.mt_model.specs.declared.messages.message.Request.{Request}
 use Rattle.mt_model.specs.declared.node.action.Action.TheVariants as actions

@@ -1,5 +1,5 @@
 -- Which of a list of subscriptions are told over a session: those of a fabric and an id.
-use Rattle.std.proofs.Common.{◌≡◌, ℕ, ◌<◌, ◌==◌, ◌++◌, inl, inr, nat_lt, not, if◌then◌else◌, Bool, true, false, List, [], ◌∷◌, Option, Some, None, filter, map, refl, sym, ap, ◌∙◌, subst, arith, eqb-true}
+use Rattle.std.proofs.Common.{◌≡◌, ℕ, ◌<◌, ◌==◌, ◌++◌, inl, inr, nat_lt, not, if◌then◌else◌, Bool, true, false, List, [], ◌∷◌, Option, Some, filter, map, refl, sym, ap, ◌∙◌, subst, arith, eqb-true}
 use Rattle.std.specs.List.{AllByRecursion, find, list_all, list_any}
 use Rattle.std.specs.Option.{option_map}
 use Rattle.std.proofs.lemmas.Bool.{and_parts, both_ways, cases_Bool, cond_both, eqb-false, ltb-true, not-true, or_cases, or_parts}
@@ -44,8 +44,9 @@ module _ (fabric id session : ℕ) where
   pub changed_for : (other n : ℕ) (change : Kept → Kept) → KeepsSession change → (xs : List Subscription) → AreFor fabric id session xs → AreFor fabric id session (map (changed_at other n change) xs)
   changed_for other n change keeps [] all = tt
   changed_for other n change keeps (x ∷ xs) all = (
-      cond_both (is_named other n x) (record x { kept = change x.kept }) x (IsFor fabric id session) (λ its named. keeps x.kept ∙ all.0 named) (λ another. all.0),
-      changed_for other n change keeps xs all.1)
+    cond_both (is_named other n x) (record x { kept = change x.kept }) x (IsFor fabric id session) (λ its named. keeps x.kept ∙ all.0 named) (λ another. all.0),
+    changed_for other n change keeps xs all.1,
+  )
 
   pub more_for : (x : Subscription) (xs : List Subscription) → IsFor fabric id session x → AreFor fabric id session xs → AreFor fabric id session (xs ++ x ∷ [])
   more_for x [] its all = (its, tt)

@@ -1,5 +1,5 @@
--- Which reply tells a subscription: that to a wish alone, and its id is the next one.
-use Rattle.std.proofs.Common.{◌≡◌, ℕ, ◌++◌, if◌then◌else◌, is_some, Bool, true, false, List, Option, Some, None, refl, sym, ◌∙◌}
+-- What answers a request that is no wish tells no subscription.
+use Rattle.std.proofs.Common.{◌≡◌, ℕ, if◌then◌else◌, is_some, Bool, true, false, List, Option, Some, None, refl, ◌∙◌}
 use Rattle.std.specs.List.{list_any}
 use Rattle.mt_tlv.specs.declared.value.Value.{Value}
 use Rattle.mt_model.specs.messages.Blocks.{names_item}
