@@ -1,2 +1,3 @@
 pub mod Puts
 pub mod Taking
+pub mod Once

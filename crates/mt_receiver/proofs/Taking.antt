@@ -2,6 +2,7 @@
 use Rattle.std.proofs.Common.{◌≡◌, ◌<◌, ◌≤◌, ◌⊎◌, ◌∙◌, ℕ, ◌+◌, ◌-◌, Bool, true, false, List, [], ◌∷◌, ◌++◌, Option, Some, None, length, refl, sym, ap, subst, append-nil, append_assoc, arith, inl, inr}
 use Rattle.mt_outside.specs.Network.{AreInOrder, time_of, bytes_of}
 use Rattle.mt_outside.specs.declared.network.Arrival.{Arrival}
+use Rattle.mt_outside.specs.declared.network.Arrival.TheVariants.{Datagram, Quiet}
 use Rattle.mt_queue.specs.Ends.{Put}
 use Rattle.mt_queue.specs.declared.job.Job.{Job}
 use Rattle.mt_queue.specs.declared.job.Job.TheVariants.{End}
@@ -27,9 +28,9 @@ clock_on clock [] ys = refl
 clock_on clock (x ∷ xs) ys = clock_on (time_of x) xs ys
 
 pub count_on : (xs ys : List Arrival) → datagram_count (xs ++ ys) ≡ datagram_count xs + datagram_count ys
-count_on [] ys = refl
-count_on (Arrival.Quiet now ∷ xs) ys = count_on xs ys
-count_on (Arrival.Datagram now from bytes ∷ xs) ys = let rest = count_on xs ys in omega arith
+count_on [] ys = omega arith
+count_on (Quiet now ∷ xs) ys = count_on xs ys
+count_on (Datagram now from bytes ∷ xs) ys = let rest = count_on xs ys in omega arith
 
 pub order_on : (clock : ℕ) (xs ys : List Arrival) → AreInOrder clock xs → AreInOrder (clock_over clock xs) ys → AreInOrder clock (xs ++ ys)
 order_on clock [] ys first then = then
@@ -45,6 +46,11 @@ came_on (Some all) held left xs ys first then =
 came_none : (held : Option (List Arrival)) → Came held [] held
 came_none None = tt
 came_none (Some all) = (all, refl, refl)
+
+-- what is spent of what was left of a list is spent of the list
+pub spent_on : (start held left : Option (List Arrival)) (xs : List Arrival) → Came start xs held → IsSpent held left → IsSpent start left
+spent_on None held left xs came spent = tt
+spent_on (Some all) held left xs came spent = subst (λ (h : Option (List Arrival)). IsSpent h left) came.2 spent
 
 -- WHAT WAS TAKEN.
 
@@ -100,8 +106,8 @@ pub ended_with : (ids : List ℕ) (limit : ℕ) (old new : Receiver) (before now
 ended_with ids limit old new before now after start held left clock time later same_limit its went =
     let count : new.datagrams ≡ datagram_count (its.given ++ went.given) = went.count ∙ (ap (λ (n : ℕ). n + datagram_count went.given) its.count ∙ sym (count_on its.given went.given)) in
     let bound : new.limit ≡ limit = same_limit ∙ its.limit_is in
-    let Goal : Type 0 = (datagram_count (its.given ++ went.given) ≡ limit) ⊎ IsSpent left in
-    let by : ((new.datagrams ≡ new.limit) ⊎ IsSpent left) → Goal = elim [ | inl is ↦ inl (sym count ∙ (is ∙ bound)) | inr spent ↦ inr spent ] in
+    let Goal : Type 0 = (datagram_count (its.given ++ went.given) ≡ limit) ⊎ IsSpent start left in
+    let by : ((new.datagrams ≡ new.limit) ⊎ IsSpent held left) → Goal = elim [ inl is ↦ inl (sym count ∙ (is ∙ bound)) | inr spent ↦ inr (spent_on start held left its.given its.took.came spent) ] in
     record {
       given = its.given ++ went.given;
       took = took_more ids limit old new before now after start held left clock time later true its went;

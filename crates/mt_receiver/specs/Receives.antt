@@ -16,10 +16,10 @@ abbrev pub Came : Option (List Arrival) → List Arrival → Option (List Arriva
 Came None given after = ⊤
 Came (Some held) given after = (rest : List Arrival) × (held ≡ given ++ rest) × (after ≡ Some rest)
 
--- Nothing is left, where it can tell.
-abbrev pub IsSpent : Option (List Arrival) → Type 0
-IsSpent None = ⊤
-IsSpent (Some held) = held ≡ []
+-- Nothing of what it held is left, where it can tell.
+abbrev pub IsSpent : Option (List Arrival) → Option (List Arrival) → Type 0
+IsSpent None left = ⊤
+IsSpent (Some held) left = left ≡ Some []
 
 -- WHAT WAS PUT into each queue, behind what it had.
 
@@ -55,14 +55,14 @@ pub record Went (old new : Receiver) (before after : List Put) (held left : Opti
   pub woken : new.woken ≡ woken_over old.woken given
   pub count : new.datagrams ≡ old.datagrams + datagram_count given
   pub clock_is : now ≡ clock_over clock given
-  pub over : is_over ≡ true → (new.datagrams ≡ new.limit) ⊎ IsSpent left
+  pub over : is_over ≡ true → (new.datagrams ≡ new.limit) ⊎ IsSpent held left
   pub goes_on : is_over ≡ false → new.datagrams < new.limit
 
 -- All answers, up to that of the last datagram that was to come, or to the end of the intake.
 pub record TookAll (ids : List ℕ) (limit : ℕ) (before after : List Put) (held left : Option (List Arrival)) (clock : ℕ) : Type 0 where
   pub given : List Arrival
   pub took : Took ids 0 before after held left clock given
-  pub ended : (datagram_count given ≡ limit) ⊎ IsSpent left
+  pub ended : (datagram_count given ≡ limit) ⊎ IsSpent held left
 
 -- ALL THAT WAS RECEIVED, where the receiver met no fault: these, and then each queue has its end.
 pub record Received (ids : List ℕ) (limit : ℕ) (before after : List Put) (held left : Option (List Arrival)) (clock : ℕ) : Type 0 where
@@ -70,7 +70,7 @@ pub record Received (ids : List ℕ) (limit : ℕ) (before after : List Put) (he
   pub came : Came held given left
   pub in_order : AreInOrder clock given
   pub put : AllPut (λ (k : ℕ). jobs_for (workers_of before) k ids 0 given ++ End ∷ []) before after
-  pub ended : (datagram_count given ≡ limit) ⊎ IsSpent left
+  pub ended : (datagram_count given ≡ limit) ⊎ IsSpent held left
 
 -- the intake's count of faults rose by one, or is as it was
 abbrev pub Counts : {T : Type 0} → Result T ReceiveFault → ℕ → ℕ → Type 0
