@@ -1,11 +1,13 @@
 //! From a node to its book.
 
-ghost use Rattle.std.specs.Prelude.{◌≡◌, ◌<◌, ◌≤◌, ◌×◌, [], List, None, Some, length};
+ghost use Rattle.std.specs.Prelude.{◌≡◌, ◌<◌, ◌≤◌, All, None, Some, length};
 ghost use Rattle.mt_shared.specs.Acts.{IsHalted};
 ghost use Rattle.mt_shared.specs.Book.{stop_in};
 ghost use Rattle.mt_shared.specs.Replay.{map_of, replay};
 ghost use Rattle.mt_shared.specs.declared.entry.Stop.{Stop as AnyStop};
 ghost use Rattle.mt_turn.specs.Known.{first_pass};
+ghost use Rattle.mt_crew.specs.Ready.{AreReady};
+ghost use Rattle.mt_crew.specs.Seats.{MayHave};
 ghost use Rattle.mt_crew.specs.Served.{Served, received_status};
 
 use crate::gathering::{first_of, gather, take_in};
@@ -76,7 +78,8 @@ pub fn run<R: Threads + Wait + Sync, K: Keeper + Drop + Send, V: Verdicts + Drop
 ) -> Ended<K, I, O>
     requires first { pass ≡ first_pass node.lock node.origin }
     requires several { (0 < length outlets.items) × (length outlets.items ≤ 8) }
-    requires places { length places.rows.items ≡ length outlets.items }
+    requires ready { AreReady (length outlets.items) places }
+    requires rows { All MayHave places.rows.items }
     requires some { 0 < limit }
     ensures origin { result.held.origin.value ≡ node.origin }
     ensures node { result.held.node ≡ replay node.origin result.held.book.items }

@@ -2,11 +2,14 @@
 //!
 //! All memory that serving takes before its threads begin is taken here.
 
-ghost use Rattle.std.specs.Prelude.{◌≡◌, ◌<◌, ◌≤◌, ◌+◌, [], All, IfOk, IsTrue, length, vec_capacity, vec_len};
+ghost use Rattle.std.specs.Prelude.{◌≡◌, ◌<◌, ◌≤◌, ◌+◌, [], All, IfOk, IsTrue, length, map, vec_capacity, vec_len};
 ghost use Rattle.std.specs.List.{AllZip};
 ghost use Rattle.mt_model.specs.texts.Config.{are_sessions};
 ghost use Rattle.mt_shared.specs.Shared.{IsPassOf};
 ghost use Rattle.mt_crew.specs.Members.{MayWork};
+ghost use Rattle.mt_owners.specs.Rows.{rows_in};
+ghost use Rattle.mt_worker.specs.Due.{id_of};
+ghost use Rattle.mt_crew.specs.Ready.{AllRows, AreReady};
 ghost use Rattle.mt_crew.specs.Seats.{AreEnds, AreSeated, MayHave, number_of, rows_of, upto};
 
 use crate::member::{Member, Post};
@@ -28,11 +31,6 @@ pub struct Places<O> {
     pub(crate) rows: Vec<SessionRows>,
     pub(crate) members: Vec<Member<O>>,
     pub(crate) ids: Vec<u16>,
-    pub ghost ends: { AllZip AreEnds senders.items jobs.items },
-    pub ghost queues: { length senders.items ≡ length rows.items + 1 },
-    pub ghost rows_are_served: { All MayHave rows.items },
-    pub ghost nobody: { members.items ≡ [] },
-    pub ghost room: { vec_capacity members ≡ length rows.items },
 }
 
 impl<O: Drop> Drop for Places<O> {
@@ -85,7 +83,9 @@ pub fn reserve<O: Drop>(
 ) -> Result<Places<O>, AllocError>
     requires valid { IsTrue (are_sessions sessions.now) }
     requires several { (0 < workers) × (workers ≤ WORKERS) }
-    ensures count { IfOk result (λ places. length places.rows.items ≡ workers) }
+    ensures ready { IfOk result (AreReady workers) }
+    ensures rows { IfOk result (λ places. AllRows boot workers sessions.now 0 places.rows.items) }
+    ensures ids { IfOk result (λ places. places.ids.items ≡ map id_of (rows_in boot sessions.now)) }
 {
     let (senders, jobs) = queues(alloc, workers + 1)?;
     let rows = all_rows(alloc, sessions, boot, workers)?;
@@ -124,7 +124,7 @@ fn all_rows(
 ) -> Result<Vec<SessionRows>, AllocError>
     requires valid { IsTrue (are_sessions sessions.now) }
     requires several { 0 < workers }
-    ensures served { IfOk result (λ all. All MayHave all.items) }
+    ensures rows { IfOk result (λ all. AllRows boot workers sessions.now 0 all.items) }
     ensures length { IfOk result (λ all. length all.items ≡ workers) }
 {
     let mut all = Vec::with_capacity(alloc, workers as usize)?;

@@ -2,6 +2,8 @@
 use Rattle.std.specs.Prelude.{◌≡◌, ◌<◌, ◌≤◌, ◌^◌, ℕ, List, Some, Ok, Err, ⊤}
 use Rattle.mt_durable.specs.declared.durable.Entry.{Entry}
 use Rattle.mt_interactions.specs.Configured.{ConfiguredInteractions, IsStarted}
+use Rattle.mt_journal.specs.declared.reading.JournalFault.{JournalFault}
+use Rattle.mt_journal.specs.declared.reading.JournalFault.TheVariants as journals
 use Rattle.mt_keeping.specs.Recovered.{recovered}
 use Rattle.mt_model.specs.declared.texts.config.Config.{Config}
 use Rattle.mt_model.specs.texts.Contents.{contents_of}
@@ -46,3 +48,9 @@ IsStartCause config file Memory = ⊤
 abbrev pub HasFailedFor : StartFault → ℕ → ℕ → Type 0
 HasFailedFor Disk before now = now ≡ one_more before
 HasFailedFor fault before now = now ≡ before
+
+-- what keeps a journal from being recovered
+abbrev pub fault_of : JournalFault → StartFault
+fault_of journals.Disk = Disk
+fault_of (journals.NotAJournal place) = NotAJournal place
+fault_of journals.Memory = Memory

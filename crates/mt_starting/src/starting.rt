@@ -11,7 +11,7 @@ ghost use Rattle.mt_regained.specs.Reopened.{reopened_map};
 ghost use Rattle.mt_shared.specs.Acts.{HasVerdicts};
 ghost use Rattle.mt_shared.specs.Replay.{map_of};
 ghost use Rattle.mt_keeping.specs.States.{told_map};
-ghost use Rattle.mt_starting.specs.Starts.{HasFailedFor, HasRoom, IsBegunWith, IsStartCause, IsStartedOn, IsWornCause};
+ghost use Rattle.mt_starting.specs.Starts.{HasFailedFor, HasRoom, IsBegunWith, IsStartCause, IsStartedOn, IsWornCause, fault_of};
 
 use mt_durable::{Durable, Entry, Keeper};
 use mt_grammar::kept_in;
@@ -95,7 +95,9 @@ pub fn start_on<D: Disk + Drop>(
 }
 
 // What kept a journal from being recovered.
-fn fault_of(fault: JournalFault) -> StartFault {
+fn fault_of(fault: JournalFault) -> StartFault
+    ensures { result ≡ fault_of fault }
+{
     match fault {
         JournalFault::Disk => StartFault::Disk,
         JournalFault::NotAJournal(place) => StartFault::NotAJournal(place),

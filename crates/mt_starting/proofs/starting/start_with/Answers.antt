@@ -2,10 +2,12 @@ use Rattle.std.proofs.Common.{rules, ◌≡◌, ◌∙◌, ap, sym, subst, List,
 use Rattle.std.specs.List.{list_all}
 use Rattle.mt_durable.specs.Maps.{have_values, keys_ascend}
 use Rattle.mt_durable.specs.declared.durable.Entry.{Entry}
-use Rattle.mt_interactions.specs.Configured.{IsFirst}
+use Rattle.mt_interactions.specs.Configured.{IsFirst, given_to}
 use Rattle.mt_keeping.specs.Laws.{MayCommit}
 use Rattle.mt_keeping.specs.States.{told_map}
+use Rattle.mt_machine.specs.Environment.{given_by}
 use Rattle.mt_machine.specs.State.{IsValid}
+use Rattle.mt_model.specs.texts.Contents.{contents_of}
 use Rattle.mt_opcreds.specs.Judged.{judged_by}
 use Rattle.mt_regained.specs.Begun.{MayStart}
 use Rattle.mt_regained.specs.Laws.{is_of_bytes}
@@ -124,9 +126,11 @@ invariant_of-result g c =
           ∙ c.states_may_be_committed.ensures.one _ (told_map c.args.store) committed.0 c.as_slice-3.result.now told_ascends told_whole (says config map one valid room c.in-Ok-start.ensures.started c.states_may_be_committed.ensures.first c.as_slice-3.result.now first (told_map c.args.store) told) committed.1
           ∙ leads config map one valid room c.in-Ok-start.ensures.started c.states_may_be_committed.ensures.first c.as_slice-3.result.now first (told_map c.args.store) told;
       runs = c.in-Ok-commit.ensures.failed;
-      judged = λ i. record {
-        judged = judged_by (c.in-Ok-new.ensures.roots i) (c.in-Ok-new.ensures.csrs i) (c.in-Ok-new.ensures.joins i);
-        reachable = (c.in-Ok-start.ensures.started.node.configured i).reachable;
-      };
+      judged =
+          (let is : given_to one c.in-Ok-new.verdicts.roots c.in-Ok-new.verdicts.csrs c.in-Ok-new.verdicts.joins ≡ given_by (contents_of config) = λ i. record {
+            judged = judged_by (c.in-Ok-new.ensures.roots i) (c.in-Ok-new.ensures.csrs i) (c.in-Ok-new.ensures.joins i);
+            reachable = (c.in-Ok-start.ensures.started.node.configured i).reachable;
+          } in
+          is ∙ sym (ap given_by c.in-Ok-start.ensures.started.node.configured));
       valid = valid;
     }
