@@ -2,9 +2,12 @@
 
 ghost use Rattle.mt_owners.specs.Laws.{OwnersAreExact, RowsHaveBegun};
 
-/// A session is among a worker's rows exactly where the datagrams that name it are for that worker; and where nothing has been said
-/// over the sessions of the boot, nothing has been over those rows.
+/// A session is among a worker's rows exactly where the datagrams that name it are for that worker.
 pub fn owners_are_exact()
-    ensures exact { OwnersAreExact }
-    ensures begun { RowsHaveBegun }
+    ensures { OwnersAreExact }
+{}
+
+/// Where nothing has been said over the sessions of the boot, nothing has been over the rows of a worker.
+pub fn rows_have_begun()
+    ensures { RowsHaveBegun }
 {}

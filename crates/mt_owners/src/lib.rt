@@ -7,5 +7,5 @@
 mod laws;
 mod rows;
 
-pub use laws::owners_are_exact;
+pub use laws::{owners_are_exact, rows_have_begun};
 pub use rows::{ids_of, rows_of};
