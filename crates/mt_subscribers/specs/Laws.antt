@@ -1,5 +1,5 @@
 -- Laws of subscriptions and the sessions over which they are told.
-use Rattle.std.specs.Prelude.{◌≡◌, ◌<◌, ℕ, Bool, List, Option, Some}
+use Rattle.std.specs.Prelude.{◌≡◌, ◌<◌, ℕ, Bool, List, Some}
 use Rattle.mt_interactions.specs.Configured.{ConfiguredInteractions}
 use Rattle.mt_interactions.specs.declared.deeds.Deed.{Deed}
 use Rattle.mt_ledger.specs.Ledger.{IsLedger}

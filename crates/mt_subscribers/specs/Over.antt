@@ -1,5 +1,5 @@
 -- Over which session a subscription is told.
-use Rattle.std.specs.Prelude.{◌≡◌, ℕ, nat_lt, true, Option, Some}
+use Rattle.std.specs.Prelude.{◌≡◌, ℕ, nat_lt, true, Some}
 use Rattle.mt_interactions.specs.declared.deeds.Deed.{Deed}
 use Rattle.mt_interactions.specs.declared.deeds.Deed.TheVariants.{Ask, Confirm, Ends, Report, Expire, Nothing}
 use Rattle.mt_subs.specs.Subscriptions.{kept_at, next_id}
