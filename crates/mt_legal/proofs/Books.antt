@@ -1,11 +1,10 @@
 -- The run over the lines of a book, entry by entry.
-use Rattle.std.proofs.Common.{◌≡◌, ◌∙◌, refl, sym, ap, subst, inl, inr, ℕ, ◌==◌, ◌≤◌, ◌||◌, cond, eq-eqb, Bool, true, false, true≢false, List, [], ◌∷◌, ◌++◌, Option, Some, None, map}
+use Rattle.std.proofs.Common.{◌≡◌, ◌∙◌, refl, sym, ap, subst, inl, inr, ℕ, ◌==◌, ◌≤◌, ◌||◌, cond, eq-eqb, Bool, true, true≢false, List, [], ◌∷◌, ◌++◌, Option, Some, None, map}
 use Rattle.std.proofs.lemmas.Bool.{cases_Bool, eqb-true}
 use Rattle.std.specs.List.{find}
 use Rattle.mt_files.specs.Event.{at_time}
 use Rattle.mt_model.specs.declared.limits.TheConstants.{LAST_TIME}
 use Rattle.mt_model.specs.declared.texts.config.SessionRow.{SessionRow}
-use Rattle.mt_model.specs.declared.texts.recording.Sent.{Sent}
 use Rattle.mt_opcreds.specs.Laws.{KeepsRules}
 use Rattle.mt_runs.specs.Course.{Going, going_on}
 use Rattle.mt_runs.specs.Isolation.{IsValidWhole}
@@ -19,7 +18,7 @@ use Rattle.mt_shared.specs.declared.entry.Entry.{Entry}
 use Rattle.mt_shared.specs.declared.entry.Stop.{Stop}
 use Rattle.mt_layer.specs.Laws.{BegunTalksServe}
 use Rattle.mt_layer.specs.Lines.{next_with, whole_of}
-use Rattle.mt_worker.specs.Accounts.{Account, Accounts, all_sent, begun_account, behind, sent_by}
+use Rattle.mt_worker.specs.Accounts.{Account, Accounts, all_sent, begun_account, behind}
 use Rattle.mt_worker.specs.Due.{HaveBegun, id_of, is_in}
 use Rattle.mt_worker.specs.Gots.{Got, Told}
 use Rattle.mt_legal.specs.Laws.{AreInTime, IsServable, IsWholeBook}

@@ -3,7 +3,6 @@ use Rattle.std.proofs.Common.{◌≡◌, ◌∙◌, refl, ap, Bool, true, false,
 use Rattle.mt_model.specs.declared.texts.config.SessionRow.{SessionRow}
 use Rattle.mt_model.specs.declared.texts.recording.Event.{Event}
 use Rattle.mt_model.specs.declared.texts.recording.Event.TheVariants as events
-use Rattle.mt_model.specs.declared.texts.recording.Sent.{Sent}
 use Rattle.mt_machine.specs.Environment.{Environment}
 use Rattle.mt_runs.specs.Course.{Going, behind_course, changes_what_lasts, course, course_of_line, goes, going_on, stepped}
 use Rattle.mt_runs.specs.Lines.{is_stop, next, sent}

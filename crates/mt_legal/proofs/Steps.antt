@@ -1,12 +1,10 @@
 -- What comes of one entry that is a line.
-use Rattle.std.proofs.Common.{◌≡◌, ◌≢◌, ◌∙◌, refl, ap, sym, subst, inl, inr, ℕ, ◌<◌, ◌≤◌, arith, Bool, true, false, List, Contains, Option, Some, None, Result, Ok, Err}
+use Rattle.std.proofs.Common.{◌≡◌, ◌∙◌, refl, ap, sym, subst, inl, inr, ℕ, ◌<◌, ◌≤◌, arith, true, false, List, Contains, Option, Some, None, Result, Ok, Err}
 use Rattle.mt_im.specs.Reading.{request_in}
 use Rattle.mt_im.specs.declared.fault.ImFault.{ImFault}
 use Rattle.mt_files.specs.Event.{at_time}
 use Rattle.mt_model.specs.declared.limits.TheConstants.{LAST_TIME}
-use Rattle.mt_model.specs.declared.messages.message.Item.{Item}
 use Rattle.mt_model.specs.declared.messages.message.Request.{Request}
-use Rattle.mt_model.specs.declared.texts.config.SessionRow.{SessionRow}
 use Rattle.mt_model.specs.declared.texts.recording.Event.{Event}
 use Rattle.mt_model.specs.declared.texts.recording.Event.TheVariants as events
 use Rattle.mt_opcreds.specs.Laws.{KeepsRules}
@@ -121,7 +119,7 @@ module _ (laws : Laws) (node : ConfiguredInteractions) (rules : KeepsRules (give
           state = line.state;
           ledger = line.ledger;
           stands = one_stands node now talks w line.state line.ledger valid (stays call.deed) ids accounts stands (line_of node place session ms call) mine
-          (stands_anew node now talks w line.state line.ledger valid (stays call.deed) session a u subscriptions here.id_is line.own told) line.others;
+              (stands_anew node now talks w line.state line.ledger valid (stays call.deed) session a u subscriptions here.id_is line.own told) line.others;
         }
 
     -- for a datagram
@@ -175,7 +173,7 @@ module _ (laws : Laws) (node : ConfiguredInteractions) (rules : KeepsRules (give
         state = line.state;
         ledger = line.ledger;
         stands = subst (Stands now w.talks ids) (sym (unmoved accounts (line_of node place session ms (call_tick at)) (λ b. refl)))
-        (all_stand node now talks w line.state line.ledger (valid_on (events.Tick ms)) (stays deeds.Expire) ids accounts stands line.others);
+            (all_stand node now talks w line.state line.ledger (valid_on (events.Tick ms)) (stays deeds.Expire) ids accounts stands line.others);
       }
 
   pub entry_moves : (session : ℕ) (call : Call) → ms ≤ LAST_TIME → IsEntry ids accounts (line_of node place session ms call) → Moves node talks ids accounts (line_of node place session ms call) ms call

@@ -1,5 +1,5 @@
 -- Subscriptions that are told over one session.
-use Rattle.std.proofs.Common.{◌≡◌, refl, subst, ℕ, zero, suc, ◌<◌, arith, get_or, length, nat_le, ◌&&◌, Bool, true, false, cond, List, [], ◌∷◌, ◌++◌, Contains, Option, Some, None, filter, if◌then◌else◌}
+use Rattle.std.proofs.Common.{◌≡◌, refl, subst, ℕ, zero, suc, ◌<◌, ◌≤◌, arith, get_or, length, nat_le, ◌&&◌, Bool, true, false, cond, List, [], ◌∷◌, ◌++◌, Contains, Option, Some, None, filter, if◌then◌else◌}
 use Rattle.std.proofs.lemmas.Bool.{and_parts, leb-true}
 use Rattle.mt_exchange.specs.declared.lists.EndTime.{EndTime}
 use Rattle.mt_model.specs.declared.limits.TheConstants.{LAST_FABRIC}
@@ -8,7 +8,7 @@ use Rattle.mt_model.specs.declared.messages.message.Reply.{Reply}
 use Rattle.mt_model.specs.declared.messages.message.Reply.TheVariants as replies
 use Rattle.mt_subs.specs.declared.subscription.SubState.{SubState}
 use Rattle.mt_subscribers.specs.Over.{IsOver}
-use Rattle.mt_worker.specs.Accounts.{gained, gained_by, stands_unless, still_standing, subscription_in}
+use Rattle.mt_worker.specs.Accounts.{gained, gained_by, stands_unless, still_standing}
 use Rattle.mt_worker.specs.Gots.{Each}
 use Rattle.mt_worker.specs.declared.seat.Subscription.{Subscription}
 
@@ -55,20 +55,23 @@ pub told_on : (session : ℕ) (before after : SubState) → ((fabric id : ℕ) �
 told_on session before after stays subscriptions each =
     each_on (IsTold session before) (IsTold session after) (λ subscription told. record { fabric = told.fabric; over = stays subscription.fabric subscription.id told.fabric told.over }) subscriptions each
 
--- those that stand still
+-- those that still stand
 pub told_still : (session : ℕ) (subs : SubState) (fabric : Option ℕ) (at : List EndTime) (ms : ℕ) (subscriptions : List Subscription) → Each (IsTold session subs) subscriptions → Each (IsTold session subs) (still_standing fabric at ms subscriptions)
 told_still session subs None at ms subscriptions each = each
 told_still session subs (Some fabric) at ms subscriptions each = each_kept (IsTold session subs) (stands_unless at ms) subscriptions each
 
+-- no fabric that there may be has a number beyond a byte
+below_all : (fabric : ℕ) → fabric ≤ LAST_FABRIC → fabric < 256
+below_all fabric may = omega (arith, may)
+
 module _ (session : ℕ) (subs : SubState) where
   told_by : (fabric id : ℕ) → (fabric < 256 → IsOver fabric id session subs) → Each (IsTold session subs) (gained_by fabric (Some id))
-  told_by fabric id over =
-      let one : Subscription = record { fabric = fabric; id = id } in
-      each_if (IsTold session subs) one (nat_le fabric LAST_FABRIC && nat_le 1 id)
-      (λ may.
-        let small = leb-true fabric LAST_FABRIC (and_parts (nat_le fabric LAST_FABRIC) (nat_le 1 id) may).0 in
-        let below : fabric < 256 = omega (arith, small) in
-        record { fabric = below; over = over below })
+  told_by fabric id over = each_if (IsTold session subs) (record { fabric = fabric; id = id }) (nat_le fabric LAST_FABRIC && nat_le 1 id) (λ may. told_there (and_parts (nat_le fabric LAST_FABRIC) (nat_le 1 id) may).0)
+    where
+      told_there : nat_le fabric LAST_FABRIC ≡ true → IsTold session subs (record { fabric = fabric; id = id })
+      told_there may =
+          let below : fabric < 256 = below_all fabric (leb-true fabric LAST_FABRIC may) in
+          record { fabric = below; over = over below }
 
   -- those that are gained, where the answer that tells one does
   pub told_gained : (fabric : Option ℕ) (reply : Reply) → ((of id : ℕ) (items : List Item) (suppress : Bool) → of < 256 → fabric ≡ Some of → reply ≡ replies.Report (Some id) items suppress → IsOver of id session subs)
@@ -78,7 +81,7 @@ module _ (session : ℕ) (subs : SubState) where
   told_gained (Some fabric) (replies.Report (Some id) items suppress) over = told_by fabric id (λ below. over fabric id items suppress below refl refl)
   told_gained (Some fabric) reply over = tt
 
-  -- those of behind an answer to a datagram
+  -- and so do all behind an answer to a datagram
   pub told_heard : (fabric : Option ℕ) (reply : Reply) (at : List EndTime) (ms : ℕ) (subscriptions : List Subscription) → ((of id : ℕ) (items : List Item) (suppress : Bool) → of < 256 → fabric ≡ Some of → reply ≡ replies.Report (Some id) items suppress → IsOver of id session subs)
       → Each (IsTold session subs) subscriptions → Each (IsTold session subs) (still_standing fabric at ms subscriptions ++ gained fabric reply)
   told_heard fabric reply at ms subscriptions over each =
