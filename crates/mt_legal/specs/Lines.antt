@@ -4,7 +4,7 @@ use Rattle.mt_interactions.specs.Configured.{ConfiguredInteractions}
 use Rattle.mt_layer.specs.Lines.{whole_of}
 use Rattle.mt_model.specs.declared.texts.config.SessionRow.{SessionRow}
 use Rattle.mt_runs.specs.Whole.{Whole, begun_in, is_of_boot}
-use Rattle.mt_worker.specs.Accounts.{Account, Accounts, behind}
+use Rattle.mt_worker.specs.Accounts.{Accounts, behind}
 use Rattle.mt_worker.specs.Due.{id_of, is_in}
 use Rattle.mt_worker.specs.Gots.{Got, Told}
 use Rattle.mt_worker.specs.Made.{IsMade, IsTick}

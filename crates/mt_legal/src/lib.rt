@@ -4,7 +4,9 @@
 
 ghost use Rattle.mt_legal.specs.Laws.{BooksAreRuns, BooksEndAsRuns, LedgersEndAsRuns};
 
-use mt_layer::{datagrams_are_lines, reports_are_lines, resends_are_lines, ticks_are_lines, begun_talks_serve};
+use mt_layer::{
+    begun_talks_serve, datagrams_are_lines, reports_are_lines, resends_are_lines, ticks_are_lines,
+};
 use mt_runs::wholes_are_valid;
 use mt_subscribers::{subscriptions_are_gained, subscriptions_stay};
 
