@@ -1,6 +1,9 @@
 -- The record of a book.
-use Rattle.std.specs.Prelude.{◌≡◌, ℕ, List, Option, Result, Ok, Err}
+use Rattle.std.specs.Prelude.{◌≡◌, ℕ, List, Option, Result, Ok, Err, map}
+use Rattle.mt_files.specs.Event.{event_line}
+use Rattle.mt_files.specs.Lines.{text_of}
 use Rattle.mt_files.specs.Recording.{recording_text}
+use Rattle.mt_model.specs.declared.texts.recording.Event.{Event}
 use Rattle.mt_outside.specs.Stream.{RoseByOne, Took, TookLess}
 use Rattle.mt_shared.specs.Book.{lines_in}
 use Rattle.mt_shared.specs.declared.entry.Entry.{Entry}
@@ -10,6 +13,10 @@ use Rattle.mt_serving.specs.declared.recording.RecordFault.TheVariants.{Memory, 
 -- a recording of its lines, in their order, each at the time at which it was done
 abbrev pub record_of : List Entry → List ℕ
 record_of book = recording_text (lines_in book)
+
+-- the lines of these events
+abbrev pub event_lines : List Event → List ℕ
+event_lines events = text_of (map event_line events)
 
 -- All of it was written, or a beginning: where the sink failed, or where memory was wanting.
 abbrev pub Writes : {T : Type 0} → Result T RecordFault → List ℕ → Option (List ℕ) → Option (List ℕ) → ℕ → ℕ → Type 0

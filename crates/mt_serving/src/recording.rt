@@ -1,8 +1,7 @@
 //! The record of a book.
 
-ghost use Rattle.std.specs.Prelude.{◌≡◌, ◌++◌, IfOk, OnOk};
+ghost use Rattle.std.specs.Prelude.{◌≡◌, ◌∷◌, [], IfOk};
 ghost use Rattle.mt_files.specs.Event.{at_time};
-ghost use Rattle.mt_files.specs.Lines.{text_of};
 ghost use Rattle.mt_shared.specs.Book.{lines_in};
 ghost use Rattle.mt_serving.specs.Record.{Writes, event_lines, record_of};
 
