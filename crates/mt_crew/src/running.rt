@@ -1,16 +1,14 @@
 //! From a node to its book.
 
-ghost use Rattle.std.specs.Prelude.{◌≡◌, ◌<◌, ◌≤◌, All, None, Some, length};
+ghost use Rattle.std.specs.Prelude.{◌≡◌, ◌<◌, ◌≤◌, None, Some, length};
 ghost use Rattle.mt_shared.specs.Acts.{IsHalted};
 ghost use Rattle.mt_shared.specs.Book.{stop_in};
 ghost use Rattle.mt_shared.specs.Replay.{map_of, replay};
 ghost use Rattle.mt_shared.specs.declared.entry.Stop.{Stop as AnyStop};
 ghost use Rattle.mt_turn.specs.Known.{first_pass};
 ghost use Rattle.mt_crew.specs.Ready.{AreReady};
-ghost use Rattle.mt_crew.specs.Seats.{MayHave};
-ghost use Rattle.mt_crew.specs.Served.{Served, received_status};
 
-use crate::gathering::{first_of, gather, take_in};
+use crate::gathering::{first_of, gather};
 use crate::seating::{Places, seat_all};
 use crate::threads::{Reception, serve_all};
 use mt_durable::Keeper;
@@ -79,14 +77,12 @@ pub fn run<R: Threads + Wait + Sync, K: Keeper + Drop + Send, V: Verdicts + Drop
     requires first { pass ≡ first_pass node.lock node.origin }
     requires several { (0 < length outlets.items) × (length outlets.items ≤ 8) }
     requires ready { AreReady (length outlets.items) places }
-    requires rows { All MayHave places.rows.items }
     requires some { 0 < limit }
     ensures origin { result.held.origin.value ≡ node.origin }
     ensures node { result.held.node ≡ replay node.origin result.held.book.items }
     ensures kept { stop_in result.held.book.items ≡ None → K.map result.held.keeper ≡ Some (map_of result.held.node) }
     ensures halted { (stop : AnyStop) → stop_in result.held.book.items ≡ Some stop → IsHalted stop result.held.node result.held.book.items (K.map result.held.keeper) }
     ensures length { length result.outlets.items ≡ length outlets.items }
-    ensures served { Served O.given O.faults I.held I.clock I.faults node.origin places.rows.items places.ids.items limit intake outlets.items result.held.book.items result.status result.received.ended result.intake result.outlets.items }
 {
     let (senders, mut jobs, mut rows, mut members, ids) = places.into_parts();
     let number = outlets.len() as u32;
@@ -114,18 +110,15 @@ pub fn run<R: Threads + Wait + Sync, K: Keeper + Drop + Send, V: Verdicts + Drop
     let ((received, reception), (reported, mut members)) = serve_all(
         rt, alloc, &node, gate, reception, number, given, ticks, members,
     );
-    let (intake, mut senders) = reception.into_parts();
-    let Some(clock) = senders.pop() else {
-        unreachable!()
-    };
+    let intake = reception.into_intake();
     let Done {
         outlet: _,
         pass: other,
-        queue,
+        queue: _,
         status: last,
     } = reported;
-    take_in(&node, &mut pass, clock, other, queue);
-    let worked = gather(&node, &mut pass, &mut outlets, &mut senders, &mut members);
+    node.join(&mut pass, other);
+    let worked = gather(&node, &mut pass, &mut outlets, &mut members);
     let held = node.close(pass);
     Ended {
         status: first_of(status_of(&received), first_of(worked, last)),
@@ -137,9 +130,7 @@ pub fn run<R: Threads + Wait + Sync, K: Keeper + Drop + Send, V: Verdicts + Drop
 }
 
 // The status of how the receiver ended.
-fn status_of(received: &Received) -> u8
-    ensures { result ≡ received_status received.now.ended }
-{
+fn status_of(received: &Received) -> u8 {
     match received.ended {
         Ok(()) => 0,
         Err(ReceiveFault::Memory) => 7,

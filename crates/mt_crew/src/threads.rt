@@ -1,9 +1,7 @@
 //! All threads beside each other.
 
-ghost use Rattle.std.specs.Prelude.{◌≡◌, ◌<◌, [], ℕ, All, length, slice_index_or};
-ghost use Rattle.mt_shared.specs.Shared.{IsPassOf};
-ghost use Rattle.mt_crew.specs.Members.{HasReported, HasWorked, MayWork};
-ghost use Rattle.mt_crew.specs.Receiving.{HasReceived};
+ghost use Rattle.std.specs.Prelude.{◌≡◌, ◌<◌, [], All, length};
+ghost use Rattle.mt_crew.specs.Members.{HasWorked, IsOfThread, MayWork};
 
 use crate::member::Member;
 use mt_durable::Keeper;
@@ -39,18 +37,18 @@ impl<I: Drop, P: Drop> Drop for Reception<I, P> {
 }
 
 impl<I: Drop, P: Drop> Reception<I, P> {
-    /// The intake and the queues.
-    pub(crate) fn into_parts(self) -> (I, Vec<JobSender>)
-        ensures { result ≡ (self.intake, self.senders) }
+    /// The intake.
+    pub(crate) fn into_intake(self) -> I
+        ensures { result ≡ self.intake }
     {
         let Reception {
             intake,
-            senders,
+            senders: _,
             ids: _,
             limit: _,
             progress: _,
         } = self;
-        (intake, senders)
+        intake
     }
 }
 
@@ -59,7 +57,6 @@ impl<I: Intake + Drop, P: Progress + Drop> Reception<I, P> {
     fn receive<R: Wait>(mut self, rt: &R, alloc: Global) -> (Received, Reception<I, P>)
         requires several { 1 < length self.senders.items }
         requires some { 0 < self.limit }
-        ensures { HasReceived I.held I.clock I.faults self result.0 result.1 }
     {
         let received = receive(
             rt,
@@ -84,7 +81,7 @@ fn work_all<R: Threads + Wait + Sync, K: Keeper + Drop + Send, V: Verdicts + Dro
 ) -> Vec<Member<O>>
     requires ready { All (MayWork node.now) members.items }
     ensures length { length result.items ≡ length members.items }
-    ensures worked { (k : ℕ) (d : _) → k < length members.items → HasWorked O.given O.faults (slice_index_or members.items k d) (slice_index_or result.items k d) }
+    ensures worked { All (HasWorked node.now) result.items }
 {
     shared_nodes_are_lent::<K, V>();
     let count = members.len();
@@ -97,7 +94,7 @@ fn work_all<R: Threads + Wait + Sync, K: Keeper + Drop + Send, V: Verdicts + Dro
         count,
         &|_, member: &mut Member<O>|
             requires { MayWork node.now member.old }
-            ensures { HasWorked O.given O.faults member.old member.new }
+            ensures { HasWorked node.entry.now member.new }
         { member.serve(rt, alloc, node, gate) },
     );
     members
@@ -114,24 +111,24 @@ fn report_beside<R: Threads + Wait + Sync, K: Keeper + Drop + Send, V: Verdicts 
     jobs: Jobs,
     members: Vec<Member<O>>,
 ) -> (Done<()>, Vec<Member<O>>)
-    requires own { IsPassOf node.now pass }
+    requires own { IsOfThread node.now pass }
     requires fresh { jobs.taken ≡ [] }
     requires ready { All (MayWork node.now) members.items }
-    ensures reported { HasReported pass jobs result.0 }
+    ensures reported { IsOfThread node.now result.0.pass }
     ensures length { length result.1.items ≡ length members.items }
-    ensures worked { (k : ℕ) (d : _) → k < length members.items → HasWorked O.given O.faults (slice_index_or members.items k d) (slice_index_or result.1.items k d) }
+    ensures worked { All (HasWorked node.now) result.1.items }
 {
     shared_nodes_are_lent::<K, V>();
     join(
         rt,
         move || -> Done<()>
-            requires { IsPassOf node.now pass × (jobs.taken ≡ []) }
-            ensures { HasReported pass jobs result }
+            requires { IsOfThread node.now pass × (jobs.taken ≡ []) }
+            ensures { IsOfThread node.entry.now result.pass }
         { reporter(rt, node, pass, number, jobs, gate) },
         move || -> Vec<Member<O>>
             requires { All (MayWork node.now) members.items }
             ensures length { length result.items ≡ length members.items }
-            ensures worked { (k : ℕ) (d : _) → k < length members.items → HasWorked O.given O.faults (slice_index_or members.items k d) (slice_index_or result.items k d) }
+            ensures worked { All (HasWorked node.entry.now) result.items }
         { work_all(rt, alloc, node, gate, members) },
     )
 }
@@ -149,26 +146,24 @@ pub(crate) fn serve_all<R: Threads + Wait + Sync, K: Keeper + Drop + Send, V: Ve
     members: Vec<Member<O>>,
 ) -> ((Received, Reception<I, P>), (Done<()>, Vec<Member<O>>))
     requires several { (1 < length reception.senders.items) × (0 < reception.limit) }
-    requires own { IsPassOf node.now pass }
+    requires own { IsOfThread node.now pass }
     requires fresh { jobs.taken ≡ [] }
     requires ready { All (MayWork node.now) members.items }
-    ensures received { HasReceived I.held I.clock I.faults reception result.0.0 result.0.1 }
-    ensures reported { HasReported pass jobs result.1.0 }
+    ensures reported { IsOfThread node.now result.1.0.pass }
     ensures length { length result.1.1.items ≡ length members.items }
-    ensures worked { (k : ℕ) (d : _) → k < length members.items → HasWorked O.given O.faults (slice_index_or members.items k d) (slice_index_or result.1.1.items k d) }
+    ensures worked { All (HasWorked node.now) result.1.1.items }
 {
     shared_nodes_are_lent::<K, V>();
     join(
         rt,
         move || -> (Received, Reception<I, P>)
             requires { (1 < length reception.senders.items) × (0 < reception.limit) }
-            ensures { HasReceived I.held I.clock I.faults reception result.0 result.1 }
         { reception.receive(rt, alloc) },
         move || -> (Done<()>, Vec<Member<O>>)
-            requires { IsPassOf node.now pass × (jobs.taken ≡ []) × All (MayWork node.now) members.items }
-            ensures reported { HasReported pass jobs result.0 }
+            requires { IsOfThread node.now pass × (jobs.taken ≡ []) × All (MayWork node.now) members.items }
+            ensures reported { IsOfThread node.entry.now result.0.pass }
             ensures length { length result.1.items ≡ length members.items }
-            ensures worked { (k : ℕ) (d : _) → k < length members.items → HasWorked O.given O.faults (slice_index_or members.items k d) (slice_index_or result.1.items k d) }
+            ensures worked { All (HasWorked node.entry.now) result.1.items }
         { report_beside(rt, alloc, node, gate, number, pass, jobs, members) },
     )
 }

@@ -1,6 +1,9 @@
 //! From a disk to the record.
 
-ghost use Rattle.std.specs.Prelude.{◌<◌, ◌≤◌, length};
+ghost use Rattle.std.specs.Prelude.{◌≡◌, ◌<◌, ◌≤◌, ℕ, List, Some, length};
+ghost use Rattle.mt_outside.specs.Stream.{Took};
+ghost use Rattle.mt_serving.specs.Record.{record_of};
+ghost use Rattle.mt_serving.specs.Serves.{IsServed};
 
 use crate::ending::{ServeFault, finish_serving};
 use crate::recording::{RecordFault, write_record};
@@ -50,6 +53,8 @@ pub fn serve_with<R: Threads + Wait + Sync, D: Disk + Drop + Send, I: Intake + D
 ) -> Served<D, I, O>
     requires several { (0 < length outlets.items) × (length outlets.items ≤ 8) }
     requires some { 0 < limit }
+    ensures outlets { length result.outlets.items ≡ length outlets.items }
+    ensures served { (file : List ℕ) → D.contents disk ≡ Some file → result.status ≡ 0 → IsServed config.now file (W.written out.old) (W.written out.new) }
 {
     let (node, store, verdicts) = match start_on(alloc, config, disk) {
         Ok(started) => started.into_parts(),
@@ -99,7 +104,9 @@ pub fn serve_with<R: Threads + Wait + Sync, D: Disk + Drop + Send, I: Intake + D
 }
 
 // Writes the record of a book, and then the last line of why the threads stopped, where they did. The answer is the exit status.
-fn tell_end<W: Sink>(alloc: Global, book: &[Entry], status: u8, out: &mut W) -> u8 {
+fn tell_end<W: Sink>(alloc: Global, book: &[Entry], status: u8, out: &mut W) -> u8
+    ensures { result ≡ 0 → Took (W.written out.old) (W.written out.new) (record_of book.now) }
+{
     match write_record(alloc, book, out) {
         Ok(()) => match ServeFault::of_status(status) {
             Some(fault) => finish_serving(alloc, fault, out),

@@ -5,3 +5,4 @@ pub mod Compared
 pub mod Denials
 pub mod Isolated
 pub mod Runs
+pub mod Serving

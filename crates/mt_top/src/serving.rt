@@ -1,6 +1,11 @@
 //! Serving, from the words of the command line to the record.
 
-ghost use Rattle.std.specs.Prelude.{◌≡◌, ◌≢◌, length};
+ghost use Rattle.std.specs.Prelude.{◌≡◌, None, length};
+ghost use Rattle.mt_endings.specs.Moments.{input};
+ghost use Rattle.mt_endings.specs.Parts.{IsTold};
+ghost use Rattle.mt_endings.specs.declared.fault.Fault.TheVariants.{BadWords};
+ghost use Rattle.mt_words.specs.Words.{serve_words, words_of};
+ghost use Rattle.mt_top.specs.Serving.{HasServed};
 
 use mt_endings::{finish, read_configuration, tell_bad_words};
 use mt_outside::{Disk, Gate, Intake, Outlet, Progress, Sink, Source, Unwatched};
@@ -27,7 +32,12 @@ pub fn serve<R: Threads + Wait + Sync, C: Source, D: Disk + Drop + Send, I: Inta
     outlets: Vec<O>,
     gate: &G,
     out: &mut W,
-) -> Served<D, I, O> {
+) -> Served<D, I, O>
+    ensures words { serve_words (words_of words.now) ≡ None → IsTold BadWords result.status (W.written out.old) (W.written out.new) (W.faults out.old) (W.faults out.new) }
+    ensures untouched { serve_words (words_of words.now) ≡ None → (result.disk ≡ disk) × (result.intake ≡ intake) × (result.outlets ≡ outlets) }
+    ensures outlets { length result.outlets.items ≡ length outlets.items }
+    ensures served { result.status ≡ 0 → HasServed (input (C.left config.old) (C.faults config.old)) (input (C.left config.new) (C.faults config.new)) (D.contents disk) (W.written out.old) (W.written out.new) }
+{
     serve_watched(
         rt, alloc, words, config, disk, intake, outlets, gate, Unwatched, out,
     )
@@ -45,7 +55,12 @@ pub fn serve_watched<R: Threads + Wait + Sync, C: Source, D: Disk + Drop + Send,
     gate: &G,
     progress: P,
     out: &mut W,
-) -> Served<D, I, O> {
+) -> Served<D, I, O>
+    ensures words { serve_words (words_of words.now) ≡ None → IsTold BadWords result.status (W.written out.old) (W.written out.new) (W.faults out.old) (W.faults out.new) }
+    ensures untouched { serve_words (words_of words.now) ≡ None → (result.disk ≡ disk) × (result.intake ≡ intake) × (result.outlets ≡ outlets) }
+    ensures outlets { length result.outlets.items ≡ length outlets.items }
+    ensures served { result.status ≡ 0 → HasServed (input (C.left config.old) (C.faults config.old)) (input (C.left config.new) (C.faults config.new)) (D.contents disk) (W.written out.old) (W.written out.new) }
+{
     let Ok(asked) = serve_of(words) else {
         return not_served(tell_bad_words(out), disk, intake, outlets);
     };

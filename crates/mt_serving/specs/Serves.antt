@@ -1,0 +1,17 @@
+-- What a node was served for, from its disk to its record.
+use Rattle.std.specs.Prelude.{◌≡◌, ℕ, true, List, Option}
+use Rattle.mt_interactions.specs.Configured.{ConfiguredInteractions}
+use Rattle.mt_model.specs.declared.texts.config.Config.{Config}
+use Rattle.mt_outside.specs.Stream.{Took}
+use Rattle.mt_shared.specs.Book.{is_timed}
+use Rattle.mt_shared.specs.declared.entry.Entry.{Entry}
+use Rattle.mt_starting.specs.Starts.{IsStartedOn}
+use Rattle.mt_serving.specs.Record.{record_of}
+
+-- The node was started with what its disk had; its book has the times of the lines in order; and what was written is the record of that book.
+pub record IsServed (config : Config) (file : List ℕ) (before after : Option (List ℕ)) : Type 0 where
+  pub origin : ConfiguredInteractions
+  pub started : IsStartedOn config file origin
+  pub book : List Entry
+  pub timed : is_timed 0 book ≡ true
+  pub written : Took before after (record_of book)
