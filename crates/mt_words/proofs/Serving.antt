@@ -1,9 +1,9 @@
 -- What comes of the words behind `serve`, gone over one after the other, is what they say.
-use Rattle.std.proofs.Common.{◌≡◌, ◌≤◌, ℕ, ◌+◌, true, false, List, [], ◌∷◌, Option, Some, None, IfSome, refl, ap, sym, ◌∙◌, codes, inl, inr}
+use Rattle.std.proofs.Common.{◌≡◌, ◌≤◌, ℕ, ◌+◌, List, [], ◌∷◌, Option, Some, None, IfSome, refl, ap, sym, ◌∙◌, codes, inl, inr}
 use Rattle.std.proofs.lemmas.Bool.{cases_Bool}
 use Rattle.std.specs.Option.{option_and_then, option_map}
 use Rattle.mt_files.specs.Field.{number_between}
-use Rattle.mt_words.specs.Sorting.{add_place, add_value, comes_to, sorted, start, whole}
+use Rattle.mt_words.specs.Sorting.{add_place, add_value, comes_to, start, whole}
 use Rattle.mt_words.specs.Words.{Given, begins, behind, datagrams_of, given_from, is_option, is_word, once, places_alone, places_from, serve_by, serve_with, served, with_place, with_value, workers_of}
 use Rattle.mt_words.specs.declared.serve.ServeOption.TheVariants.{Datagrams, Workers}
 use Rattle.mt_words.specs.declared.serve.ServeWords.{ServeWords}
