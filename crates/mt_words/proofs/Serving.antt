@@ -1,9 +1,9 @@
 -- What comes of the words behind `serve`, gone over one after the other, is what they say.
-use Rattle.std.proofs.Common.{◌≡◌, ◌≤◌, ℕ, ◌+◌, true, false, List, [], ◌∷◌, Option, Some, None, refl, ap, sym, ◌∙◌, codes, inl, inr}
+use Rattle.std.proofs.Common.{◌≡◌, ◌≤◌, ℕ, ◌+◌, List, [], ◌∷◌, Option, Some, None, IfSome, refl, ap, sym, ◌∙◌, codes, inl, inr}
 use Rattle.std.proofs.lemmas.Bool.{cases_Bool}
 use Rattle.std.specs.Option.{option_and_then, option_map}
 use Rattle.mt_files.specs.Field.{number_between}
-use Rattle.mt_words.specs.Sorting.{add_place, add_value, comes_to, sorted, start, whole}
+use Rattle.mt_words.specs.Sorting.{add_place, add_value, comes_to, start, whole}
 use Rattle.mt_words.specs.Words.{Given, begins, behind, datagrams_of, given_from, is_option, is_word, once, places_alone, places_from, serve_by, serve_with, served, with_place, with_value, workers_of}
 use Rattle.mt_words.specs.declared.serve.ServeOption.TheVariants.{Datagrams, Workers}
 use Rattle.mt_words.specs.declared.serve.ServeWords.{ServeWords}
@@ -198,6 +198,10 @@ given_within (Some given) found is =
     let numbers = both (once workers_of given.workers) (once datagrams_of given.datagrams) given.places found is in
     (once_within 1 8 given.workers found.asked.workers numbers.0, once_within 1 1048576 given.datagrams found.asked.datagrams numbers.1)
 
-pub served_within : (words : List (List ℕ)) (found : ServeWords) → served words ≡ Some found
-    → ((1 ≤ found.asked.workers) × (found.asked.workers ≤ 8)) × ((1 ≤ found.asked.datagrams) × (found.asked.datagrams ≤ 1048576))
-served_within words found is = given_within (given_from None 1 words) found is
+pub workers_within : (words : List (List ℕ)) (result : Option ServeWords) → result ≡ served words → IfSome result (λ found. (1 ≤ found.asked.workers) × (found.asked.workers ≤ 8))
+workers_within words None is = tt
+workers_within words (Some found) is = (given_within (given_from None 1 words) found (sym is)).0
+
+pub datagrams_within : (words : List (List ℕ)) (result : Option ServeWords) → result ≡ served words → IfSome result (λ found. (1 ≤ found.asked.datagrams) × (found.asked.datagrams ≤ 1048576))
+datagrams_within words None is = tt
+datagrams_within words (Some found) is = (given_within (given_from None 1 words) found (sym is)).1

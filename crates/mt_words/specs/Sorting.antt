@@ -1,5 +1,5 @@
 -- How the words behind `serve` are gone over, one after the other. No clause of a public call cites it.
-use Rattle.std.specs.Prelude.{ℕ, ◌+◌, Bool, true, false, List, [], ◌∷◌, Option, Some, None, codes, if◌then◌else◌}
+use Rattle.std.specs.Prelude.{ℕ, ◌+◌, List, [], ◌∷◌, Option, Some, None, codes, if◌then◌else◌}
 use Rattle.std.specs.Option.{option_and_then, option_map}
 use Rattle.mt_words.specs.Words.{begins, behind, datagrams_of, is_option, is_word, workers_of}
 use Rattle.mt_words.specs.declared.serve.ServeOption.{ServeOption}

@@ -1,7 +1,7 @@
 //! The words behind `serve`, gone over one after the other: two options in any place, and three
 //! positional words.
 
-ghost use Rattle.std.specs.Prelude.{◌≡◌};
+ghost use Rattle.std.specs.Prelude.{◌≡◌, ◌≤◌, IfSome};
 ghost use Rattle.mt_words.specs.Sorting.{add_place, add_value, ended, first_number, next_place, sorted, sorted_before, sorted_word, whole};
 ghost use Rattle.mt_words.specs.Words.{served, words_of};
 
@@ -48,7 +48,9 @@ pub struct Found {
 
 /// What the words behind `serve` say.
 pub fn served(words: &[String]) -> Option<ServeWords>
-    ensures { result ≡ served (words_of words.now) }
+    ensures exact { result ≡ served (words_of words.now) }
+    ensures workers { IfSome result (λ found. (1 ≤ found.asked.workers) × (found.asked.workers ≤ 8)) }
+    ensures datagrams { IfSome result (λ found. (1 ≤ found.asked.datagrams) × (found.asked.datagrams ≤ 1048576)) }
 {
     let mut found = Found {
         stage: Stage::Before,

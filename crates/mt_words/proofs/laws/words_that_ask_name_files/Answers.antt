@@ -1,4 +1,5 @@
 use Rattle.std.proofs.Common.{refl, subst, ℕ, List, [], ◌∷◌, Option, Some, None, IsSome, option_map}
+use Rattle.std.proofs.lemmas.Bool.{false≢true}
 use Rattle.std.specs.Option.{option_and_then}
 use Rattle.mt_words.specs.Words.{asked, asked_by, command_of, files_at, files_behind, files_of, names_of, positional_from, words_at}
 use Rattle.mt_words.specs.declared.command.Command.{Command}
@@ -36,7 +37,7 @@ at Show (a ∷ []) words some = some
 at Show (a ∷ b ∷ []) words some = some
 at Show (a ∷ b ∷ c ∷ []) words some = refl
 at Show (a ∷ b ∷ c ∷ d ∷ places) words some = some
-at Serve places words some = absurd some
+at Serve places words some = some
 
 by_places : (command : Command) (found : Option (List ℕ)) (words : List (List ℕ)) → IsSome (option_and_then (asked_by command) (option_map (words_at words) found)) → IsSome (option_and_then (files_at command) found)
 by_places command None words some = some
@@ -45,7 +46,7 @@ by_places command (Some places) words some = at command places words some
 by_command : (found : Option Command) (first : List ℕ) (words : List (List ℕ)) → IsSome (option_and_then (λ found. option_and_then (asked_by found) (names_of (first ∷ words))) found)
     → IsSome (option_and_then (λ command. files_behind command words) found)
 by_command None first words some = some
-by_command (Some Serve) first words some = absurd (subst IsSome (asks_nothing (names_of (first ∷ words))) some)
+by_command (Some Serve) first words some = absurd (false≢true (subst IsSome (asks_nothing (names_of (first ∷ words))) some))
 by_command (Some command) first words some = by_places command (positional_from 1 words) (first ∷ words) some
 
 named : (words : List (List ℕ)) → IsSome (asked words) → IsSome (files_of words)
