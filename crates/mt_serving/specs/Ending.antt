@@ -1,5 +1,5 @@
 -- Why serving ends, and what is told then.
-use Rattle.std.specs.Prelude.{◌≡◌, ◌×◌, ℕ, ◌==◌, List, Option, Some, None, codes, if◌then◌else◌}
+use Rattle.std.specs.Prelude.{◌≡◌, ℕ, ◌==◌, List, Option, Some, None, codes, if◌then◌else◌}
 use Rattle.mt_endings.specs.Parts as endings
 use Rattle.mt_endings.specs.Parts.{TellsThere}
 use Rattle.mt_endings.specs.declared.fault.Fault.TheVariants as faults

@@ -8,15 +8,15 @@ use Rattle.mt_crew.specs.Ready.{IsFresh}
 use Rattle.mt_crew.proofs.running.run.Goals as goal
 
 pub seat_all-requires-clause-rows : goal.seat_all-requires-clause-rows
-seat_all-requires-clause-rows g c = All-same MayHave c.into_parts-senders.result.2.items c.args.places.rows.items (ap (λ rows. rows.items) c.into_parts-senders.ensures.rows) c.requires.ready.served
+seat_all-requires-clause-rows g c κs h = All-same MayHave c.into_parts-senders.result.2.items c.args.places.rows.items (ap (λ rows. rows.items) c.into_parts-senders.ensures.rows) c.requires.ready.served
 
 pub seat_all-requires-clause-fresh : goal.seat_all-requires-clause-fresh
-seat_all-requires-clause-fresh g c =
+seat_all-requires-clause-fresh g c κs h =
     let all = All-same IsFresh c.into_parts-senders.result.1.items c.args.places.jobs.items (ap (λ jobs. jobs.items) c.into_parts-senders.ensures.jobs) c.requires.ready.fresh in
     (All-pop IsFresh _ _ (Some c.in-Some.ticks) c.in-Some.ensures.items all).0
 
 pub serve_all-reception-requires-clause-fresh : goal.serve_all-reception-requires-clause-fresh
-serve_all-reception-requires-clause-fresh g c =
+serve_all-reception-requires-clause-fresh g c κs h =
     let all = All-same IsFresh c.into_parts-senders.result.1.items c.args.places.jobs.items (ap (λ jobs. jobs.items) c.into_parts-senders.ensures.jobs) c.requires.ready.fresh in
     (All-pop IsFresh _ _ (Some c.in-Some.ticks) c.in-Some.ensures.items all).1
 
