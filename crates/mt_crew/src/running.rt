@@ -62,7 +62,15 @@ impl<K: Keeper + Drop, I: Drop, O: Drop> Ended<K, I, O> {
 
 /// Serves a node: one worker for each outlet, a reporter and a receiver beside each other, until so many datagrams have come, the intake
 /// has ended, or the receiver meets a fault. It takes no memory before the threads begin. Where it returns, all threads have ended.
-pub fn run<R: Threads + Wait + Sync, K: Keeper + Drop + Send, V: Verdicts + Drop + Sync, I: Intake + Drop + Send, O: Outlet + Drop + Send, G: Gate + Sync, P: Progress + Drop + Send>(
+pub fn run<
+    R: Threads + Wait + Sync,
+    K: Keeper + Drop + Send,
+    V: Verdicts + Drop + Sync,
+    I: Intake + Drop + Send,
+    O: Outlet + Drop + Send,
+    G: Gate + Sync,
+    P: Progress + Drop + Send,
+>(
     rt: &R,
     alloc: Global,
     node: SharedNode<K, V>,

@@ -72,7 +72,13 @@ impl<I: Intake + Drop, P: Progress + Drop> Reception<I, P> {
 }
 
 // The workers beside each other.
-fn work_all<R: Threads + Wait + Sync, K: Keeper + Drop + Send, V: Verdicts + Drop + Sync, O: Outlet + Drop + Send, G: Gate + Sync>(
+fn work_all<
+    R: Threads + Wait + Sync,
+    K: Keeper + Drop + Send,
+    V: Verdicts + Drop + Sync,
+    O: Outlet + Drop + Send,
+    G: Gate + Sync,
+>(
     rt: &R,
     alloc: Global,
     node: &SharedNode<K, V>,
@@ -101,7 +107,13 @@ fn work_all<R: Threads + Wait + Sync, K: Keeper + Drop + Send, V: Verdicts + Dro
 }
 
 // The reporter beside the workers.
-fn report_beside<R: Threads + Wait + Sync, K: Keeper + Drop + Send, V: Verdicts + Drop + Sync, O: Outlet + Drop + Send, G: Gate + Sync>(
+fn report_beside<
+    R: Threads + Wait + Sync,
+    K: Keeper + Drop + Send,
+    V: Verdicts + Drop + Sync,
+    O: Outlet + Drop + Send,
+    G: Gate + Sync,
+>(
     rt: &R,
     alloc: Global,
     node: &SharedNode<K, V>,
@@ -134,7 +146,15 @@ fn report_beside<R: Threads + Wait + Sync, K: Keeper + Drop + Send, V: Verdicts 
 }
 
 /// The receiver beside all of them.
-pub(crate) fn serve_all<R: Threads + Wait + Sync, K: Keeper + Drop + Send, V: Verdicts + Drop + Sync, I: Intake + Drop + Send, O: Outlet + Drop + Send, G: Gate + Sync, P: Progress + Drop + Send>(
+pub(crate) fn serve_all<
+    R: Threads + Wait + Sync,
+    K: Keeper + Drop + Send,
+    V: Verdicts + Drop + Sync,
+    I: Intake + Drop + Send,
+    O: Outlet + Drop + Send,
+    G: Gate + Sync,
+    P: Progress + Drop + Send,
+>(
     rt: &R,
     alloc: Global,
     node: &SharedNode<K, V>,

@@ -35,11 +35,7 @@ pub(crate) fn write_record<W: Sink>(
 }
 
 // The lines behind the head.
-fn write_lines<W: Sink>(
-    alloc: Global,
-    book: &[Entry],
-    out: &mut W,
-) -> Result<(), RecordFault>
+fn write_lines<W: Sink>(alloc: Global, book: &[Entry], out: &mut W) -> Result<(), RecordFault>
     ensures { Writes result (event_lines (lines_in book.now)) (W.written out.old) (W.written out.new) (W.faults out.old) (W.faults out.new) }
 {
     for entry in book {

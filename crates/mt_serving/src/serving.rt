@@ -39,7 +39,15 @@ impl<D: Drop, I: Drop, O: Drop> Drop for Served<D, I, O> {
 /// and writes its record. The status is 0; or 6 where `out` failed, 7 where memory was wanting, 8 where a call of the disk failed, 9 where
 /// the journal is none, 12 where the intake or an outlet failed, 13 where the record was full, and 17 where no boot more can be counted.
 /// Where a fault ends it, the last line names it, behind the record of what was done before.
-pub fn serve_with<R: Threads + Wait + Sync, D: Disk + Drop + Send, I: Intake + Drop + Send, O: Outlet + Drop + Send, G: Gate + Sync, P: Progress + Drop + Send, W: Sink>(
+pub fn serve_with<
+    R: Threads + Wait + Sync,
+    D: Disk + Drop + Send,
+    I: Intake + Drop + Send,
+    O: Outlet + Drop + Send,
+    G: Gate + Sync,
+    P: Progress + Drop + Send,
+    W: Sink,
+>(
     rt: &R,
     alloc: Global,
     config: &Config,
@@ -69,7 +77,12 @@ pub fn serve_with<R: Threads + Wait + Sync, D: Disk + Drop + Send, I: Intake + D
         }
     };
     let boot = node.state().boot;
-    let Ok(places) = reserve(alloc, config.sessions.as_slice(), boot, outlets.len() as u32) else {
+    let Ok(places) = reserve(
+        alloc,
+        config.sessions.as_slice(),
+        boot,
+        outlets.len() as u32,
+    ) else {
         let status = finish_serving(alloc, ServeFault::Memory, out);
         return Served {
             status,

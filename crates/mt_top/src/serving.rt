@@ -22,7 +22,15 @@ use std::thread::Threads;
 /// memory was wanting; 8 where `disk` failed; 9 where the journal is none; 12 where the intake or an outlet failed; 13 where the record
 /// was full; 17 where no boot more can be counted, or there is no room for event numbers. All but 0 and 6 end the output with a line that
 /// names the fault.
-pub fn serve<R: Threads + Wait + Sync, C: Source, D: Disk + Drop + Send, I: Intake + Drop + Send, O: Outlet + Drop + Send, G: Gate + Sync, W: Sink>(
+pub fn serve<
+    R: Threads + Wait + Sync,
+    C: Source,
+    D: Disk + Drop + Send,
+    I: Intake + Drop + Send,
+    O: Outlet + Drop + Send,
+    G: Gate + Sync,
+    W: Sink,
+>(
     rt: &R,
     alloc: Global,
     words: &[String],
@@ -44,7 +52,16 @@ pub fn serve<R: Threads + Wait + Sync, C: Source, D: Disk + Drop + Send, I: Inta
 }
 
 /// The same, and `progress` is told how many datagrams were taken.
-pub fn serve_watched<R: Threads + Wait + Sync, C: Source, D: Disk + Drop + Send, I: Intake + Drop + Send, O: Outlet + Drop + Send, G: Gate + Sync, P: Progress + Drop + Send, W: Sink>(
+pub fn serve_watched<
+    R: Threads + Wait + Sync,
+    C: Source,
+    D: Disk + Drop + Send,
+    I: Intake + Drop + Send,
+    O: Outlet + Drop + Send,
+    G: Gate + Sync,
+    P: Progress + Drop + Send,
+    W: Sink,
+>(
     rt: &R,
     alloc: Global,
     words: &[String],

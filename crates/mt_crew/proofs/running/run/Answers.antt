@@ -1,4 +1,4 @@
-use Rattle.std.proofs.Common.{rules, Some, ap, sym, subst, List, ◌≡◌, ◌∙◌}
+use Rattle.std.proofs.Common.{Some, ap, sym, subst, List, ◌∙◌}
 use Rattle.std.proofs.lemmas.List.Elements.{All-pop, All-same}
 use Rattle.mt_shared.specs.Acts.{IsHalted}
 use Rattle.mt_shared.specs.Book.{stop_in}

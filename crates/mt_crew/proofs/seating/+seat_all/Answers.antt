@@ -1,8 +1,7 @@
-use Rattle.std.proofs.Common.{rules, Some, ap, sym, subst, List}
+use Rattle.std.proofs.Common.{rules, Some}
 use Rattle.std.proofs.lemmas.List.Elements.{All-pop, All-push, All-same}
 use Rattle.mt_crew.specs.Members.{MayHave, MayWork}
 use Rattle.mt_crew.specs.Ready.{IsFresh}
-use Rattle.mt_crew.specs.declared.member.Member.{Member}
 use Rattle.mt_crew.proofs.seating.+seat_all.Goals as goal
 
 pub returns-clause-ready : goal.returns-clause-ready
