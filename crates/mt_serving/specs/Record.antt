@@ -1,5 +1,5 @@
 -- The record of a book.
-use Rattle.std.specs.Prelude.{◌≡◌, ℕ, List, Option, Result, Ok, Err, map}
+use Rattle.std.specs.Prelude.{◌≡◌, ℕ, List, ◌++◌, Option, Result, Ok, Err, map}
 use Rattle.mt_files.specs.Event.{event_line}
 use Rattle.mt_files.specs.Lines.{text_of}
 use Rattle.mt_files.specs.Recording.{recording_text}
@@ -18,8 +18,12 @@ record_of book = recording_text (lines_in book)
 abbrev pub event_lines : List Event → List ℕ
 event_lines events = text_of (map event_line events)
 
--- All of it was written, or a beginning: where the sink failed, or where memory was wanting.
+-- a front of these bytes was added at the end of what was written, with what is missing of them
+abbrev pub TookFront : Option (List ℕ) → Option (List ℕ) → List ℕ → Type 0
+TookFront before after bytes = (front : List ℕ) × (rest : List ℕ) × (front ++ rest ≡ bytes) × Took before after front
+
+-- All of it was written; or less, where the sink failed; or a front, where memory was wanting.
 abbrev pub Writes : {T : Type 0} → Result T RecordFault → List ℕ → Option (List ℕ) → Option (List ℕ) → ℕ → ℕ → Type 0
 Writes (Ok x) text before after old new = Took before after text × (new ≡ old)
 Writes (Err Write) text before after old new = TookLess before after text × RoseByOne old new
-Writes (Err Memory) text before after old new = TookLess before after text × (new ≡ old)
+Writes (Err Memory) text before after old new = TookFront before after text × (new ≡ old)

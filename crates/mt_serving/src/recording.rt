@@ -7,7 +7,7 @@ ghost use Rattle.mt_serving.specs.Record.{Writes, event_lines, record_of};
 
 use mt_files::write_event;
 use mt_model::{Event, ExactCopy};
-use mt_outside::{Sink, write_all};
+use mt_outside::{Sink, write_all, writings_add_up};
 use mt_shared::Entry;
 use std::alloc::{AllocError, Global};
 
@@ -28,6 +28,7 @@ pub(crate) fn write_record<W: Sink>(
 ) -> Result<(), RecordFault>
     ensures { Writes result (record_of book.now) (W.written out.old) (W.written out.new) (W.faults out.old) (W.faults out.new) }
 {
+    writings_add_up();
     let Ok(()) = write_all(out, b"matter-record 1\n") else {
         return Err(RecordFault::Write);
     };
@@ -38,6 +39,7 @@ pub(crate) fn write_record<W: Sink>(
 fn write_lines<W: Sink>(alloc: Global, book: &[Entry], out: &mut W) -> Result<(), RecordFault>
     ensures { Writes result (event_lines (lines_in book.now)) (W.written out.old) (W.written out.new) (W.faults out.old) (W.faults out.new) }
 {
+    writings_add_up();
     for entry in book {
         let Ok(line) = line_of(alloc, entry) else {
             return Err(RecordFault::Memory);
@@ -67,13 +69,20 @@ fn done_event(entry: &Entry) -> Result<Event, AllocError>
     ensures { IfOk result (λ event. event ≡ at_time entry.now.ms entry.now.call.event) }
 {
     let mut event = entry.call.event.copy()?;
-    match &mut event {
-        Event::Ask { ms, .. }
-        | Event::Datagram { ms, .. }
-        | Event::Tick { ms }
-        | Event::Report { ms, .. }
-        | Event::Resend { ms, .. } => *ms = entry.ms,
+    set_time(&mut event, entry.ms);
+    Ok(event)
+}
+
+// Puts a time in the place of an event's own; a stop has none.
+fn set_time(event: &mut Event, now: u64)
+    ensures { event.new ≡ at_time now event.old }
+{
+    match event {
+        Event::Ask { ms, .. } => *ms = now,
+        Event::Datagram { ms, .. } => *ms = now,
+        Event::Tick { ms } => *ms = now,
+        Event::Report { ms, .. } => *ms = now,
+        Event::Resend { ms, .. } => *ms = now,
         Event::Stop { .. } => {}
     }
-    Ok(event)
 }

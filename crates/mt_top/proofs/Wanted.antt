@@ -7,7 +7,7 @@ use Rattle.mt_words.specs.Words.{asked, asked_by, begin_of, command_of, count_of
 use Rattle.mt_words.specs.declared.asked.Asked.{Asked}
 use Rattle.mt_words.specs.declared.asked.Asked.TheVariants as asks
 use Rattle.mt_words.specs.declared.command.Command.{Command}
-use Rattle.mt_words.specs.declared.command.Command.TheVariants.{Ask, Compare, Replay, Settle, Show, Soak}
+use Rattle.mt_words.specs.declared.command.Command.TheVariants.{Ask, Compare, Replay, Settle, Show, Soak, Serve}
 use Rattle.mt_top.specs.Asked.{is_within}
 
 -- whatever is wanted is within
@@ -55,6 +55,7 @@ show_within (Some session) = refl
 
 by_within : (command : Command) (words : List (List ℕ)) → Within (asked_by command words)
 unfolding Within
+by_within Serve words = tt
 by_within Replay [] = tt
 by_within Replay (a ∷ []) = tt
 by_within Replay (a ∷ b ∷ []) = refl
