@@ -97,9 +97,7 @@ pub fn run<
     let Some(ticks) = jobs.pop() else {
         unreachable!()
     };
-    let Ok(given) = node.split(&mut pass) else {
-        unreachable!()
-    };
+    let given = node.split(&mut pass).ok().unwrap();
     seat_all(
         &node,
         &mut pass,
@@ -108,23 +106,11 @@ pub fn run<
         &mut rows,
         &mut members,
     );
-    let reception = Reception {
-        intake,
-        senders,
-        ids,
-        limit,
-        progress,
-    };
+    let reception = Reception::new(intake, senders, ids, limit, progress);
     let ((received, reception), (reported, mut members)) = serve_all(
         rt, alloc, &node, gate, reception, number, given, ticks, members,
     );
-    let intake = reception.into_intake();
-    let Done {
-        outlet: _,
-        pass: other,
-        queue: _,
-        status: last,
-    } = reported;
+    let (other, last) = left_of(reported);
     node.join(&mut pass, other);
     let worked = gather(&node, &mut pass, &mut outlets, &mut members);
     let held = node.close(pass);
@@ -132,9 +118,22 @@ pub fn run<
         status: first_of(status_of(&received), first_of(worked, last)),
         held,
         received,
-        intake,
+        intake: reception.into_intake(),
         outlets,
     }
+}
+
+// The pass and the status of a thread that has ended.
+fn left_of<O: Drop>(done: Done<O>) -> (NodePass, u8)
+    ensures { result ≡ (done.pass, done.status) }
+{
+    let Done {
+        outlet: _,
+        pass,
+        queue: _,
+        status,
+    } = done;
+    (pass, status)
 }
 
 // The status of how the receiver ended.

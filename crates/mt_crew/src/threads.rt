@@ -37,6 +37,26 @@ impl<I: Drop, P: Drop> Drop for Reception<I, P> {
 }
 
 impl<I: Drop, P: Drop> Reception<I, P> {
+    /// What the receiver begins with.
+    pub(crate) fn new(
+        intake: I,
+        senders: Vec<JobSender>,
+        ids: Vec<u16>,
+        limit: u32,
+        progress: P,
+    ) -> Reception<I, P>
+        ensures senders { result.senders ≡ senders }
+        ensures limit { result.limit ≡ limit }
+    {
+        Reception {
+            intake,
+            senders,
+            ids,
+            limit,
+            progress,
+        }
+    }
+
     /// The intake.
     pub(crate) fn into_intake(self) -> I
         ensures { result ≡ self.intake }

@@ -8,10 +8,14 @@ use Rattle.mt_shared.specs.declared.entry.Entry.{Entry}
 use Rattle.mt_starting.specs.Starts.{IsStartedOn}
 use Rattle.mt_serving.specs.Record.{record_of}
 
--- The node was started with what its disk had; its book has the times of the lines in order; and what was written is the record of that book.
-pub record IsServed (config : Config) (file : List ℕ) (before after : Option (List ℕ)) : Type 0 where
-  pub origin : ConfiguredInteractions
-  pub started : IsStartedOn config file origin
+-- What was written is the record of a book that has the times of its lines in order.
+pub record TellsBook (before after : Option (List ℕ)) : Type 0 where
   pub book : List Entry
   pub timed : is_timed 0 book ≡ true
   pub written : Took before after (record_of book)
+
+-- The node was started with what its disk had, and what was written is the record of a book.
+pub record IsServed (config : Config) (file : List ℕ) (before after : Option (List ℕ)) : Type 0 where
+  pub origin : ConfiguredInteractions
+  pub started : IsStartedOn config file origin
+  pub told : TellsBook before after

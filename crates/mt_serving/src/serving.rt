@@ -3,7 +3,7 @@
 ghost use Rattle.std.specs.Prelude.{◌≡◌, ◌<◌, ◌≤◌, ℕ, List, Some, length};
 ghost use Rattle.mt_outside.specs.Stream.{Took};
 ghost use Rattle.mt_serving.specs.Record.{record_of};
-ghost use Rattle.mt_serving.specs.Serves.{IsServed};
+ghost use Rattle.mt_serving.specs.Serves.{IsServed, TellsBook};
 
 use crate::ending::{ServeFault, finish_serving};
 use crate::recording::{RecordFault, write_record};
@@ -11,7 +11,7 @@ use mt_crew::{reserve, run};
 use mt_model::Config;
 use mt_outside::{Disk, Gate, Intake, Outlet, Progress, Sink};
 use mt_shared::{Entry, SharedNode};
-use mt_starting::start_on;
+use mt_starting::{Started, start_on};
 use std::alloc::Global;
 use std::sync::Wait;
 use std::thread::Threads;
@@ -22,6 +22,23 @@ pub struct Served<D, I, O> {
     pub disk: D,
     pub intake: I,
     pub outlets: Vec<O>,
+}
+
+impl<D, I, O> Served<D, I, O> {
+    /// These parts.
+    pub fn new(status: u8, disk: D, intake: I, outlets: Vec<O>) -> Served<D, I, O>
+        ensures status { result.status ≡ status }
+        ensures disk { result.disk ≡ disk }
+        ensures intake { result.intake ≡ intake }
+        ensures outlets { result.outlets ≡ outlets }
+    {
+        Served {
+            status,
+            disk,
+            intake,
+            outlets,
+        }
+    }
 }
 
 impl<D: Drop, I: Drop, O: Drop> Drop for Served<D, I, O> {
@@ -64,56 +81,74 @@ pub fn serve_with<
     ensures outlets { length result.outlets.items ≡ length outlets.items }
     ensures served { (file : List ℕ) → D.contents disk ≡ Some file → result.status ≡ 0 → IsServed config.now file (W.written out.old) (W.written out.new) }
 {
-    let (node, store, verdicts) = match start_on(alloc, config, disk) {
-        Ok(started) => started.into_parts(),
+    match start_on(alloc, config, disk) {
+        Ok(started) => serve_started(
+            rt, alloc, config, started, intake, outlets, gate, limit, progress, out,
+        ),
         Err((disk, fault)) => {
             let status = finish_serving(alloc, ServeFault::of_start(fault), out);
-            return Served {
-                status,
-                disk,
-                intake,
-                outlets,
-            };
+            Served::new(status, disk, intake, outlets)
         }
-    };
+    }
+}
+
+// The same behind the start.
+fn serve_started<
+    R: Threads + Wait + Sync,
+    D: Disk + Drop + Send,
+    I: Intake + Drop + Send,
+    O: Outlet + Drop + Send,
+    G: Gate + Sync,
+    P: Progress + Drop + Send,
+    W: Sink,
+>(
+    rt: &R,
+    alloc: Global,
+    config: &Config,
+    started: Started<D>,
+    intake: I,
+    outlets: Vec<O>,
+    gate: &G,
+    limit: u32,
+    progress: P,
+    out: &mut W,
+) -> Served<D, I, O>
+    requires several { (0 < length outlets.items) × (length outlets.items ≤ 8) }
+    requires some { 0 < limit }
+    ensures outlets { length result.outlets.items ≡ length outlets.items }
+    ensures told { result.status ≡ 0 → TellsBook (W.written out.old) (W.written out.new) }
+{
+    let (node, store, verdicts) = started.into_parts();
     let boot = node.state().boot;
-    let Ok(places) = reserve(
-        alloc,
-        config.sessions.as_slice(),
-        boot,
-        outlets.len() as u32,
-    ) else {
-        let status = finish_serving(alloc, ServeFault::Memory, out);
-        return Served {
-            status,
-            disk: store.into_disk(),
-            intake,
-            outlets,
-        };
+    let workers = outlets.len() as u32;
+    let Ok(places) = reserve(alloc, config.sessions.as_slice(), boot, workers) else {
+        return without_memory(alloc, store.into_disk(), intake, outlets, out);
     };
     let (shared, pass) = match SharedNode::new(alloc, node, store, verdicts) {
         Ok(both) => both,
-        Err(store) => {
-            let status = finish_serving(alloc, ServeFault::Memory, out);
-            return Served {
-                status,
-                disk: store.into_disk(),
-                intake,
-                outlets,
-            };
-        }
+        Err(store) => return without_memory(alloc, store.into_disk(), intake, outlets, out),
     };
     let ended = run(
         rt, alloc, shared, pass, places, intake, outlets, gate, limit, progress,
     );
     let (status, held, intake, outlets) = ended.into_parts();
     let status = tell_end(alloc, &held.book, status, out);
-    Served {
-        status,
-        disk: held.into_keeper().into_disk(),
-        intake,
-        outlets,
-    }
+    Served::new(status, held.into_keeper().into_disk(), intake, outlets)
+}
+
+// There was no memory before the threads began.
+fn without_memory<D, I, O, W: Sink>(
+    alloc: Global,
+    disk: D,
+    intake: I,
+    outlets: Vec<O>,
+    out: &mut W,
+) -> Served<D, I, O>
+    ensures status { result.status ≡ 7 }
+    ensures outlets { result.outlets ≡ outlets }
+{
+    let status = finish_serving(alloc, ServeFault::Memory, out);
+    Served::new(status, disk, intake, outlets)
 }
 
 // Writes the record of a book, and then the last line of why the threads stopped, where they did. The answer is the exit status.
