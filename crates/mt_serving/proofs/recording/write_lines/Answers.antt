@@ -1,4 +1,4 @@
-use Rattle.std.proofs.Common.{rules, ◌≡◌, ◌+◌, ◌∷◌, [], ◌∙◌, ap, subst, drop}
+use Rattle.std.proofs.Common.{rules, ◌+◌, ◌∷◌, [], ◌∙◌, ap, subst, drop}
 use Rattle.mt_outside.specs.Stream.{Took, TookLess, one_more}
 use Rattle.mt_serving.proofs.Records.{book_lines, book_lines-at, so_far-less, so_far-more}
 use Rattle.mt_serving.proofs.recording.write_lines.Goals as goal

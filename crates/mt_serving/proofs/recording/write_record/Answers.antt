@@ -1,4 +1,4 @@
-use Rattle.std.proofs.Common.{rules, ◌≡◌, ◌∙◌}
+use Rattle.std.proofs.Common.{rules}
 use Rattle.std.specs.Prelude.{codes}
 use Rattle.mt_shared.specs.Book.{lines_in}
 use Rattle.mt_serving.specs.Record.{event_lines}
