@@ -4,6 +4,6 @@ pub mod Faults
 pub mod Isolated
 pub mod Plays
 pub mod Secret
-pub mod Served
 pub mod Soaks
+pub mod Statuses
 pub mod Wanted

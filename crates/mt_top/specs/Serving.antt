@@ -1,5 +1,5 @@
 -- What serving comes to, by the words, the configuration and the disk.
-use Rattle.std.specs.Prelude.{◌≡◌, ℕ, List, Option, Some, None}
+use Rattle.std.specs.Prelude.{◌≡◌, ℕ, List, Option, Some}
 use Rattle.mt_endings.specs.Moments.{Input}
 use Rattle.mt_endings.specs.Parts.{Configured}
 use Rattle.mt_model.specs.declared.texts.config.Config.{Config}

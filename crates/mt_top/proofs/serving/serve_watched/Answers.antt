@@ -1,6 +1,3 @@
-use Rattle.std.proofs.Common.{arith, sym, ◌∙◌}
-use Rattle.mt_endings.specs.declared.fault.Fault.TheVariants.{BadWords}
-use Rattle.mt_top.proofs.Served.{told-other, finishes-other}
 use Rattle.mt_top.proofs.serving.serve_watched.Goals as goal
 
 pub returns-in-Ok-read_configuration-clause-served : goal.returns-in-Ok-read_configuration-clause-served

@@ -1,5 +1,5 @@
 -- A fault never has status 0.
-use Rattle.std.proofs.Common.{◌≡◌, ◌∙◌, sym, ℕ, ◌<◌, ◌≤◌, ⊥, List, Option, arith}
+use Rattle.std.proofs.Common.{◌≡◌, ℕ, ◌<◌, List, Option, arith}
 use Rattle.mt_endings.specs.Faults.{status_of}
 use Rattle.mt_endings.specs.Parts.{Finishes, IsTold}
 use Rattle.mt_endings.specs.Parts.Finishes.{told_line, no_memory, no_sink}
@@ -9,7 +9,7 @@ use Rattle.mt_endings.specs.declared.fault.Fault.TheVariants.{BadWords, BadConfi
 
 above_one : (fault : Fault) → 1 < status_of fault
 above_one = elim [
-  BadWords ↦ omega arith
+  | BadWords ↦ omega arith
   | BadConfig field ↦ omega arith
   | BadRecord line kind ↦ omega arith
   | ReadFault ↦ omega arith
@@ -28,13 +28,13 @@ other_than_nought status wanted is above none = omega arith
 
 pub told-other : (fault : Fault) (status : ℕ) (before after : Option (List ℕ)) (old new : ℕ) → IsTold fault status before after old new → status ≡ 0 → ⊥
 told-other fault status before after old new = elim [
-  whole_line is calm took ↦ other_than_nought status (status_of fault) is (above_one fault)
+  | whole_line is calm took ↦ other_than_nought status (status_of fault) is (above_one fault)
   | part_of_line is rose less ↦ other_than_nought status 6 is (omega arith)
 ]
 
 pub finishes-other : (fault : Fault) (status : ℕ) (before after : Option (List ℕ)) (old new : ℕ) → Finishes fault status before after old new → status ≡ 0 → ⊥
 finishes-other fault status before after old new = elim [
-  told_line other sink told ↦ told-other fault status before after old new told
+  | told_line other sink told ↦ told-other fault status before after old new told
   | no_memory wants is tells ↦ other_than_nought status 7 is (omega arith)
   | no_sink sink is same calm ↦ other_than_nought status 6 is (omega arith)
 ]
