@@ -20,6 +20,7 @@ from pathlib import Path
 from served import HOST, TOP, Server, fill_up, free_port, is_bound, make_config, program_of, temporary_folder
 
 FABRICS, CASE_SESSIONS, PASE_SESSIONS = 16, 3, 4
+MOST_DATAGRAMS = 1 << 20
 CLOCK = os.sysconf('SC_CLK_TCK')
 
 
@@ -70,7 +71,7 @@ class Node(Server):
 
     def __init__(self, program, folder, config, workers, reads, replay):
         (Path(folder) / 'journal').unlink(missing_ok=True)
-        super().__init__(program, folder, config, workers, reads * 2 + 1000)
+        super().__init__(program, folder, config, workers, min(reads * 2 + 1000, MOST_DATAGRAMS))
         self.replay = replay
 
     def finish(self):
