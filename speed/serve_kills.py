@@ -44,6 +44,13 @@ def items_of(tag):
     return [{1: f'{tag} {place}', 2: tag.encode() * 3} for place in range(3)]
 
 
+def statuses_in(opcode, answer):
+    """The statuses in the answer to a write or a command."""
+    if opcode == matter.WRITTEN:
+        return [item[1][0] for item in answer[0]]
+    return [answer[1][0][1][1][0]] if opcode == matter.INVOKED else [answer.get(0, 'none')]
+
+
 def work(peer, place, run, changes, generator, wrong):
     """Makes changes over one session until the node is gone, or all datagrams were sent."""
     fabric, count = FABRIC_OF[place], 0
@@ -59,8 +66,7 @@ def work(peer, place, run, changes, generator, wrong):
                 change = Change(tag, (f'items {fabric}',) if place == OPERATOR else ('labels', f'items {fabric}'))
                 opcode, payload = matter.WRITE, matter.write_request(*(() if place == OPERATOR else labels), items)
             changes.append(change)
-            (_, answer), = peer.ask(opcode, payload)
-            statuses = [answer[1][0][1][1][0]] if change.sets == (TOGGLE,) else [item[1][0] for item in answer[0]]
+            statuses = statuses_in(*peer.ask(opcode, payload)[0])
             if any(statuses):
                 wrong(f'run {run}: {tag} is refused: {statuses}')
             change.acknowledged = time.monotonic()
