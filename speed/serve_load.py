@@ -6,7 +6,7 @@
 
 Each line is a run of speed/serve_load.c against a new node: first a closed loop, in which each session has one read under way; then open
 loops at these rates, in reads a second of all sessions, or at a half and at four fifths of what the closed loop came to. Of sixteen fabrics
-each has three sessions, and four are of PASE, so that there are 52. Half of the answers came within the 50th percentile.
+each has three sessions, and four are of PASE, so that there are 52. Half of the answers came within the 50th percentile. Others are messages that are no answer to what was asked last, as copies.
 
 With --peer the node is speed/serve_peer.c, the yardstick, with as many threads as it would have workers. With --replay the node's record is
 replayed afterwards, and what it sends is counted."""
@@ -17,7 +17,7 @@ import sys
 import time
 from pathlib import Path
 
-from served import HOST, TOP, Server, fill_up, free_port, is_bound, make_config, program_of, temporary_folder
+from served import HOST, TOP, Server, fill_up, free_port, is_bound, make_config, program_of, queue_of, temporary_folder
 
 FABRICS, CASE_SESSIONS, PASE_SESSIONS = 16, 3, 4
 MOST_DATAGRAMS = 1 << 20
@@ -102,9 +102,10 @@ def measure(node, load, folder, asked, rate):
     run = subprocess.run([load, Path(folder) / 'sessions.txt', HOST, str(node.port), str(asked.reads), str(rate), str(asked.threads)],
                          stdout=subprocess.PIPE, check=True)
     used = seconds_used(node.process) - used
+    dropped = queue_of(node.port)[1]
     _, answers, lost, others, sent, seconds, half, most, longest, busy = run.stdout.decode().split()
     speed = int(answers) / float(seconds)
-    return speed, (f'{speed:9.0f} answers a second, {lost} lost, {others} others, 50th {int(half) / 1000:.2f} ms, 99th {int(most) / 1000:.2f} ms, '
+    return speed, (f'{speed:9.0f} answers a second, {lost} lost ({dropped} dropped at the socket), {others} others, 50th {int(half) / 1000:.2f} ms, 99th {int(most) / 1000:.2f} ms, '
                    f'longest {int(longest) / 1000:.1f} ms; {sent} datagrams sent, node on {used / float(seconds):.2f} processors, load on {busy} %')
 
 

@@ -17,7 +17,7 @@ import struct
 import sys
 import time
 
-from served import HOST, ITEMS, LABELS, NODE_LABEL, Gone, Peer, Server, fill_up, make_config, matter, program_of, temporary_folder
+from served import HOST, ITEMS, LABELS, NODE_LABEL, Gone, Peer, Server, fill_up, make_config, matter, program_of, queue_of, temporary_folder
 
 BETWEEN_LOOKS, QUEUE_MOST, AHEAD = 5000, 60_000, 1000
 
@@ -96,17 +96,6 @@ class Noise:
     def random_behind_header(self):
         header = struct.pack('<BHBI', 0, self.generator.choice(self.numbers), 0, self.generator.randrange(1 << self.generator.choice((10, 14, 32))))
         return header + self.generator.randbytes(self.generator.choice((0, 16, 22, 22, 43, 43, 43, 200, 1272)))
-
-
-def queue_of(port):
-    """How many bytes wait at the node's socket, and how many datagrams found no room there."""
-    for name in ('/proc/net/udp', '/proc/net/udp6'):
-        with open(name, encoding='ascii') as file:
-            for line in file.readlines()[1:]:
-                fields = line.split()
-                if fields[1].endswith(f':{port:04X}'):
-                    return int(fields[4].partition(':')[2], 16), int(fields[-1])
-    raise Gone('the node has its port no more')
 
 
 def all_values(peer):

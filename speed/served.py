@@ -46,6 +46,17 @@ def is_bound(port):
     return False
 
 
+def queue_of(port):
+    """How many bytes wait at the node's socket, and how many datagrams found no room there."""
+    for name in ('/proc/net/udp', '/proc/net/udp6'):
+        with open(name, encoding='ascii') as file:
+            for line in file.readlines()[1:]:
+                fields = line.split()
+                if fields[1].endswith(f':{port:04X}'):
+                    return int(fields[4].partition(':')[2], 16), int(fields[-1])
+    raise Gone('the node has its port no more')
+
+
 class Server:
     """A node that serves, in a process of its own. Its record and what it says on standard error are in files of the folder."""
 
