@@ -6,7 +6,8 @@
 
 Each line is a run of speed/serve_load.c against a new node: first a closed loop, in which each session has one read under way; then open
 loops at these rates, in reads a second of all sessions, or at a half and at four fifths of what the closed loop came to. Of sixteen fabrics
-each has three sessions, and four are of PASE, so that there are 52. Half of the answers came within the 50th percentile. Others are messages that are no answer to what was asked last, as copies.
+each has three sessions, and four are of PASE, so that there are 52. Half of the answers came within the 50th percentile. Others are messages that are no answer to what was asked last, as
+copies of answers.
 
 With --peer the node is speed/serve_peer.c, the yardstick, with as many threads as it would have workers. With --replay the node's record is
 replayed afterwards, and what it sends is counted."""
@@ -37,7 +38,8 @@ def rows_told(config):
     lines = []
     for row in config['sessions']:
         nodes = row.get('own_node', '0'), row.get('peer_node', '0')
-        lines.append(' '.join(map(str, (row['session'], row['peer_session'], *nodes, row['key_in'], row['key_out'], row['counter_in'], row['counter_out']))))
+        fields = row['session'], row['peer_session'], *nodes, row['key_in'], row['key_out'], row['counter_in'], row['counter_out']
+        lines.append(' '.join(map(str, fields)))
     return '\n'.join(lines) + '\n'
 
 
@@ -105,8 +107,9 @@ def measure(node, load, folder, asked, rate):
     dropped = queue_of(node.port)[1]
     _, answers, lost, others, sent, seconds, half, most, longest, busy = run.stdout.decode().split()
     speed = int(answers) / float(seconds)
-    return speed, (f'{speed:9.0f} answers a second, {lost} lost ({dropped} dropped at the socket), {others} others, 50th {int(half) / 1000:.2f} ms, 99th {int(most) / 1000:.2f} ms, '
-                   f'longest {int(longest) / 1000:.1f} ms; {sent} datagrams sent, node on {used / float(seconds):.2f} processors, load on {busy} %')
+    return speed, (f'{speed:9.0f} answers a second, {lost} lost ({dropped} dropped at the socket), {others} others, 50th {int(half) / 1000:.2f} ms, '
+                   f'99th {int(most) / 1000:.2f} ms, longest {int(longest) / 1000:.1f} ms; {sent} datagrams sent, node on {used / float(seconds):.2f} '
+                   f'processors, load on {busy} %')
 
 
 def main():

@@ -136,8 +136,8 @@ def same_lines(server, peers):
 def settle_down(peers, boot):
     """Gives the node values to keep."""
     for place in (0, 2):
-        items = [{1: f'item {place}', 2: bytes([boot])}]
-        peers[place].ask(matter.WRITE, matter.write_request((NODE_LABEL, f'label {boot}'), (LABELS, [{0: 'room', 1: f'hall {boot}'}]), (ITEMS, items)))
+        labels, items = [{0: 'room', 1: f'hall {boot}'}], [{1: f'item {place}', 2: bytes([boot])}]
+        peers[place].ask(matter.WRITE, matter.write_request((NODE_LABEL, f'label {boot}'), (LABELS, labels), (ITEMS, items)))
     peers[1].ask(matter.INVOKE, matter.invoke_request(1, 6, 2))
 
 
