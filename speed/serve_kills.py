@@ -17,7 +17,7 @@ import time
 from pathlib import Path
 
 from served import (ITEMS, LABELS, NODE_LABEL, ON_OFF, Budget, Finished, Gone, Peer, Server, make_config, matter, program_of, settled,
-                    temporary_folder)
+                    temporary_folder, unlike_lines)
 
 ADMINISTRATOR, OPERATOR, OTHER = 0, 1, 2
 FABRIC_OF = {ADMINISTRATOR: 1, OPERATOR: 1, OTHER: 2}
@@ -164,28 +164,6 @@ class Checker:
             if now.is_on != (before.is_on ^ len(toggles) % 2):
                 self.wrong(f'run {run}: On/Off is {now.is_on} behind {len(toggles)} toggles from {before.is_on}')
 
-    def compare_lines(self, run, peers, server, status):
-        """A replay of the record sends to each peer what it received, and the record has what each sent, in this order."""
-        if status != 0:
-            self.wrong(f'run {run}: the node ended with status {status}, {server.errors()}')
-        replay, lines = server.replayed()
-        if replay != 0:
-            self.wrong(f'run {run}: the replay ended with status {replay}: {lines[-1:]}')
-        record = server.record.read_text(encoding='ascii').splitlines()
-        for kind, lines, name in (('D', record, 'sent'), ('S', lines, 'received')):
-            told = {}
-            for line in lines:
-                if line.startswith(kind):
-                    _, _, address, datagram = line.split(' ')
-                    told.setdefault(address, []).append(datagram)
-            for peer in peers:
-                mine = [datagram.hex() for datagram in getattr(peer, name)]
-                self.counts['lines sent'] += len(mine) if kind == 'S' else 0
-                if told.pop(peer.address(), []) != mine:
-                    self.wrong(f'run {run}: {kind} lines are not what the peer of session {peer.session.number} {name}')
-            if told:
-                self.wrong(f'run {run}: {kind} lines of others: {sorted(told)}')
-
 
 class Kills:
     """The runs on one journal."""
@@ -262,7 +240,9 @@ class Kills:
         for peer in peers:
             peer.drain()
         self.checker.counts['runs that ended'] += 1
-        self.checker.compare_lines(run, peers, server, status)
+        self.checker.counts['lines sent'] += sum(len(peer.received) for peer in peers)
+        for text in unlike_lines(server, status, peers):
+            self.checker.wrong(f'run {run}: {text}')
         for peer in peers:
             peer.socket.close()
 

@@ -97,6 +97,12 @@ def seconds_used(process):
     return (int(fields[11]) + int(fields[12])) / CLOCK
 
 
+def memory_used(process):
+    """The most memory that it has had, in MiB."""
+    with open(f'/proc/{process.pid}/status', encoding='ascii') as file:
+        return next(int(line.split()[1]) for line in file if line.startswith('VmHWM')) // 1024
+
+
 def measure(node, load, folder, asked, rate):
     """Plays one load; answers the reads a second that were answered, and what is told of them."""
     node.wait_until_bound()
@@ -109,7 +115,7 @@ def measure(node, load, folder, asked, rate):
     speed = int(answers) / float(seconds)
     return speed, (f'{speed:9.0f} answers a second, {lost} lost ({dropped} dropped at the socket), {others} others, 50th {int(half) / 1000:.2f} ms, '
                    f'99th {int(most) / 1000:.2f} ms, longest {int(longest) / 1000:.1f} ms; {sent} datagrams sent, node on {used / float(seconds):.2f} '
-                   f'processors, load on {busy} %')
+                   f'processors and {memory_used(node.process)} MiB, load on {busy} %')
 
 
 def main():

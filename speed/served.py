@@ -97,7 +97,7 @@ class Server:
 
     def replayed(self):
         """The lines that a replay of its record writes."""
-        run = subprocess.run([self.program, 'replay', self.config, self.record], stdout=subprocess.PIPE, check=False)
+        run = subprocess.run([self.program, 'replay', self.config, self.record], stdout=subprocess.PIPE, stderr=subprocess.PIPE, check=False)
         return run.returncode, run.stdout.decode().splitlines()
 
 
@@ -191,6 +191,38 @@ class Peer(matter.Controller):
                 else:
                     values[place] = value
         return values
+
+
+def unlike_lines(server, status, peers, dropped=False):
+    """What is wrong with a node that ended with this status: a replay of its record is to send to each peer what that received, and the record is
+    to have what each sent, in this order, where it names a session; without some of it, where some was dropped on its way."""
+    if status != 0:
+        yield f'the node ended with status {status}, {server.errors()}'
+    replay, lines = server.replayed()
+    if replay != 0:
+        yield f'the replay ended with status {replay}: {lines[-1:]}'
+    record = server.record.read_text(encoding='ascii').splitlines()
+    sessions = {peer.session.number for peer in peers}
+    for kind, lines, name in (('D', record, 'sent'), ('S', lines, 'received')):
+        told = {}
+        for line in lines:
+            if line.startswith(kind):
+                _, _, address, datagram = line.split(' ')
+                told.setdefault(address, []).append(datagram)
+        for peer in peers:
+            mine = [datagram.hex() for datagram in getattr(peer, name) if kind == 'S' or session_named(datagram) in sessions]
+            theirs, rest = told.pop(peer.address(), []), iter(mine)
+            if theirs != mine and not (kind == 'D' and dropped and all(datagram in rest for datagram in theirs)):
+                yield f'{kind} lines are not what the peer of session {peer.session.number} {name}'
+        if told:
+            yield f'{kind} lines of others: {sorted(told)}'
+
+
+def session_named(datagram):
+    """The session that the header of a datagram names, or None where it has no header that is read."""
+    if len(datagram) < 8 or datagram[0] & ~5 or datagram[3]:
+        return None
+    return int.from_bytes(datagram[1:3], 'little') if len(datagram) >= 8 + 8 * (datagram[0] & 1) + 2 * (datagram[0] & 4) else None
 
 
 def fill_up(server, seconds=60):
