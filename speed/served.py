@@ -195,27 +195,33 @@ class Peer(matter.Controller):
 
 def unlike_lines(server, status, peers, dropped=False):
     """What is wrong with a node that ended with this status: a replay of its record is to send to each peer what that received, and the record is
-    to have what each sent, in this order, where it names a session; without some of it, where some was dropped on its way."""
+    to have what each sent to each session, in this order; without some of it, where some was dropped on its way."""
     if status != 0:
         yield f'the node ended with status {status}, {server.errors()}'
     replay, lines = server.replayed()
     if replay != 0:
         yield f'the replay ended with status {replay}: {lines[-1:]}'
+    sent, heard, received, told = ({} for _ in range(4))
     record = server.record.read_text(encoding='ascii').splitlines()
+    for kind, lines, found in (('D', record, heard), ('S', lines, told)):
+        for _, _, address, text in (line.split(' ') for line in lines if line.startswith(kind)):
+            datagram = bytes.fromhex(text)
+            found.setdefault((address, session_named(datagram) if kind == 'D' else None), []).append(datagram)
     sessions = {peer.session.number for peer in peers}
-    for kind, lines, name in (('D', record, 'sent'), ('S', lines, 'received')):
-        told = {}
-        for line in lines:
-            if line.startswith(kind):
-                _, _, address, datagram = line.split(' ')
-                told.setdefault(address, []).append(datagram)
-        for peer in peers:
-            mine = [datagram.hex() for datagram in getattr(peer, name) if kind == 'S' or session_named(datagram) in sessions]
-            theirs, rest = told.pop(peer.address(), []), iter(mine)
-            if theirs != mine and not (kind == 'D' and dropped and all(datagram in rest for datagram in theirs)):
-                yield f'{kind} lines are not what the peer of session {peer.session.number} {name}'
-        if told:
-            yield f'{kind} lines of others: {sorted(told)}'
+    for peer in peers:
+        received[peer.address(), None] = peer.received
+        for datagram in peer.sent:
+            if session_named(datagram) in sessions:
+                sent.setdefault((peer.address(), session_named(datagram)), []).append(datagram)
+    for (address, session), datagrams in sent.items():
+        theirs, rest = heard.pop((address, session), []), iter(datagrams)
+        if theirs != datagrams and not (dropped and all(datagram in rest for datagram in theirs)):
+            yield f'D lines of {address} are not what that sent to session {session}'
+    for key, datagrams in received.items():
+        if told.pop(key, []) != datagrams:
+            yield f'S lines are not what {key[0]} received'
+    if told or heard:
+        yield f'D or S lines of others: {sorted(told) + sorted(heard)}'
 
 
 def session_named(datagram):
