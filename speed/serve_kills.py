@@ -17,7 +17,7 @@ import time
 from pathlib import Path
 
 from served import (ITEMS, LABELS, NODE_LABEL, ON_OFF, Budget, Finished, Gone, Peer, Server, make_config, matter, program_of, settled,
-                    temporary_folder)
+                    temporary_folder, unlike_lines)
 
 ADMINISTRATOR, OPERATOR, OTHER = 0, 1, 2
 FABRIC_OF = {ADMINISTRATOR: 1, OPERATOR: 1, OTHER: 2}
@@ -44,6 +44,13 @@ def items_of(tag):
     return [{1: f'{tag} {place}', 2: tag.encode() * 3} for place in range(3)]
 
 
+def statuses_in(opcode, answer):
+    """The statuses in the answer to a write or a command."""
+    if opcode == matter.WRITTEN:
+        return [item[1][0] for item in answer[0]]
+    return [answer[1][0][1][1][0]] if opcode == matter.INVOKED else [answer.get(0, 'none')]
+
+
 def work(peer, place, run, changes, generator, wrong):
     """Makes changes over one session until the node is gone, or all datagrams were sent."""
     fabric, count = FABRIC_OF[place], 0
@@ -59,8 +66,7 @@ def work(peer, place, run, changes, generator, wrong):
                 change = Change(tag, (f'items {fabric}',) if place == OPERATOR else ('labels', f'items {fabric}'))
                 opcode, payload = matter.WRITE, matter.write_request(*(() if place == OPERATOR else labels), items)
             changes.append(change)
-            (_, answer), = peer.ask(opcode, payload)
-            statuses = [answer[1][0][1][1][0]] if change.sets == (TOGGLE,) else [item[1][0] for item in answer[0]]
+            statuses = statuses_in(*peer.ask(opcode, payload)[0])
             if any(statuses):
                 wrong(f'run {run}: {tag} is refused: {statuses}')
             change.acknowledged = time.monotonic()
@@ -158,28 +164,6 @@ class Checker:
             if now.is_on != (before.is_on ^ len(toggles) % 2):
                 self.wrong(f'run {run}: On/Off is {now.is_on} behind {len(toggles)} toggles from {before.is_on}')
 
-    def compare_lines(self, run, peers, server, status):
-        """A replay of the record sends to each peer what it received, and the record has what each sent, in this order."""
-        if status != 0:
-            self.wrong(f'run {run}: the node ended with status {status}, {server.errors()}')
-        replay, lines = server.replayed()
-        if replay != 0:
-            self.wrong(f'run {run}: the replay ended with status {replay}: {lines[-1:]}')
-        record = server.record.read_text(encoding='ascii').splitlines()
-        for kind, lines, name in (('D', record, 'sent'), ('S', lines, 'received')):
-            told = {}
-            for line in lines:
-                if line.startswith(kind):
-                    _, _, address, datagram = line.split(' ')
-                    told.setdefault(address, []).append(datagram)
-            for peer in peers:
-                mine = [datagram.hex() for datagram in getattr(peer, name)]
-                self.counts['lines sent'] += len(mine) if kind == 'S' else 0
-                if told.pop(peer.address(), []) != mine:
-                    self.wrong(f'run {run}: {kind} lines are not what the peer of session {peer.session.number} {name}')
-            if told:
-                self.wrong(f'run {run}: {kind} lines of others: {sorted(told)}')
-
 
 class Kills:
     """The runs on one journal."""
@@ -256,7 +240,9 @@ class Kills:
         for peer in peers:
             peer.drain()
         self.checker.counts['runs that ended'] += 1
-        self.checker.compare_lines(run, peers, server, status)
+        self.checker.counts['lines sent'] += sum(len(peer.received) for peer in peers)
+        for text in unlike_lines(server, status, peers):
+            self.checker.wrong(f'run {run}: {text}')
         for peer in peers:
             peer.socket.close()
 

@@ -6,7 +6,8 @@
 
 Each line is a run of speed/serve_load.c against a new node: first a closed loop, in which each session has one read under way; then open
 loops at these rates, in reads a second of all sessions, or at a half and at four fifths of what the closed loop came to. Of sixteen fabrics
-each has three sessions, and four are of PASE, so that there are 52. Half of the answers came within the 50th percentile.
+each has three sessions, and four are of PASE, so that there are 52. Half of the answers came within the 50th percentile. Others are messages that are no answer to what was asked last, as
+copies of answers.
 
 With --peer the node is speed/serve_peer.c, the yardstick, with as many threads as it would have workers. With --replay the node's record is
 replayed afterwards, and what it sends is counted."""
@@ -17,9 +18,10 @@ import sys
 import time
 from pathlib import Path
 
-from served import HOST, TOP, Server, fill_up, free_port, is_bound, make_config, program_of, temporary_folder
+from served import HOST, TOP, Server, fill_up, free_port, is_bound, make_config, program_of, queue_of, temporary_folder
 
 FABRICS, CASE_SESSIONS, PASE_SESSIONS = 16, 3, 4
+MOST_DATAGRAMS = 1 << 20
 CLOCK = os.sysconf('SC_CLK_TCK')
 
 
@@ -36,7 +38,8 @@ def rows_told(config):
     lines = []
     for row in config['sessions']:
         nodes = row.get('own_node', '0'), row.get('peer_node', '0')
-        lines.append(' '.join(map(str, (row['session'], row['peer_session'], *nodes, row['key_in'], row['key_out'], row['counter_in'], row['counter_out']))))
+        fields = row['session'], row['peer_session'], *nodes, row['key_in'], row['key_out'], row['counter_in'], row['counter_out']
+        lines.append(' '.join(map(str, fields)))
     return '\n'.join(lines) + '\n'
 
 
@@ -70,7 +73,7 @@ class Node(Server):
 
     def __init__(self, program, folder, config, workers, reads, replay):
         (Path(folder) / 'journal').unlink(missing_ok=True)
-        super().__init__(program, folder, config, workers, reads * 2 + 1000)
+        super().__init__(program, folder, config, workers, min(reads * 2 + 1000, MOST_DATAGRAMS))
         self.replay = replay
 
     def finish(self):
@@ -94,6 +97,12 @@ def seconds_used(process):
     return (int(fields[11]) + int(fields[12])) / CLOCK
 
 
+def memory_used(process):
+    """The most memory that it has had, in MiB."""
+    with open(f'/proc/{process.pid}/status', encoding='ascii') as file:
+        return next(int(line.split()[1]) for line in file if line.startswith('VmHWM')) // 1024
+
+
 def measure(node, load, folder, asked, rate):
     """Plays one load; answers the reads a second that were answered, and what is told of them."""
     node.wait_until_bound()
@@ -101,10 +110,12 @@ def measure(node, load, folder, asked, rate):
     run = subprocess.run([load, Path(folder) / 'sessions.txt', HOST, str(node.port), str(asked.reads), str(rate), str(asked.threads)],
                          stdout=subprocess.PIPE, check=True)
     used = seconds_used(node.process) - used
+    dropped = queue_of(node.port)[1]
     _, answers, lost, others, sent, seconds, half, most, longest, busy = run.stdout.decode().split()
     speed = int(answers) / float(seconds)
-    return speed, (f'{speed:9.0f} answers a second, {lost} lost, {others} others, 50th {int(half) / 1000:.2f} ms, 99th {int(most) / 1000:.2f} ms, '
-                   f'longest {int(longest) / 1000:.1f} ms; {sent} datagrams sent, node on {used / float(seconds):.2f} processors, load on {busy} %')
+    return speed, (f'{speed:9.0f} answers a second, {lost} lost ({dropped} dropped at the socket), {others} others, 50th {int(half) / 1000:.2f} ms, '
+                   f'99th {int(most) / 1000:.2f} ms, longest {int(longest) / 1000:.1f} ms; {sent} datagrams sent, node on {used / float(seconds):.2f} '
+                   f'processors and {memory_used(node.process)} MiB, load on {busy} %')
 
 
 def main():

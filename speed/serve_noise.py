@@ -17,7 +17,7 @@ import struct
 import sys
 import time
 
-from served import HOST, ITEMS, LABELS, NODE_LABEL, Gone, Peer, Server, fill_up, make_config, matter, program_of, temporary_folder
+from served import HOST, ITEMS, LABELS, NODE_LABEL, Gone, Peer, Server, fill_up, make_config, matter, program_of, queue_of, temporary_folder
 
 BETWEEN_LOOKS, QUEUE_MOST, AHEAD = 5000, 60_000, 1000
 
@@ -98,17 +98,6 @@ class Noise:
         return header + self.generator.randbytes(self.generator.choice((0, 16, 22, 22, 43, 43, 43, 200, 1272)))
 
 
-def queue_of(port):
-    """How many bytes wait at the node's socket, and how many datagrams found no room there."""
-    for name in ('/proc/net/udp', '/proc/net/udp6'):
-        with open(name, encoding='ascii') as file:
-            for line in file.readlines()[1:]:
-                fields = line.split()
-                if fields[1].endswith(f':{port:04X}'):
-                    return int(fields[4].partition(':')[2], 16), int(fields[-1])
-    raise Gone('the node has its port no more')
-
-
 def all_values(peer):
     """Each attribute that the peer may read, with its version."""
     values = []
@@ -147,8 +136,8 @@ def same_lines(server, peers):
 def settle_down(peers, boot):
     """Gives the node values to keep."""
     for place in (0, 2):
-        items = [{1: f'item {place}', 2: bytes([boot])}]
-        peers[place].ask(matter.WRITE, matter.write_request((NODE_LABEL, f'label {boot}'), (LABELS, [{0: 'room', 1: f'hall {boot}'}]), (ITEMS, items)))
+        labels, items = [{0: 'room', 1: f'hall {boot}'}], [{1: f'item {place}', 2: bytes([boot])}]
+        peers[place].ask(matter.WRITE, matter.write_request((NODE_LABEL, f'label {boot}'), (LABELS, labels), (ITEMS, items)))
     peers[1].ask(matter.INVOKE, matter.invoke_request(1, 6, 2))
 
 

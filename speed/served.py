@@ -46,6 +46,17 @@ def is_bound(port):
     return False
 
 
+def queue_of(port):
+    """How many bytes wait at the node's socket, and how many datagrams found no room there."""
+    for name in ('/proc/net/udp', '/proc/net/udp6'):
+        with open(name, encoding='ascii') as file:
+            for line in file.readlines()[1:]:
+                fields = line.split()
+                if fields[1].endswith(f':{port:04X}'):
+                    return int(fields[4].partition(':')[2], 16), int(fields[-1])
+    raise Gone('the node has its port no more')
+
+
 class Server:
     """A node that serves, in a process of its own. Its record and what it says on standard error are in files of the folder."""
 
@@ -86,7 +97,7 @@ class Server:
 
     def replayed(self):
         """The lines that a replay of its record writes."""
-        run = subprocess.run([self.program, 'replay', self.config, self.record], stdout=subprocess.PIPE, check=False)
+        run = subprocess.run([self.program, 'replay', self.config, self.record], stdout=subprocess.PIPE, stderr=subprocess.PIPE, check=False)
         return run.returncode, run.stdout.decode().splitlines()
 
 
@@ -180,6 +191,44 @@ class Peer(matter.Controller):
                 else:
                     values[place] = value
         return values
+
+
+def unlike_lines(server, status, peers, dropped=False):
+    """What is wrong with a node that ended with this status: a replay of its record is to send to each peer what that received, and the record is
+    to have what each sent to each session, in this order; without some of it, where some was dropped on its way."""
+    if status != 0:
+        yield f'the node ended with status {status}, {server.errors()}'
+    replay, lines = server.replayed()
+    if replay != 0:
+        yield f'the replay ended with status {replay}: {lines[-1:]}'
+    sent, heard, received, told = ({} for _ in range(4))
+    record = server.record.read_text(encoding='ascii').splitlines()
+    for kind, lines, found in (('D', record, heard), ('S', lines, told)):
+        for _, _, address, text in (line.split(' ') for line in lines if line.startswith(kind)):
+            datagram = bytes.fromhex(text)
+            found.setdefault((address, session_named(datagram) if kind == 'D' else None), []).append(datagram)
+    sessions = {peer.session.number for peer in peers}
+    for peer in peers:
+        received[peer.address(), None] = peer.received
+        for datagram in peer.sent:
+            if session_named(datagram) in sessions:
+                sent.setdefault((peer.address(), session_named(datagram)), []).append(datagram)
+    for (address, session), datagrams in sent.items():
+        theirs, rest = heard.pop((address, session), []), iter(datagrams)
+        if theirs != datagrams and not (dropped and all(datagram in rest for datagram in theirs)):
+            yield f'D lines of {address} are not what that sent to session {session}'
+    for key, datagrams in received.items():
+        if told.pop(key, []) != datagrams:
+            yield f'S lines are not what {key[0]} received'
+    if told or heard:
+        yield f'D or S lines of others: {sorted(told) + sorted(heard)}'
+
+
+def session_named(datagram):
+    """The session that the header of a datagram names, or None where it has no header that is read."""
+    if len(datagram) < 8 or datagram[0] & ~5 or datagram[3]:
+        return None
+    return int.from_bytes(datagram[1:3], 'little') if len(datagram) >= 8 + 8 * (datagram[0] & 1) + 2 * (datagram[0] & 4) else None
 
 
 def fill_up(server, seconds=60):

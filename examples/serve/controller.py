@@ -21,6 +21,7 @@ import argparse
 import contextlib
 import fcntl
 import json
+import signal
 import socket
 import sys
 import time
@@ -278,4 +279,5 @@ def main(words):
 
 
 if __name__ == '__main__':
+    signal.signal(signal.SIGPIPE, signal.SIG_DFL)
     sys.exit(main(sys.argv[1:]))
