@@ -2,14 +2,14 @@
 use Rattle.std.proofs.Common.{◌≡◌, ℕ, ◌==◌, ◌&&◌, not, Bool, true, false, List, [], ◌∷◌, ◌++◌, refl, sym, ap, subst, ◌∙◌, if◌then◌else◌}
 use Rattle.mt_model.specs.declared.texts.config.SessionRow.{SessionRow}
 use Rattle.mt_model.specs.declared.texts.recording.Event.{Event}
-use Rattle.mt_machine.specs.Environment.{Environment}
-use Rattle.mt_machine.specs.State.{is_member}
-use Rattle.mt_runs.specs.Course.{Course, Going, behind_course, course, stepped}
-use Rattle.mt_runs.specs.Isolation.{own_part}
-use Rattle.mt_runs.specs.Lines.{fabric_of}
-use Rattle.mt_runs.specs.Whole.{Whole}
-use Rattle.mt_runs.specs.Marks.{Mark, born, gone, is_in, is_of}
-use Rattle.mt_marks.specs.differences.Marked.{all_at, if_changed, marked_behind}
+use Rattle.mt_play.specs.mt_machine.Environment.{Environment}
+use Rattle.mt_play.specs.mt_machine.State.{is_member}
+use Rattle.mt_play.specs.mt_runs.Course.{Course, Going, behind_course, course, stepped}
+use Rattle.mt_play.specs.mt_runs.Isolation.{own_part}
+use Rattle.mt_play.specs.mt_runs.Lines.{fabric_of}
+use Rattle.mt_play.specs.mt_runs.Whole.{Whole}
+use Rattle.mt_play.specs.mt_runs.Marks.{Mark, born, gone, is_in, is_of}
+use Rattle.mt_play.specs.mt_marks.differences.Marked.{all_at, if_changed, marked_behind}
 use Rattle.mt_play.specs.Courses.{IsGoing, course_in}
 use Rattle.mt_play.specs.declared.course.Course as code
 use Rattle.mt_play.specs.declared.course.Course.TheVariants as codes

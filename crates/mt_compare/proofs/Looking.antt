@@ -3,12 +3,12 @@ use Rattle.std.proofs.Common.{◌≡◌, ℕ, inl, inr, Bool, true, false, Optio
 use Rattle.std.proofs.lemmas.Bool.{cases_Bool}
 use Rattle.std.specs.Option.{option_map}
 use Rattle.mt_model.specs.declared.texts.recording.Event.{Event}
-use Rattle.mt_runs.specs.Isolation.{public_part}
-use Rattle.mt_runs.specs.Whole.{Whole}
-use Rattle.mt_runs.specs.Marks.{Mark, is_seen, seen}
-use Rattle.mt_marks.specs.Seen.{seen_in}
-use Rattle.mt_marks.specs.declared.mark.Mark as code
-use Rattle.mt_whole.specs.Seeing.{mark_of}
+use Rattle.mt_play.specs.mt_runs.Isolation.{public_part}
+use Rattle.mt_play.specs.mt_runs.Whole.{Whole}
+use Rattle.mt_play.specs.mt_runs.Marks.{Mark, is_seen, seen}
+use Rattle.mt_play.specs.mt_marks.Seen.{seen_in}
+use Rattle.mt_play.specs.mt_marks.declared.mark.Mark as code
+use Rattle.mt_play.specs.mt_whole.Seeing.{mark_of}
 
 some_same : (m n : Mark) → Some m ≡ Some n → m ≡ n
 some_same m n e = cc

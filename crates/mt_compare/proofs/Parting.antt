@@ -4,20 +4,20 @@ use Rattle.std.proofs.lemmas.Bool.{false_from_ne_true}
 use Rattle.std.specs.Option.{option_map}
 use Rattle.std.specs.Prelude.{IfSome}
 use Rattle.mt_model.specs.declared.texts.recording.Event.{Event}
-use Rattle.mt_machine.specs.Isolation as machine
-use Rattle.mt_runs.specs.Isolation.{OwnPart, PublicPart}
-use Rattle.mt_runs.specs.Marks.{Unanswered, reopened, seen}
-use Rattle.mt_marks.specs.Parts.{IsSame, place_of}
-use Rattle.mt_marks.specs.Seen.{descriptor_in, public_in, unanswered_in}
-use Rattle.mt_marks.specs.declared.difference.Part.{Part}
-use Rattle.mt_marks.specs.declared.difference.Part.TheVariants as parts
-use Rattle.mt_marks.specs.declared.mark.Descriptor.{Descriptor}
-use Rattle.mt_marks.specs.declared.mark.Mark.{Mark}
-use Rattle.mt_marks.specs.declared.mark.Unanswered as code
-use Rattle.mt_marks.specs.differences.Codes.{are_same, of_own, of_unanswered}
-use Rattle.mt_marks.specs.differences.Difference.{born_part, reopened_part}
-use Rattle.mt_marks.specs.differences.Laws.{OwnPartsDiffer, PartsComeInOrder, SameMarksHaveNoPart}
-use Rattle.mt_marks.specs.differences.Parts.{IsSameSeen, seen_part}
+use Rattle.mt_play.specs.mt_machine.Isolation as machine
+use Rattle.mt_play.specs.mt_runs.Isolation.{OwnPart, PublicPart}
+use Rattle.mt_play.specs.mt_runs.Marks.{Unanswered, reopened, seen}
+use Rattle.mt_play.specs.mt_marks.Parts.{IsSame, place_of}
+use Rattle.mt_play.specs.mt_marks.Seen.{descriptor_in, public_in, unanswered_in}
+use Rattle.mt_play.specs.mt_marks.declared.difference.Part.{Part}
+use Rattle.mt_play.specs.mt_marks.declared.difference.Part.TheVariants as parts
+use Rattle.mt_play.specs.mt_marks.declared.mark.Descriptor.{Descriptor}
+use Rattle.mt_play.specs.mt_marks.declared.mark.Mark.{Mark}
+use Rattle.mt_play.specs.mt_marks.declared.mark.Unanswered as code
+use Rattle.mt_play.specs.mt_marks.differences.Codes.{are_same, of_own, of_unanswered}
+use Rattle.mt_play.specs.mt_marks.differences.Difference.{born_part, reopened_part}
+use Rattle.mt_play.specs.mt_marks.differences.Laws.{OwnPartsDiffer, PartsComeInOrder, SameMarksHaveNoPart}
+use Rattle.mt_play.specs.mt_marks.differences.Parts.{IsSameSeen, seen_part}
 
 -- A descriptor says all that one as data does.
 

@@ -4,17 +4,17 @@ use Rattle.std.specs.Option.{option_map}
 use Rattle.mt_model.specs.declared.texts.config.SessionRow.{SessionRow}
 use Rattle.mt_model.specs.declared.texts.recording.Event.{Event}
 use Rattle.mt_model.specs.declared.texts.recording.Event.TheVariants as events
-use Rattle.mt_machine.specs.Environment.{Environment}
-use Rattle.mt_machine.specs.State.{is_member}
-use Rattle.mt_runs.specs.Course.{Course, Going, behind_course, course, stepped, stops}
-use Rattle.mt_runs.specs.Isolation.{public_part}
-use Rattle.mt_runs.specs.Lines.{fabric_of}
-use Rattle.mt_runs.specs.Whole.{Whole}
-use Rattle.mt_runs.specs.Marks.{Mark, Unanswered, gone, if_lost, is_of, left_unanswered, reopened, seen}
-use Rattle.mt_marks.specs.Seen.{reopened_in, seen_in, unanswered_in}
-use Rattle.mt_marks.specs.declared.mark.Mark as code_mark
-use Rattle.mt_marks.specs.declared.mark.Unanswered as code_left
-use Rattle.mt_marks.specs.differences.Marked.{Marked, all_at, marked_at, marked_behind}
+use Rattle.mt_play.specs.mt_machine.Environment.{Environment}
+use Rattle.mt_play.specs.mt_machine.State.{is_member}
+use Rattle.mt_play.specs.mt_runs.Course.{Course, Going, behind_course, course, stepped, stops}
+use Rattle.mt_play.specs.mt_runs.Isolation.{public_part}
+use Rattle.mt_play.specs.mt_runs.Lines.{fabric_of}
+use Rattle.mt_play.specs.mt_runs.Whole.{Whole}
+use Rattle.mt_play.specs.mt_runs.Marks.{Mark, Unanswered, gone, if_lost, is_of, left_unanswered, reopened, seen}
+use Rattle.mt_play.specs.mt_marks.Seen.{reopened_in, seen_in, unanswered_in}
+use Rattle.mt_play.specs.mt_marks.declared.mark.Mark as code_mark
+use Rattle.mt_play.specs.mt_marks.declared.mark.Unanswered as code_left
+use Rattle.mt_play.specs.mt_marks.differences.Marked.{Marked, all_at, marked_at, marked_behind}
 use Rattle.mt_play.specs.Courses.{course_in}
 use Rattle.mt_play.specs.declared.course.ComingStop.{ComingStop}
 use Rattle.mt_play.specs.declared.course.Course as code

@@ -1,10 +1,10 @@
 -- What a line makes of a fabric's place in the table, and what it leaves unanswered.
 use Rattle.std.specs.Prelude.{ℕ, ◌&&◌, not, Bool, List, [], ◌∷◌, Option, Some, None, if◌then◌else◌}
 use Rattle.mt_model.specs.declared.texts.recording.Event.{Event}
-use Rattle.mt_runs.specs.Isolation.{own_part}
-use Rattle.mt_runs.specs.Whole.{Whole}
-use Rattle.mt_runs.specs.Marks.{Mark, born, gone}
-use Rattle.mt_marks.specs.declared.mark.Unanswered.{Unanswered}
+use Rattle.mt_play.specs.mt_runs.Isolation.{own_part}
+use Rattle.mt_play.specs.mt_runs.Whole.{Whole}
+use Rattle.mt_play.specs.mt_runs.Marks.{Mark, born, gone}
+use Rattle.mt_play.specs.mt_marks.declared.mark.Unanswered.{Unanswered}
 use Rattle.mt_compare.specs.declared.passing.Passed.{Passed}
 use Rattle.mt_compare.specs.declared.passing.Passed.TheVariants as passes
 

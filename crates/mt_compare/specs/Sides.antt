@@ -5,12 +5,12 @@ use Rattle.std.specs.Option.{option_map}
 use Rattle.mt_model.specs.declared.texts.config.SessionRow.{SessionRow}
 use Rattle.mt_model.specs.declared.texts.recording.Event.{Event}
 use Rattle.mt_model.specs.declared.texts.recording.Event.TheVariants as events
-use Rattle.mt_machine.specs.Environment.{Environment}
-use Rattle.mt_runs.specs.Course.{Going, course, stepped}
-use Rattle.mt_runs.specs.Isolation.{own_part, public_part}
-use Rattle.mt_runs.specs.Marks.{Mark, born, gone, is_seen, seen}
-use Rattle.mt_marks.specs.Seen.{reopened_in, seen_in}
-use Rattle.mt_marks.specs.differences.Marked.{Marked, all_at, marked, marked_behind}
+use Rattle.mt_play.specs.mt_machine.Environment.{Environment}
+use Rattle.mt_play.specs.mt_runs.Course.{Going, course, stepped}
+use Rattle.mt_play.specs.mt_runs.Isolation.{own_part, public_part}
+use Rattle.mt_play.specs.mt_runs.Marks.{Mark, born, gone, is_seen, seen}
+use Rattle.mt_play.specs.mt_marks.Seen.{reopened_in, seen_in}
+use Rattle.mt_play.specs.mt_marks.differences.Marked.{Marked, all_at, marked, marked_behind}
 use Rattle.mt_play.specs.Remembers.{IsRemembering}
 use Rattle.mt_play.specs.declared.course.ComingStop.{ComingStop}
 use Rattle.mt_play.specs.declared.course.Course as code

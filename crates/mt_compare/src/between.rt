@@ -3,18 +3,18 @@
 ghost use Rattle.std.specs.Prelude.{◌≡◌, IfOk, List};
 ghost use Rattle.std.specs.Option.{option_map};
 ghost use Rattle.mt_model.specs.declared.texts.config.SessionRow.{SessionRow};
-ghost use Rattle.mt_machine.specs.Environment.{Environment};
-ghost use Rattle.mt_runs.specs.Course.{Going};
-ghost use Rattle.mt_runs.specs.Isolation.{own_part};
-ghost use Rattle.mt_marks.specs.Seen.{public_in, unanswered_in};
-ghost use Rattle.mt_marks.specs.differences.Difference.{born_part, part_between as part_of_marks, reopened_part};
-ghost use Rattle.mt_marks.specs.differences.Parts.{seen_part};
+ghost use Rattle.mt_play.specs.mt_machine.Environment.{Environment};
+ghost use Rattle.mt_play.specs.mt_runs.Course.{Going};
+ghost use Rattle.mt_play.specs.mt_runs.Isolation.{own_part};
+ghost use Rattle.mt_play.specs.mt_marks.Seen.{public_in, unanswered_in};
+ghost use Rattle.mt_play.specs.mt_marks.differences.Difference.{born_part, part_between as part_of_marks, reopened_part};
+ghost use Rattle.mt_play.specs.mt_marks.differences.Parts.{seen_part};
 ghost use Rattle.mt_play.specs.Remembers.{IsRemembering};
 ghost use Rattle.mt_compare.specs.Sides.{mark_in};
 
 use crate::side::{Here, Side};
-use mt_marks::{Mark, Part, Unanswered, first_difference, parts_come_in_order};
 use mt_play::Remembering;
+use mt_play::mt_marks::{Mark, Part, Unanswered, first_difference, parts_come_in_order};
 use mt_same::Same;
 use std::alloc::AllocError;
 

@@ -4,11 +4,11 @@ ghost use Rattle.std.specs.Prelude.{◌≡◌, IfOk, List, None, Some};
 ghost use Rattle.std.specs.Option.{option_map};
 ghost use Rattle.mt_model.specs.declared.texts.config.SessionRow.{SessionRow};
 ghost use Rattle.mt_model.specs.texts.Contents.{contents_of};
-ghost use Rattle.mt_machine.specs.Environment.{Environment, given_by};
-ghost use Rattle.mt_runs.specs.Course.{Going, going_on};
-ghost use Rattle.mt_runs.specs.Whole.{opened};
-ghost use Rattle.mt_marks.specs.differences.Difference.{difference, difference_from};
-ghost use Rattle.mt_marks.specs.differences.Marked.{marked};
+ghost use Rattle.mt_play.specs.mt_machine.Environment.{Environment, given_by};
+ghost use Rattle.mt_play.specs.mt_runs.Course.{Going, going_on};
+ghost use Rattle.mt_play.specs.mt_runs.Whole.{opened};
+ghost use Rattle.mt_play.specs.mt_marks.differences.Difference.{difference, difference_from};
+ghost use Rattle.mt_play.specs.mt_marks.differences.Marked.{marked};
 ghost use Rattle.mt_compare.specs.Found.{difference_in};
 ghost use Rattle.mt_play.specs.Plays.{IsOnJournal};
 ghost use Rattle.mt_play.specs.Remembers.{IsRemembering};
@@ -16,8 +16,8 @@ ghost use Rattle.mt_compare.specs.Sides.{left_of};
 
 use crate::between::part_between;
 use crate::side::{LineOf, Side};
-use mt_marks::Part;
 use mt_model::{Config, Event};
+use mt_play::mt_marks::Part;
 use std::alloc::{AllocError, Global};
 
 /// Where two runs first differ for a fabric.

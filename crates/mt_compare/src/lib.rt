@@ -14,5 +14,7 @@ mod side;
 mod text;
 
 pub use comparing::{Difference, compare};
+pub use mt_play;
+pub use mt_play::{mt_marks, mt_runs};
 pub use side::LineOf;
 pub use text::comparison_text;

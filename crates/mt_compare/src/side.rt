@@ -3,18 +3,18 @@
 ghost use Rattle.std.specs.Prelude.{◌≡◌, IfOk, List, None, OnOk, false};
 ghost use Rattle.mt_model.specs.declared.texts.config.SessionRow.{SessionRow};
 ghost use Rattle.mt_model.specs.texts.Contents.{contents_of};
-ghost use Rattle.mt_machine.specs.Environment.{Environment, given_by};
-ghost use Rattle.mt_runs.specs.Course.{Going, going_on};
-ghost use Rattle.mt_runs.specs.Whole.{opened};
+ghost use Rattle.mt_play.specs.mt_machine.Environment.{Environment, given_by};
+ghost use Rattle.mt_play.specs.mt_runs.Course.{Going, going_on};
+ghost use Rattle.mt_play.specs.mt_runs.Whole.{opened};
 ghost use Rattle.mt_play.specs.Courses.{IsGoing};
 ghost use Rattle.mt_play.specs.Plays.{IsMade, IsOnJournal, IsPlannedLine};
 ghost use Rattle.mt_play.specs.Remembers.{IsRemembering};
 ghost use Rattle.mt_compare.specs.Sides.{GoesOn, HasLooked, HasPassed, HasSeen, lost_by, stops_by};
 
 use crate::passing::{Passed, change_of, left_unanswered};
-use mt_marks::{Mark, Unanswered};
 use mt_model::{Config, Event};
 use mt_outside::Fate;
+use mt_play::mt_marks::{Mark, Unanswered};
 use mt_play::{ComingStop, Course, Planned, Remembering};
 use std::alloc::{AllocError, Global};
 

@@ -1,14 +1,14 @@
 //! What each worker has left, taken in again.
 
 ghost use Rattle.std.specs.Prelude.{◌≡◌, ◌≤◌, ◌+◌, All, length, vec_capacity, vec_len};
-ghost use Rattle.mt_shared.specs.Shared.{IsPassOf};
+ghost use Rattle.mt_owners.specs.mt_shared.Shared.{IsPassOf};
 ghost use Rattle.mt_crew.specs.Members.{HasWorked};
 
 use crate::member::Member;
 use mt_durable::Keeper;
 use mt_model::Verdicts;
-use mt_shared::{NodePass, SharedNode};
-use mt_worker::Done;
+use mt_owners::mt_shared::{NodePass, SharedNode};
+use mt_owners::mt_worker::Done;
 
 /// Takes in the passes of the workers, and gives back their outlets in their order. The answer is the first status of theirs that is not
 /// 0, or 0.

@@ -1,10 +1,10 @@
 //! From a node to its book.
 
 ghost use Rattle.std.specs.Prelude.{◌≡◌, ◌<◌, ◌≤◌, None, Some, length};
-ghost use Rattle.mt_shared.specs.Acts.{IsHalted};
-ghost use Rattle.mt_shared.specs.Book.{stop_in};
-ghost use Rattle.mt_shared.specs.Replay.{map_of, replay};
-ghost use Rattle.mt_shared.specs.declared.entry.Stop.{Stop as AnyStop};
+ghost use Rattle.mt_owners.specs.mt_shared.Acts.{IsHalted};
+ghost use Rattle.mt_owners.specs.mt_shared.Book.{stop_in};
+ghost use Rattle.mt_owners.specs.mt_shared.Replay.{map_of, replay};
+ghost use Rattle.mt_owners.specs.mt_shared.declared.entry.Stop.{Stop as AnyStop};
 ghost use Rattle.mt_turn.specs.Known.{first_pass};
 ghost use Rattle.mt_crew.specs.Ready.{AreReady};
 
@@ -14,9 +14,9 @@ use crate::threads::{Reception, serve_all};
 use mt_durable::Keeper;
 use mt_model::Verdicts;
 use mt_outside::{Gate, Intake, Outlet, Progress};
-use mt_receiver::{ReceiveFault, Received};
-use mt_shared::{Held, NodePass, SharedNode};
-use mt_worker::Done;
+use mt_owners::mt_receiver::{ReceiveFault, Received};
+use mt_owners::mt_shared::{Held, NodePass, SharedNode};
+use mt_owners::mt_worker::Done;
 use std::alloc::Global;
 use std::sync::Wait;
 use std::thread::Threads;

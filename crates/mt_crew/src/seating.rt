@@ -4,7 +4,7 @@
 
 ghost use Rattle.std.specs.Prelude.{◌≡◌, ◌<◌, ◌≤◌, ◌+◌, [], All, IfOk, IsTrue, length, vec_capacity, vec_len};
 ghost use Rattle.mt_model.specs.texts.Config.{are_sessions};
-ghost use Rattle.mt_shared.specs.Shared.{IsPassOf};
+ghost use Rattle.mt_owners.specs.mt_shared.Shared.{IsPassOf};
 ghost use Rattle.mt_crew.specs.Members.{MayHave, MayWork};
 ghost use Rattle.mt_crew.specs.Ready.{AreReady, IsFresh};
 ghost use Rattle.mt_crew.specs.declared.seating.TheConstants.{WORKERS};
@@ -12,9 +12,9 @@ ghost use Rattle.mt_crew.specs.declared.seating.TheConstants.{WORKERS};
 use crate::member::{Member, Post};
 use mt_durable::Keeper;
 use mt_model::{SessionRow, SessionRows, Verdicts};
+use mt_owners::mt_shared::{NodePass, SharedNode};
 use mt_owners::{ids_of, rows_of};
 use mt_queue::{JobSender, Jobs, queue};
-use mt_shared::{NodePass, SharedNode};
 use std::alloc::{AllocError, Global};
 
 /// The most workers.

@@ -8,12 +8,12 @@ use Rattle.mt_model.specs.declared.messages.message.Payload.{Payload}
 use Rattle.mt_model.specs.declared.messages.message.Reply.{Reply}
 use Rattle.mt_model.specs.declared.texts.recording.Sent.{Sent}
 use Rattle.mt_im_out.specs.Chunks.{chunks_of}
-use Rattle.mt_machine.specs.Lines.{sent_as}
-use Rattle.mt_ledger.specs.history.History.{History}
-use Rattle.mt_ledger.specs.Behind.{reports, subs_done}
-use Rattle.mt_ledger.specs.Ledger.{Ledger}
-use Rattle.mt_ledger.specs.Reporting.{Due, behind_report, due_events, due_kept, due_now, due_report, has_unreported, with_places}
-use Rattle.mt_ledger.specs.Subscribing.{Wish, at_once, behind_wish, first_events, has_no_room, is_malformed, last_told, left_by, subscribed}
+use Rattle.mt_node.specs.mt_machine.Lines.{sent_as}
+use Rattle.mt_runs.specs.mt_ledger.history.History.{History}
+use Rattle.mt_runs.specs.mt_ledger.Behind.{reports, subs_done}
+use Rattle.mt_runs.specs.mt_ledger.Ledger.{Ledger}
+use Rattle.mt_runs.specs.mt_ledger.Reporting.{Due, behind_report, due_events, due_kept, due_now, due_report, has_unreported, with_places}
+use Rattle.mt_runs.specs.mt_ledger.Subscribing.{Wish, at_once, behind_wish, first_events, has_no_room, is_malformed, last_told, left_by, subscribed}
 use Rattle.mt_subs.specs.Leaving.{without_node}
 use Rattle.mt_subs.specs.Subscriptions.{added, changed, is_full, kept_at, next_id, reported}
 use Rattle.mt_subs.specs.Owed.{due_of}

@@ -12,15 +12,15 @@ use Rattle.mt_model.specs.declared.node.action.PlainDeadline.{PlainDeadline}
 use Rattle.mt_model.specs.declared.messages.message.Reply.{Reply}
 use Rattle.mt_model.specs.declared.messages.message.Reply.TheVariants as replies
 use Rattle.mt_model.specs.declared.messages.message.Request.{Request}
-use Rattle.mt_machine.specs.Lines.{action_of, deadline_for, deadline_of, deadlines_after, deadlines_of_those_left, fault_reply, is_deadline_of, sent_as, with_deadline, without}
-use Rattle.mt_machine.specs.State.{State, is_among}
-use Rattle.mt_machine.specs.Step.{after_action, after_steps, asked_reply, asked_steps, asker, at_time, closed_between, gone_between, reply_of}
-use Rattle.mt_machine.specs.Rollback.{added_in, deadlines_left, is_due}
-use Rattle.mt_machine.specs.Laws.{TakesTheAddedAway}
+use Rattle.mt_node.specs.mt_machine.Lines.{action_of, deadline_for, deadline_of, deadlines_after, deadlines_of_those_left, fault_reply, is_deadline_of, sent_as, with_deadline, without}
+use Rattle.mt_node.specs.mt_machine.State.{State, is_among}
+use Rattle.mt_node.specs.mt_machine.Step.{after_action, after_steps, asked_reply, asked_steps, asker, at_time, closed_between, gone_between, reply_of}
+use Rattle.mt_node.specs.mt_machine.Rollback.{added_in, deadlines_left, is_due}
+use Rattle.mt_node.specs.mt_machine.Laws.{TakesTheAddedAway}
 use Rattle.mt_model.specs.declared.tables.network.Armed.{Armed}
-use Rattle.mt_machine.specs.State.{IsValid}
-use Rattle.mt_machine.specs.Environment.{Environment}
-use Rattle.mt_machine.specs.Leaving.{has_left}
+use Rattle.mt_node.specs.mt_machine.State.{IsValid}
+use Rattle.mt_node.specs.mt_machine.Environment.{Environment}
+use Rattle.mt_node.specs.mt_machine.Leaving.{has_left}
 use Rattle.mt_node.specs.Plan.{IsPlan, applied}
 use Rattle.mt_model.specs.declared.node.state.NodeState.{NodeState}
 use Rattle.mt_model.specs.declared.tables.fabric.Fabric.{Fabric}
@@ -32,18 +32,18 @@ use Rattle.mt_interactions.specs.Subscribing.{applied_subs}
 use Rattle.mt_interactions.specs.declared.behind.SubsBehind.{SubsBehind}
 use Rattle.mt_model.specs.declared.texts.recording.Sent.{Sent}
 use Rattle.mt_subs.specs.Leaving.{left_in}
-use Rattle.mt_ledger.specs.Asking.{full_reply, line_response, line_wish, with_wish}
-use Rattle.mt_ledger.specs.Behind.{Activity, acts, action_in, ledger_behind, state_done, subs_done}
-use Rattle.mt_ledger.specs.Ledger.{Ledger}
-use Rattle.mt_ledger.specs.Subscribing.{behind_wish_if_any, wish_asked, wish_in, wish_in_time}
-use Rattle.mt_ledger.specs.history.Asking.{events_for, with_events}
-use Rattle.mt_ledger.specs.history.Behind.{history_behind}
-use Rattle.mt_ledger.specs.history.History.{History, recorded_all, without_left}
+use Rattle.mt_runs.specs.mt_ledger.Asking.{full_reply, line_response, line_wish, with_wish}
+use Rattle.mt_runs.specs.mt_ledger.Behind.{Activity, acts, action_in, ledger_behind, state_done, subs_done}
+use Rattle.mt_runs.specs.mt_ledger.Ledger.{Ledger}
+use Rattle.mt_runs.specs.mt_ledger.Subscribing.{behind_wish_if_any, wish_asked, wish_in, wish_in_time}
+use Rattle.mt_runs.specs.mt_ledger.history.Asking.{events_for, with_events}
+use Rattle.mt_runs.specs.mt_ledger.history.Behind.{history_behind}
+use Rattle.mt_runs.specs.mt_ledger.history.History.{History, recorded_all, without_left}
 use Rattle.mt_runs.specs.Lines.{sent_asked, sent_line}
-use Rattle.mt_machine.specs.Telling.{told_between}
+use Rattle.mt_node.specs.mt_machine.Telling.{told_between}
 use Rattle.mt_model.specs.declared.node.action.Action.{Action}
 use Rattle.mt_model.specs.declared.node.action.NodeStep.{NodeStep}
-use Rattle.mt_machine.specs.Step.{Aside}
+use Rattle.mt_node.specs.mt_machine.Step.{Aside}
 use Rattle.mt_interactions.specs.declared.outcome.InteractionOutcome.{InteractionOutcome}
 
 or_false : (a b : Bool) → (a || b) ≡ false → (a ≡ false) × (b ≡ false)

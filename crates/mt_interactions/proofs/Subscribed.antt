@@ -4,7 +4,7 @@ use Rattle.std.proofs.lemmas.Bool.{cases_Bool}
 use Rattle.mt_model.specs.declared.messages.message.Item.{Item}
 use Rattle.mt_model.specs.declared.messages.message.Item.TheVariants as items
 use Rattle.mt_model.specs.declared.tables.access.Actor.{Actor}
-use Rattle.mt_ledger.specs.Subscribing.{at_once, last_told}
+use Rattle.mt_runs.specs.mt_ledger.Subscribing.{at_once, last_told}
 use Rattle.mt_subs.specs.Subscriptions.{changed, changed_at, confirmed, is_named}
 use Rattle.mt_subs.specs.declared.subscription.Kept.{Kept}
 use Rattle.mt_subs.specs.declared.subscription.SubState.{SubState}

@@ -2,7 +2,7 @@
 use Rattle.std.proofs.Common.{◌≡◌, ap, refl, None, Option, Some}
 use Rattle.std.specs.Option.{option_map}
 use Rattle.mt_model.specs.declared.tables.access.Actor.{Actor}
-use Rattle.mt_machine.specs.Step.{session_actor}
+use Rattle.mt_node.specs.mt_machine.Step.{session_actor}
 use Rattle.mt_runs.specs.Datagrams.{actor_on}
 use Rattle.mt_interactions.specs.Deeds.{NobodyIsReplied, confirmed_for}
 use Rattle.mt_interactions.specs.declared.deeds.Deed.TheVariants.{Ask, Confirm, Ends, Report, Expire, Nothing}

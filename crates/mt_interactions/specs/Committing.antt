@@ -2,10 +2,10 @@
 use Rattle.std.specs.Prelude.{◌≡◌, ◌≢◌, ◌↔◌, ◌^◌, ◌≤◌, []}
 use Rattle.mt_durable.specs.Reading.{Says}
 use Rattle.mt_durable.specs.Setting.{with_all}
-use Rattle.mt_lasting.specs.Changes.{change_between}
-use Rattle.mt_lasting.specs.Contents.{durable}
-use Rattle.mt_ledger.specs.Ledger.{Ledger}
-use Rattle.mt_machine.specs.State.{State}
+use Rattle.mt_node.specs.mt_lasting.Changes.{change_between}
+use Rattle.mt_node.specs.mt_lasting.Contents.{durable}
+use Rattle.mt_runs.specs.mt_ledger.Ledger.{Ledger}
+use Rattle.mt_node.specs.mt_machine.State.{State}
 use Rattle.mt_node.specs.Plan.{applied}
 use Rattle.mt_interactions.specs.Plan.{IsPlanned, applied_history}
 use Rattle.mt_interactions.specs.declared.outcome.InteractionOutcome.{InteractionOutcome}

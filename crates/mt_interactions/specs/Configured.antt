@@ -8,11 +8,11 @@ use Rattle.mt_model.specs.declared.texts.config.Config.{Config}
 use Rattle.mt_model.specs.declared.texts.config.CsrRow.{CsrRow}
 use Rattle.mt_model.specs.declared.texts.config.JoinRow.{JoinRow}
 use Rattle.mt_model.specs.declared.texts.config.RootRow.{RootRow}
-use Rattle.mt_machine.specs.Environment.{Environment}
-use Rattle.mt_machine.specs.State.{State}
-use Rattle.mt_ledger.specs.Ledger.{Ledger, opened_at}
-use Rattle.mt_lasting.specs.Contents as lasting
-use Rattle.mt_regained.specs.Begun.{ceiling_in, first_change}
+use Rattle.mt_node.specs.mt_machine.Environment.{Environment}
+use Rattle.mt_node.specs.mt_machine.State.{State}
+use Rattle.mt_runs.specs.mt_ledger.Ledger.{Ledger, opened_at}
+use Rattle.mt_node.specs.mt_lasting.Contents as lasting
+use Rattle.mt_node.specs.mt_regained.Begun.{ceiling_in, first_change}
 use Rattle.mt_node.specs.Configured as nodes
 
 -- its state, what it remembers of events and subscriptions, and the configuration and the durable map with which it was started

@@ -11,13 +11,13 @@ use Rattle.mt_model.specs.declared.node.action.Action.TheVariants as actions
 use Rattle.mt_model.specs.declared.node.state.NodeState.{NodeState}
 use Rattle.mt_subs.specs.Subscriptions.{kept_at}
 use Rattle.mt_subs.specs.declared.subscription.Kept.{Kept}
-use Rattle.mt_machine.specs.Environment.{Environment}
-use Rattle.mt_machine.specs.Step.{closed_between}
-use Rattle.mt_ledger.specs.Behind.{Activity, acts, confirms, ends, reports, state_done}
-use Rattle.mt_ledger.specs.history.History.{History}
-use Rattle.mt_ledger.specs.Ledger.{Ledger}
-use Rattle.mt_ledger.specs.Reporting.{Due, due_now, due_report}
-use Rattle.mt_ledger.specs.Subscribing.{confirm_reply}
+use Rattle.mt_node.specs.mt_machine.Environment.{Environment}
+use Rattle.mt_node.specs.mt_machine.Step.{closed_between}
+use Rattle.mt_runs.specs.mt_ledger.Behind.{Activity, acts, confirms, ends, reports, state_done}
+use Rattle.mt_runs.specs.mt_ledger.history.History.{History}
+use Rattle.mt_runs.specs.mt_ledger.Ledger.{Ledger}
+use Rattle.mt_runs.specs.mt_ledger.Reporting.{Due, due_now, due_report}
+use Rattle.mt_runs.specs.mt_ledger.Subscribing.{confirm_reply}
 use Rattle.mt_runs.specs.Datagrams.{actor_on, reply_over}
 use Rattle.mt_runs.specs.Whole.{fabric_live}
 use Rattle.mt_interactions.specs.declared.deeds.Deed.{Deed}

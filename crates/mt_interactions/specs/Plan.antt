@@ -6,21 +6,21 @@ use Rattle.mt_model.specs.tables.Leaving.{stays}
 use Rattle.mt_model.specs.declared.tables.access.Actor.{Actor}
 use Rattle.mt_model.specs.declared.node.action.PlainDeadline.{PlainDeadline}
 use Rattle.mt_model.specs.declared.messages.message.Request.{Request}
-use Rattle.mt_lasting.specs.Changes.{bytes_to_commit, change_between, raised}
+use Rattle.mt_node.specs.mt_lasting.Changes.{bytes_to_commit, change_between, raised}
 use Rattle.mt_node.specs.Plan as nodes
 use Rattle.mt_node.specs.Plan.{applied}
 use Rattle.mt_node.specs.declared.outcome.Outcome.{Outcome}
 use Rattle.mt_model.specs.declared.node.action.Action.TheVariants.{Expire, Nothing}
 use Rattle.mt_subs.specs.Leaving.{left_in}
-use Rattle.mt_machine.specs.Environment.{Environment}
-use Rattle.mt_machine.specs.Isolation.{is_deadline_in}
-use Rattle.mt_machine.specs.Lines.{behind_action, next_for, next_tick, without}
-use Rattle.mt_machine.specs.State.{State}
-use Rattle.mt_machine.specs.Step.{after_action}
-use Rattle.mt_ledger.specs.history.Behind.{history_behind}
-use Rattle.mt_ledger.specs.history.History.{History, recorded_all, without_left}
-use Rattle.mt_ledger.specs.Behind.{Activity, acts, action_in, ledger_behind}
-use Rattle.mt_ledger.specs.Ledger.{Ledger}
+use Rattle.mt_node.specs.mt_machine.Environment.{Environment}
+use Rattle.mt_node.specs.mt_machine.Isolation.{is_deadline_in}
+use Rattle.mt_node.specs.mt_machine.Lines.{behind_action, next_for, next_tick, without}
+use Rattle.mt_node.specs.mt_machine.State.{State}
+use Rattle.mt_node.specs.mt_machine.Step.{after_action}
+use Rattle.mt_runs.specs.mt_ledger.history.Behind.{history_behind}
+use Rattle.mt_runs.specs.mt_ledger.history.History.{History, recorded_all, without_left}
+use Rattle.mt_runs.specs.mt_ledger.Behind.{Activity, acts, action_in, ledger_behind}
+use Rattle.mt_runs.specs.mt_ledger.Ledger.{Ledger}
 use Rattle.mt_runs.specs.Lines.{action_asked}
 use Rattle.mt_interactions.specs.Recording.{may_record}
 use Rattle.mt_interactions.specs.Subscribing.{applied_subs}

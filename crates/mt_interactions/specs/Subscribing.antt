@@ -3,7 +3,7 @@ use Rattle.std.specs.Prelude.{ℕ, Option, Some, None, Bool, if◌then◌else◌
 use Rattle.mt_subs.specs.Leaving.{without_ids}
 use Rattle.mt_subs.specs.Subscriptions.{changed, confirmed, reported}
 use Rattle.mt_subs.specs.declared.subscription.SubState.{SubState}
-use Rattle.mt_ledger.specs.Subscribing.{Wish}
+use Rattle.mt_runs.specs.mt_ledger.Subscribing.{Wish}
 use Rattle.mt_interactions.specs.declared.behind.SubsBehind.{SubsBehind}
 use Rattle.mt_interactions.specs.declared.behind.SubsBehind.TheVariants.{Same, Other, Confirmed, Ended, Told}
 use Rattle.mt_interactions.specs.declared.wishes.Wish as code

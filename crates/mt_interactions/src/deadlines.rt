@@ -5,9 +5,9 @@ ghost use Rattle.std.specs.List.{find, list_any};
 ghost use Rattle.std.specs.Option.{option_map};
 ghost use Rattle.mt_model.specs.tables.Leaving.{stays};
 ghost use Rattle.mt_model.specs.declared.node.action.PlainDeadline.{PlainDeadline};
-ghost use Rattle.mt_machine.specs.Isolation.{is_deadline_in};
-ghost use Rattle.mt_machine.specs.Lines.{deadline_at, deadline_of, has_room, is_deadline_of, is_refused, is_timed, later_by, with_deadline, without};
-ghost use Rattle.mt_machine.specs.Step.{is_late};
+ghost use Rattle.mt_node.specs.mt_machine.Isolation.{is_deadline_in};
+ghost use Rattle.mt_node.specs.mt_machine.Lines.{deadline_at, deadline_of, has_room, is_deadline_of, is_refused, is_timed, later_by, with_deadline, without};
+ghost use Rattle.mt_node.specs.mt_machine.Step.{is_late};
 ghost use Rattle.mt_interactions.specs.Plan.{left_without, others_in};
 
 use mt_im::ImFault;

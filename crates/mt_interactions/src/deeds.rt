@@ -2,7 +2,7 @@
 
 ghost use Rattle.std.specs.Prelude.{◌≡◌, IfOk, unwrap_or};
 ghost use Rattle.mt_im.specs.Limits.{IsWithinLimits};
-ghost use Rattle.mt_ledger.specs.Behind.{acts, reports};
+ghost use Rattle.mt_runs.specs.mt_ledger.Behind.{acts, reports};
 ghost use Rattle.mt_model.specs.declared.messages.message.Reply.TheVariants as replies;
 ghost use Rattle.mt_model.specs.declared.node.action.Action.TheVariants as actions;
 ghost use Rattle.mt_runs.specs.Whole.{fabric_live};

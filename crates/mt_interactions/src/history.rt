@@ -5,19 +5,19 @@ ghost use Rattle.std.specs.List.{list_all, list_any};
 ghost use Rattle.mt_events.specs.Reading.{asking, is_told};
 ghost use Rattle.mt_events.specs.Rings.{AreRings};
 ghost use Rattle.mt_events.specs.Telling.{answered, events_for, told};
-ghost use Rattle.mt_ledger.specs.history.History.{begun_at, happened, recorded, recorded_all, start_up, without_left};
+ghost use Rattle.mt_runs.specs.mt_ledger.history.History.{begun_at, happened, recorded, recorded_all, start_up, without_left};
 ghost use Rattle.mt_tlv.specs.declared.value.Tag.TheVariants.{Context};
 ghost use Rattle.mt_tlv.specs.declared.value.Value.TheVariants as kinds;
 ghost use Rattle.mt_tlv.specs.Tree.{uint, none, more};
 ghost use Rattle.mt_interactions.specs.Recording.{StartsMayRecord, is_of_a_fabric, may_record, numbers_after, numbers_behind};
 
 use mt_events::{Numbers, Rings};
-use mt_ledger::{histories_grow_by_events, histories_stay_histories};
 use mt_meta::clusters::BASIC_INFORMATION;
 use mt_meta::clusters::basic_information::START_UP;
 use mt_model::limits::FABRICS;
 use mt_model::{Actor, Happened, Items, NodeStep, Paths, Place, Steps};
 use mt_node::Node;
+use mt_runs::mt_ledger::{histories_grow_by_events, histories_stay_histories};
 use mt_tlv::{Members, Tag, Value};
 use std::alloc::{AllocError, Global};
 use std::marker::Model;
@@ -52,7 +52,7 @@ impl Drop for History {
 }
 
 impl Model for History {
-    ghost use Rattle.mt_ledger.specs.history.History as histories;
+    ghost use Rattle.mt_runs.specs.mt_ledger.history.History as histories;
     ghost use Rattle.mt_tlv.specs.contracts.value.Value as values;
     ghost use Rattle.std.specs.Coded.{codes};
 

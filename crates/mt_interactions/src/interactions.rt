@@ -1,11 +1,11 @@
 //! The node with its plain actors.
 
 ghost use Rattle.std.specs.Prelude.{◌≡◌, IfOk, option_copied};
-ghost use Rattle.mt_machine.specs.Lines.{line_actor};
+ghost use Rattle.mt_node.specs.mt_machine.Lines.{line_actor};
 ghost use Rattle.mt_im.specs.Limits.{IsWithinLimits};
 ghost use Rattle.mt_im.specs.Reading.{request_in};
 ghost use Rattle.mt_runs.specs.Lines.{sent_asked};
-ghost use Rattle.mt_regained.specs.Begun.{MayStart};
+ghost use Rattle.mt_node.specs.mt_regained.Begun.{MayStart};
 ghost use Rattle.mt_interactions.specs.Configured.{IsFirst, IsStarted, behind, given_to};
 ghost use Rattle.mt_interactions.specs.Plan.{IsLine, IsPlanned, IsTick, applied_ledger, applied_state, is_want_of_memory};
 

@@ -45,5 +45,7 @@ pub use history::starts_may_record;
 pub use interactions::{Interactions, asked};
 pub use laws::{commits_lead_on, ends_are_by_time, nobody_is_replied};
 pub use lines::fault_reply;
+pub use mt_node::{mt_lasting, mt_machine, mt_regained};
+pub use mt_runs;
 pub use outcome::InteractionOutcome;
 pub use sessions::{dated, deadline_set};

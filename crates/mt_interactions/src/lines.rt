@@ -1,10 +1,10 @@
 //! A line of a plain actor, from what its payload was decoded to.
 
 ghost use Rattle.std.specs.Prelude.{◌≡◌, Err, Ok, Some, IfOk, unwrap_or};
-ghost use Rattle.mt_machine.specs.Lines.{deadline_of, fault_reply, line_actor, sent_as, with_deadline};
-ghost use Rattle.mt_machine.specs.Step.{asker};
-ghost use Rattle.mt_ledger.specs.Asking.{line_response, line_wish, with_wish};
-ghost use Rattle.mt_ledger.specs.Subscribing.{behind_wish_if_any};
+ghost use Rattle.mt_node.specs.mt_machine.Lines.{deadline_of, fault_reply, line_actor, sent_as, with_deadline};
+ghost use Rattle.mt_node.specs.mt_machine.Step.{asker};
+ghost use Rattle.mt_runs.specs.mt_ledger.Asking.{line_response, line_wish, with_wish};
+ghost use Rattle.mt_runs.specs.mt_ledger.Subscribing.{behind_wish_if_any};
 ghost use Rattle.mt_runs.specs.Lines.{sent_asked};
 ghost use Rattle.mt_im.specs.Limits.{IsWithinLimits};
 ghost use Rattle.mt_interactions.specs.Configured.{given_to};

@@ -1,9 +1,9 @@
 //! A report step: what a subscription is told, where that is due.
 
 ghost use Rattle.std.specs.Prelude.{◌≡◌, ◌+◌, Some, IfOk, map};
-ghost use Rattle.mt_ledger.specs.Behind.{reports};
-ghost use Rattle.mt_ledger.specs.Reporting.{due_events, due_now, due_report, has_unreported, subscriber};
-ghost use Rattle.mt_ledger.specs.Subscribing.{last_told};
+ghost use Rattle.mt_runs.specs.mt_ledger.Behind.{reports};
+ghost use Rattle.mt_runs.specs.mt_ledger.Reporting.{due_events, due_now, due_report, has_unreported, subscriber};
+ghost use Rattle.mt_runs.specs.mt_ledger.Subscribing.{last_told};
 ghost use Rattle.mt_model.specs.messages.Blocks.{path_of};
 ghost use Rattle.mt_interactions.specs.Configured.{given_to};
 ghost use Rattle.mt_interactions.specs.Plan.{IsDone};

@@ -2,7 +2,7 @@
 
 ghost use Rattle.std.specs.Prelude.{◌≡◌};
 ghost use Rattle.mt_events.specs.Rings.{AreRings};
-ghost use Rattle.mt_machine.specs.State.{IsValid};
+ghost use Rattle.mt_node.specs.mt_machine.State.{IsValid};
 
 use crate::interactions::Interactions;
 use mt_events::{Numbers, Rings};

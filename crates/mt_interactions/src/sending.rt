@@ -1,7 +1,7 @@
 //! The messages of a reply to a plain actor.
 
 ghost use Rattle.std.specs.Prelude.{◌≡◌, IfOk};
-ghost use Rattle.mt_machine.specs.Lines.{sent_as, sent_plain};
+ghost use Rattle.mt_node.specs.mt_machine.Lines.{sent_as, sent_plain};
 ghost use Rattle.mt_interactions.specs.Replying.{sent_both};
 
 use mt_im_out::chunks;

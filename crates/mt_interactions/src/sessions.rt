@@ -1,16 +1,16 @@
 //! What is asked over a session.
 
 ghost use Rattle.std.specs.Prelude.{◌≡◌, Ok, IfOk, map, option_copied, unwrap_or};
-ghost use Rattle.mt_machine.specs.Lines.{action_of};
-ghost use Rattle.mt_machine.specs.Step.{session_actor};
+ghost use Rattle.mt_node.specs.mt_machine.Lines.{action_of};
+ghost use Rattle.mt_node.specs.mt_machine.Step.{session_actor};
 ghost use Rattle.mt_model.specs.declared.messages.message.Payload.{Payload};
 ghost use Rattle.mt_runs.specs.Datagrams.{actor_on, dated, deadline_set, payloads_confirmed, payloads_over, reply_over};
 ghost use Rattle.mt_subs.specs.Subscriptions.{kept_at};
 ghost use Rattle.mt_runs.specs.Whole.{fabric_over};
-ghost use Rattle.mt_ledger.specs.history.Asking.{events_asked, with_events};
-ghost use Rattle.mt_ledger.specs.Asking.{with_wish};
-ghost use Rattle.mt_ledger.specs.Behind.{acts, confirms, ends};
-ghost use Rattle.mt_ledger.specs.Subscribing.{behind_wish_if_any, confirm_reply, wish_in_time};
+ghost use Rattle.mt_runs.specs.mt_ledger.history.Asking.{events_asked, with_events};
+ghost use Rattle.mt_runs.specs.mt_ledger.Asking.{with_wish};
+ghost use Rattle.mt_runs.specs.mt_ledger.Behind.{acts, confirms, ends};
+ghost use Rattle.mt_runs.specs.mt_ledger.Subscribing.{behind_wish_if_any, confirm_reply, wish_in_time};
 ghost use Rattle.mt_im.specs.Limits.{IsWithinLimits};
 ghost use Rattle.mt_interactions.specs.Configured.{given_to};
 ghost use Rattle.mt_interactions.specs.Plan.{IsDone, IsPassing};

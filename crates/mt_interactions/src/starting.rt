@@ -3,7 +3,7 @@
 ghost use Rattle.std.specs.Prelude.{◌≡◌, ◌∷◌, [], Some, IfOk};
 ghost use Rattle.mt_durable.specs.Changes.{change_bytes};
 ghost use Rattle.mt_tlv.specs.declared.value.Value.TheVariants.{Uint};
-ghost use Rattle.mt_regained.specs.Begun.{first_change};
+ghost use Rattle.mt_node.specs.mt_regained.Begun.{first_change};
 
 use mt_durable::{Change, Entry, write_change};
 use mt_tlv::{Bytes, Value};

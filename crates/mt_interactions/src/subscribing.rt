@@ -1,8 +1,8 @@
 //! What a subscription is answered.
 
 ghost use Rattle.std.specs.Prelude.{◌≡◌, ◌≤◌, false, nat_lt, IfOk, length};
-ghost use Rattle.mt_ledger.specs.Subscribing.{behind_wish, first_events, is_malformed, left_by, response_for, wish_reply};
-ghost use Rattle.mt_machine.specs.Step.{refusal};
+ghost use Rattle.mt_runs.specs.mt_ledger.Subscribing.{behind_wish, first_events, is_malformed, left_by, response_for, wish_reply};
+ghost use Rattle.mt_node.specs.mt_machine.Step.{refusal};
 ghost use Rattle.mt_model.specs.messages.Status.{code_of};
 ghost use Rattle.mt_interactions.specs.Subscribing.{applied_subs, wish_by};
 ghost use Rattle.mt_subs.specs.Subscriptions.{id_end, next_id};

@@ -1,7 +1,7 @@
 //! What a subscriber is told.
 
 ghost use Rattle.std.specs.Prelude.{◌≡◌, ◌++◌, ◌∷◌, [], IfOk};
-ghost use Rattle.mt_ledger.specs.Subscribing.{attributes_for, last_told};
+ghost use Rattle.mt_runs.specs.mt_ledger.Subscribing.{attributes_for, last_told};
 
 use crate::interactions::Interactions;
 use mt_model::{Actor, Item, Items, Paths, Versions};

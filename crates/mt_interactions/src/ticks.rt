@@ -3,15 +3,15 @@
 ghost use Rattle.std.specs.Prelude.{◌≡◌, IfOk};
 ghost use Rattle.mt_interactions.specs.Configured.{given_to};
 ghost use Rattle.mt_interactions.specs.Plan.{IsDone, IsTick};
-ghost use Rattle.mt_ledger.specs.Behind.{acts};
+ghost use Rattle.mt_runs.specs.mt_ledger.Behind.{acts};
 ghost use Rattle.mt_model.specs.declared.node.action.Action.TheVariants.{Expire};
 
 use crate::behind::SubsBehind;
 use crate::deadlines::left_without;
 use crate::interactions::Interactions;
 use crate::outcome::InteractionOutcome;
-use mt_machine::ticks_let_the_failsafe_expire;
 use mt_model::{Action, Verdicts};
+use mt_node::mt_machine::ticks_let_the_failsafe_expire;
 use std::alloc::AllocError;
 
 /// Plans a time step, which lets the fail-safe expire where it is time. It sends nothing; the deadlines of a fabric that

@@ -4,7 +4,7 @@ ghost use Rattle.std.specs.Prelude.{◌≡◌, ◌&&◌, ◌||◌, IfOk};
 ghost use Rattle.std.specs.List.{list_any};
 ghost use Rattle.mt_meta.specs.Places.{is_not_global};
 ghost use Rattle.mt_model.specs.messages.Blocks.{names_item};
-ghost use Rattle.mt_ledger.specs.Subscribing.{is_malformed, is_unreadable, names_nothing, wish_in_time, wish_of};
+ghost use Rattle.mt_runs.specs.mt_ledger.Subscribing.{is_malformed, is_unreadable, names_nothing, wish_in_time, wish_of};
 ghost use Rattle.mt_interactions.specs.Subscribing.{wish_as};
 
 use crate::deadlines::is_late;

@@ -16,7 +16,7 @@ use Rattle.mt_exchange.specs.Runs.{Happening, Run, after, answer_of, answered, r
 use Rattle.mt_exchange.specs.Shown.{Shown, again, arrivals_in, closed, heard, messages_in, sent, shown_by, told}
 use Rattle.mt_talk.specs.Hearing.{acknowledging, after_datagram, after_received, received_in, said, said_as, said_in}
 use Rattle.mt_talk.specs.Talks.{Talk, answer_in, behind, behind_unless_refused, behind_unless_too_long, report_in, run_in, sent_by}
-use Rattle.mt_runs.specs.Datagrams.{Answer}
+use Rattle.mt_shared.specs.mt_runs.Datagrams.{Answer}
 use Rattle.mt_layer.specs.Agreeing.{Agrees, AreAlike}
 use Rattle.mt_layer.specs.Laws.{AnswerAlike, DropAlike, HearAlike, ReportAlike, ResendAlike}
 

@@ -8,18 +8,18 @@ use Rattle.mt_model.specs.declared.texts.recording.Sent.{Sent}
 use Rattle.mt_outside.specs.declared.network.Peer.{Peer}
 use Rattle.mt_talk.specs.Hearing.{after_datagram, received_in, said}
 use Rattle.mt_talk.specs.Talks.{Talk, after_drop}
-use Rattle.mt_machine.specs.Environment.{Environment}
-use Rattle.mt_machine.specs.Lines.{behind_action}
-use Rattle.mt_machine.specs.Step.{after_action, closed_between}
-use Rattle.mt_ledger.specs.Behind.{Activity, action_in, ledger_behind}
-use Rattle.mt_ledger.specs.Ledger.{Ledger}
-use Rattle.mt_runs.specs.Datagrams.{Answer, all_sent, answer_to, behind_answer, datagram_of, if_any, session_named, talked}
-use Rattle.mt_runs.specs.Isolation.{IsValidWhole}
-use Rattle.mt_runs.specs.Lines.{activity_named, sent_named, with_next}
-use Rattle.mt_runs.specs.Whole.{SessionTalk, Whole, fabric_live, fabric_over, is_live, let_go, talk_of, with_talk}
-use Rattle.mt_interactions.specs.Configured.{ConfiguredInteractions}
-use Rattle.mt_interactions.specs.Deeds.{activity_at}
-use Rattle.mt_interactions.specs.declared.deeds.Deed.{Deed}
+use Rattle.mt_shared.specs.mt_machine.Environment.{Environment}
+use Rattle.mt_shared.specs.mt_machine.Lines.{behind_action}
+use Rattle.mt_shared.specs.mt_machine.Step.{after_action, closed_between}
+use Rattle.mt_shared.specs.mt_ledger.Behind.{Activity, action_in, ledger_behind}
+use Rattle.mt_shared.specs.mt_ledger.Ledger.{Ledger}
+use Rattle.mt_shared.specs.mt_runs.Datagrams.{Answer, all_sent, answer_to, behind_answer, datagram_of, if_any, session_named, talked}
+use Rattle.mt_shared.specs.mt_runs.Isolation.{IsValidWhole}
+use Rattle.mt_shared.specs.mt_runs.Lines.{activity_named, sent_named, with_next}
+use Rattle.mt_shared.specs.mt_runs.Whole.{SessionTalk, Whole, fabric_live, fabric_over, is_live, let_go, talk_of, with_talk}
+use Rattle.mt_shared.specs.mt_interactions.Configured.{ConfiguredInteractions}
+use Rattle.mt_shared.specs.mt_interactions.Deeds.{activity_at}
+use Rattle.mt_shared.specs.mt_interactions.declared.deeds.Deed.{Deed}
 use Rattle.mt_shared.specs.Replay as shared
 use Rattle.mt_shared.specs.Replay.{given_in}
 use Rattle.mt_shared.specs.declared.entry.Answer as answers

@@ -20,15 +20,15 @@ use Rattle.mt_session.specs.declared.opening.Dropped.{Dropped}
 use Rattle.mt_session.specs.Opening.{Arrival}
 use Rattle.mt_talk.specs.Hearing.{Said, answers, asks, confirms, ends, nothing, received_in, said, said_in}
 use Rattle.mt_talk.specs.Talks.{Talk, ended_in}
-use Rattle.mt_machine.specs.Environment.{Environment}
-use Rattle.mt_machine.specs.Lines.{action_of}
-use Rattle.mt_machine.specs.Step.{live_actor, session_actor}
-use Rattle.mt_ledger.specs.Behind as doings
-use Rattle.mt_ledger.specs.Behind.{Activity}
-use Rattle.mt_ledger.specs.Ledger.{Ledger}
-use Rattle.mt_runs.specs.Datagrams.{activity_said, actor_on, answer_to, payloads_over}
-use Rattle.mt_runs.specs.Whole.{fabric_live, fabric_over, is_live}
-use Rattle.mt_interactions.specs.Deeds.{EndsAreByTime, activity_at, confirmed_for, done_for, ended_at, fabric_at, replied}
+use Rattle.mt_shared.specs.mt_machine.Environment.{Environment}
+use Rattle.mt_shared.specs.mt_machine.Lines.{action_of}
+use Rattle.mt_shared.specs.mt_machine.Step.{live_actor, session_actor}
+use Rattle.mt_shared.specs.mt_ledger.Behind as doings
+use Rattle.mt_shared.specs.mt_ledger.Behind.{Activity}
+use Rattle.mt_shared.specs.mt_ledger.Ledger.{Ledger}
+use Rattle.mt_shared.specs.mt_runs.Datagrams.{activity_said, actor_on, answer_to, payloads_over}
+use Rattle.mt_shared.specs.mt_runs.Whole.{fabric_live, fabric_over, is_live}
+use Rattle.mt_shared.specs.mt_interactions.Deeds.{EndsAreByTime, activity_at, confirmed_for, done_for, ended_at, fabric_at, replied}
 use Rattle.mt_layer.specs.Agreeing.{Agrees, AreAlike, has_ended, is_ended, is_over}
 use Rattle.mt_layer.specs.Answering.{answered_with, payloads_asked}
 use Rattle.mt_layer.specs.Deeds.{deed_again, deed_asked, deed_heard, deed_said}

@@ -19,11 +19,11 @@ use Rattle.mt_model.specs.declared.tables.access.Auth.TheVariants.{Pase, Case, G
 use Rattle.mt_model.specs.declared.tables.fabric.Fabric.{Fabric}
 use Rattle.mt_model.specs.declared.tables.network.Armed.{Armed}
 use Rattle.mt_subs.specs.Leaving.{is_live_as}
-use Rattle.mt_machine.specs.Effects.{after, after_all, completed, is_on, joined_as, may_join, may_leave, may_update, session_completed, session_joined, session_without, standing_completed, standing_joined}
-use Rattle.mt_machine.specs.Environment.{Environment}
-use Rattle.mt_machine.specs.Rollback.{ends, rolled_back, session_behind}
-use Rattle.mt_machine.specs.Step.{after_action, asker_of, at_time, closed_between, is_live, steps_of}
-use Rattle.mt_runs.specs.Isolation.{have_one_id}
+use Rattle.mt_shared.specs.mt_machine.Effects.{after, after_all, completed, is_on, joined_as, may_join, may_leave, may_update, session_completed, session_joined, session_without, standing_completed, standing_joined}
+use Rattle.mt_shared.specs.mt_machine.Environment.{Environment}
+use Rattle.mt_shared.specs.mt_machine.Rollback.{ends, rolled_back, session_behind}
+use Rattle.mt_shared.specs.mt_machine.Step.{after_action, asker_of, at_time, closed_between, is_live, steps_of}
+use Rattle.mt_shared.specs.mt_runs.Isolation.{have_one_id}
 use Rattle.mt_layer.specs.Agreeing.{is_ended, is_over}
 use Rattle.mt_layer.specs.Laws.{ClosedHaveEnded, EndedStayEnded}
 

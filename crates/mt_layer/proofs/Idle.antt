@@ -9,7 +9,7 @@ use Rattle.mt_exchange.specs.Sending.{free_id, sealed_with, sealing}
 use Rattle.mt_exchange.specs.Shown.{arrivals_in, messages_in, outgoing_if, shown_by, shown_report}
 use Rattle.mt_talk.specs.Talks.{Talk, behind, behind_unless_refused, report_in, run_in, sent_by}
 use Rattle.mt_talk.specs.Talks as talks
-use Rattle.mt_runs.specs.Datagrams.{all_sent, if_any}
+use Rattle.mt_shared.specs.mt_runs.Datagrams.{all_sent, if_any}
 use Rattle.mt_layer.specs.Agreeing.{AreAlike}
 use Rattle.mt_layer.proofs.Alike.{its_run, run_with}
 

@@ -6,13 +6,13 @@ use Rattle.mt_model.specs.declared.node.state.NodeState.{NodeState}
 use Rattle.mt_model.specs.declared.texts.config.SessionRow.{SessionRow}
 use Rattle.mt_model.specs.declared.texts.recording.Event.TheVariants as events
 use Rattle.mt_talk.specs.Talks.{Talk}
-use Rattle.mt_machine.specs.Environment.{Environment}
-use Rattle.mt_machine.specs.Laws.{TakesTheAddedAway, TicksTakeOne}
-use Rattle.mt_ledger.specs.Ledger.{Ledger}
-use Rattle.mt_runs.specs.Isolation.{IsValidWhole}
-use Rattle.mt_runs.specs.Whole.{SessionTalk, Whole, begun, is_live, is_talk_of, let_go}
-use Rattle.mt_interactions.specs.Configured.{ConfiguredInteractions}
-use Rattle.mt_interactions.specs.declared.deeds.Deed.TheVariants as deeds
+use Rattle.mt_shared.specs.mt_machine.Environment.{Environment}
+use Rattle.mt_shared.specs.mt_machine.Laws.{TakesTheAddedAway, TicksTakeOne}
+use Rattle.mt_shared.specs.mt_ledger.Ledger.{Ledger}
+use Rattle.mt_shared.specs.mt_runs.Isolation.{IsValidWhole}
+use Rattle.mt_shared.specs.mt_runs.Whole.{SessionTalk, Whole, begun, is_live, is_talk_of, let_go}
+use Rattle.mt_shared.specs.mt_interactions.Configured.{ConfiguredInteractions}
+use Rattle.mt_shared.specs.mt_interactions.declared.deeds.Deed.TheVariants as deeds
 use Rattle.mt_shared.specs.Replay.{given_in}
 use Rattle.mt_layer.specs.Agreeing.{Serves}
 use Rattle.mt_layer.specs.Laws.{BegunTalksServe, TicksAreLines}

@@ -5,8 +5,8 @@ use Rattle.std.specs.List.{find, list_all}
 use Rattle.mt_model.specs.declared.node.state.NodeState.{NodeState}
 use Rattle.mt_model.specs.declared.texts.config.SessionRow.{SessionRow}
 use Rattle.mt_talk.specs.Talks.{Talk, after_drop}
-use Rattle.mt_runs.specs.Isolation.{is_quiet}
-use Rattle.mt_runs.specs.Whole.{SessionTalk, has_closed, is_live, is_talk_of, let_go, with_talk}
+use Rattle.mt_shared.specs.mt_runs.Isolation.{is_quiet}
+use Rattle.mt_shared.specs.mt_runs.Whole.{SessionTalk, has_closed, is_live, is_talk_of, let_go, with_talk}
 
 contradiction : {A : Type 0} → false ≡ true → A
 contradiction is = absurd (cc)

@@ -11,17 +11,17 @@ use Rattle.mt_model.specs.declared.texts.recording.Sent.{Sent}
 use Rattle.mt_subs.specs.Subscriptions.{kept_at}
 use Rattle.mt_subs.specs.declared.subscription.Kept.{Kept}
 use Rattle.mt_talk.specs.Talks.{Talk, after_report, report_in, sent_by}
-use Rattle.mt_machine.specs.Environment.{Environment}
-use Rattle.mt_ledger.specs.Ledger.{Ledger}
-use Rattle.mt_ledger.specs.Reporting.{Due, due_now, due_report}
-use Rattle.mt_runs.specs.Datagrams.{all_sent, if_any}
-use Rattle.mt_runs.specs.Isolation.{IsValidWhole}
-use Rattle.mt_runs.specs.Lines.{reported_over, reported_talk, sent_due, sent_to, talks_due, talks_told, with_next}
-use Rattle.mt_runs.specs.Whole.{SessionTalk, Whole, let_go, with_talk}
-use Rattle.mt_interactions.specs.Configured.{ConfiguredInteractions}
-use Rattle.mt_interactions.specs.Deeds.{reply_due}
-use Rattle.mt_interactions.specs.declared.deeds.Deed.{Deed}
-use Rattle.mt_interactions.specs.declared.deeds.Deed.TheVariants as deeds
+use Rattle.mt_shared.specs.mt_machine.Environment.{Environment}
+use Rattle.mt_shared.specs.mt_ledger.Ledger.{Ledger}
+use Rattle.mt_shared.specs.mt_ledger.Reporting.{Due, due_now, due_report}
+use Rattle.mt_shared.specs.mt_runs.Datagrams.{all_sent, if_any}
+use Rattle.mt_shared.specs.mt_runs.Isolation.{IsValidWhole}
+use Rattle.mt_shared.specs.mt_runs.Lines.{reported_over, reported_talk, sent_due, sent_to, talks_due, talks_told, with_next}
+use Rattle.mt_shared.specs.mt_runs.Whole.{SessionTalk, Whole, let_go, with_talk}
+use Rattle.mt_shared.specs.mt_interactions.Configured.{ConfiguredInteractions}
+use Rattle.mt_shared.specs.mt_interactions.Deeds.{reply_due}
+use Rattle.mt_shared.specs.mt_interactions.declared.deeds.Deed.{Deed}
+use Rattle.mt_shared.specs.mt_interactions.declared.deeds.Deed.TheVariants as deeds
 use Rattle.mt_shared.specs.Replay as shared
 use Rattle.mt_shared.specs.Replay.{given_in}
 use Rattle.mt_shared.specs.declared.entry.Answer as answers

@@ -7,18 +7,18 @@ use Rattle.mt_model.specs.declared.texts.config.SessionRow.{SessionRow}
 use Rattle.mt_model.specs.declared.texts.recording.Event.{Event}
 use Rattle.mt_model.specs.declared.texts.recording.Event.TheVariants as events
 use Rattle.mt_talk.specs.Talks.{Talk, after_drop, after_resend, ended_in, resent_in}
-use Rattle.mt_machine.specs.Environment.{Environment}
-use Rattle.mt_machine.specs.Lines.{behind_action}
-use Rattle.mt_machine.specs.Step.{after_action, closed_between}
-use Rattle.mt_ledger.specs.Behind.{Activity, acts, action_in, ends, ledger_behind}
-use Rattle.mt_ledger.specs.Ledger.{Ledger}
-use Rattle.mt_runs.specs.Datagrams.{all_sent, resent_talk}
-use Rattle.mt_runs.specs.Isolation.{IsValidWhole}
-use Rattle.mt_runs.specs.Lines.{activity_again, resent_named, with_next}
-use Rattle.mt_runs.specs.Whole.{SessionTalk, Whole, fabric_over, is_live, let_go, talk_of, with_talk}
-use Rattle.mt_interactions.specs.Configured.{ConfiguredInteractions}
-use Rattle.mt_interactions.specs.Deeds.{EndsAreByTime, activity_at}
-use Rattle.mt_interactions.specs.declared.deeds.Deed.{Deed}
+use Rattle.mt_shared.specs.mt_machine.Environment.{Environment}
+use Rattle.mt_shared.specs.mt_machine.Lines.{behind_action}
+use Rattle.mt_shared.specs.mt_machine.Step.{after_action, closed_between}
+use Rattle.mt_shared.specs.mt_ledger.Behind.{Activity, acts, action_in, ends, ledger_behind}
+use Rattle.mt_shared.specs.mt_ledger.Ledger.{Ledger}
+use Rattle.mt_shared.specs.mt_runs.Datagrams.{all_sent, resent_talk}
+use Rattle.mt_shared.specs.mt_runs.Isolation.{IsValidWhole}
+use Rattle.mt_shared.specs.mt_runs.Lines.{activity_again, resent_named, with_next}
+use Rattle.mt_shared.specs.mt_runs.Whole.{SessionTalk, Whole, fabric_over, is_live, let_go, talk_of, with_talk}
+use Rattle.mt_shared.specs.mt_interactions.Configured.{ConfiguredInteractions}
+use Rattle.mt_shared.specs.mt_interactions.Deeds.{EndsAreByTime, activity_at}
+use Rattle.mt_shared.specs.mt_interactions.declared.deeds.Deed.{Deed}
 use Rattle.mt_shared.specs.Replay as shared
 use Rattle.mt_shared.specs.Replay.{given_in}
 use Rattle.mt_shared.specs.declared.entry.Answer as answers

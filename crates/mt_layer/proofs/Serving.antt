@@ -9,9 +9,9 @@ use Rattle.mt_model.specs.declared.texts.config.SessionRow.{SessionRow}
 use Rattle.mt_session.specs.Opening.{Arrival}
 use Rattle.mt_session.specs.Sessions.{Message}
 use Rattle.mt_talk.specs.Talks.{Talk, after_drop}
-use Rattle.mt_machine.specs.Step.{closed_between}
-use Rattle.mt_runs.specs.Isolation.{have_one_id}
-use Rattle.mt_runs.specs.Whole.{SessionTalk, Whole, has_closed, is_talk_of, let_go}
+use Rattle.mt_shared.specs.mt_machine.Step.{closed_between}
+use Rattle.mt_shared.specs.mt_runs.Isolation.{have_one_id}
+use Rattle.mt_shared.specs.mt_runs.Whole.{SessionTalk, Whole, has_closed, is_talk_of, let_go}
 use Rattle.mt_layer.specs.Agreeing.{Agrees, Serves, has_ended}
 use Rattle.mt_layer.specs.Saying.{unless_closed}
 use Rattle.mt_layer.proofs.Alike.{arrivals_more, messages_more}

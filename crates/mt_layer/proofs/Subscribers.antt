@@ -15,12 +15,12 @@ use Rattle.mt_subs.specs.Owed.{due_of}
 use Rattle.mt_subs.specs.Subscriptions.{is_named as is_subscription, kept_at}
 use Rattle.mt_subs.specs.declared.subscription.Kept.{Kept}
 use Rattle.mt_subs.specs.declared.subscription.Subscription.{Subscription}
-use Rattle.mt_machine.specs.Step.{live_actor}
-use Rattle.mt_ledger.specs.history.History.{History}
-use Rattle.mt_ledger.specs.Ledger.{IsLedger, Ledger}
-use Rattle.mt_ledger.specs.Reporting.{Due, due_kept, due_now, has_unreported, with_places}
-use Rattle.mt_runs.specs.Isolation.{have_one_id}
-use Rattle.mt_runs.specs.Whole.{is_live}
+use Rattle.mt_shared.specs.mt_machine.Step.{live_actor}
+use Rattle.mt_shared.specs.mt_ledger.history.History.{History}
+use Rattle.mt_shared.specs.mt_ledger.Ledger.{IsLedger, Ledger}
+use Rattle.mt_shared.specs.mt_ledger.Reporting.{Due, due_kept, due_now, has_unreported, with_places}
+use Rattle.mt_shared.specs.mt_runs.Isolation.{have_one_id}
+use Rattle.mt_shared.specs.mt_runs.Whole.{is_live}
 use Rattle.mt_layer.proofs.Ending.{is_named, none_behind, rest_differ}
 
 contradiction : {A : Type 0} → false ≡ true → A

@@ -5,13 +5,13 @@ use Rattle.mt_model.specs.declared.node.action.Action.TheVariants.{Expire}
 use Rattle.mt_model.specs.declared.node.action.PlainDeadline.{PlainDeadline}
 use Rattle.mt_model.specs.declared.node.state.NodeState.{NodeState}
 use Rattle.mt_model.specs.declared.tables.network.Armed.{Armed}
-use Rattle.mt_machine.specs.Environment.{Environment}
-use Rattle.mt_machine.specs.Laws.{TakesTheAddedAway, TicksTakeOne}
-use Rattle.mt_machine.specs.Leaving.{has_left}
-use Rattle.mt_machine.specs.Lines.{behind_action, deadlines_of_those_left, next_tick}
-use Rattle.mt_machine.specs.Rollback.{added_in, deadlines_left, is_due}
-use Rattle.mt_machine.specs.State.{IsValid, State}
-use Rattle.mt_machine.specs.Step.{after_action, gone_between}
+use Rattle.mt_shared.specs.mt_machine.Environment.{Environment}
+use Rattle.mt_shared.specs.mt_machine.Laws.{TakesTheAddedAway, TicksTakeOne}
+use Rattle.mt_shared.specs.mt_machine.Leaving.{has_left}
+use Rattle.mt_shared.specs.mt_machine.Lines.{behind_action, deadlines_of_those_left, next_tick}
+use Rattle.mt_shared.specs.mt_machine.Rollback.{added_in, deadlines_left, is_due}
+use Rattle.mt_shared.specs.mt_machine.State.{IsValid, State}
+use Rattle.mt_shared.specs.mt_machine.Step.{after_action, gone_between}
 
 contradiction : {A : Type 0} → false ≡ true → A
 contradiction is = absurd (cc)

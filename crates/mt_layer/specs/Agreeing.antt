@@ -8,7 +8,7 @@ use Rattle.mt_model.specs.declared.node.state.Standing.{Standing}
 use Rattle.mt_model.specs.declared.node.state.Standing.TheVariants.{Waits, Live, Ended}
 use Rattle.mt_model.specs.declared.texts.config.SessionRow.{SessionRow}
 use Rattle.mt_talk.specs.Talks.{Talk, run_in}
-use Rattle.mt_runs.specs.Whole.{Whole, talk_of}
+use Rattle.mt_shared.specs.mt_runs.Whole.{Whole, talk_of}
 
 -- Two talks are alike where the runs of their sessions are the same, and the latest fresh message came from the same peer: that is all on
 -- which it depends what a talk says. What is shown of them may differ.

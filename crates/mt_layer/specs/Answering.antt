@@ -8,8 +8,8 @@ use Rattle.mt_model.specs.declared.messages.message.Reply.{Reply}
 use Rattle.mt_model.specs.declared.messages.message.Request.{Request}
 use Rattle.mt_model.specs.declared.messages.message.Request.TheVariants as requests
 use Rattle.mt_talk.specs.Hearing.{Said, answers, asks, confirms, ends, nothing}
-use Rattle.mt_machine.specs.Lines.{fault_reply}
-use Rattle.mt_runs.specs.Datagrams.{Answer, dated, deadline_set}
+use Rattle.mt_shared.specs.mt_machine.Lines.{fault_reply}
+use Rattle.mt_shared.specs.mt_runs.Datagrams.{Answer, dated, deadline_set}
 use Rattle.mt_layer.specs.declared.answering.Answering.{Answering}
 use Rattle.mt_layer.specs.declared.answering.Content.{Content}
 use Rattle.mt_layer.specs.declared.answering.Content.TheVariants as contents

@@ -11,15 +11,15 @@ use Rattle.mt_subs.specs.Subscriptions.{kept_at}
 use Rattle.mt_subs.specs.declared.subscription.Kept.{Kept}
 use Rattle.mt_talk.specs.Hearing.{Said, after_datagram, said}
 use Rattle.mt_talk.specs.Talks.{Talk, after_drop, after_report, after_resend, begun_talk, ended_in, report_in, resent_in}
-use Rattle.mt_machine.specs.Environment.{Environment}
-use Rattle.mt_machine.specs.Step.{after_action}
-use Rattle.mt_ledger.specs.Ledger.{Ledger}
-use Rattle.mt_runs.specs.Datagrams.{Answer, activity_resent, activity_said, answer_to, behind_answer, datagram_of, session_named}
-use Rattle.mt_runs.specs.Isolation.{IsValidWhole, have_one_id}
-use Rattle.mt_runs.specs.Whole.{SessionTalk, Whole, begun, has_closed, is_live, talk_of}
-use Rattle.mt_interactions.specs.Configured.{ConfiguredInteractions}
-use Rattle.mt_interactions.specs.Deeds.{activity_at, replied}
-use Rattle.mt_interactions.specs.declared.deeds.Deed.TheVariants.{Expire, Report}
+use Rattle.mt_shared.specs.mt_machine.Environment.{Environment}
+use Rattle.mt_shared.specs.mt_machine.Step.{after_action}
+use Rattle.mt_shared.specs.mt_ledger.Ledger.{Ledger}
+use Rattle.mt_shared.specs.mt_runs.Datagrams.{Answer, activity_resent, activity_said, answer_to, behind_answer, datagram_of, session_named}
+use Rattle.mt_shared.specs.mt_runs.Isolation.{IsValidWhole, have_one_id}
+use Rattle.mt_shared.specs.mt_runs.Whole.{SessionTalk, Whole, begun, has_closed, is_live, talk_of}
+use Rattle.mt_shared.specs.mt_interactions.Configured.{ConfiguredInteractions}
+use Rattle.mt_shared.specs.mt_interactions.Deeds.{activity_at, replied}
+use Rattle.mt_shared.specs.mt_interactions.declared.deeds.Deed.TheVariants.{Expire, Report}
 use Rattle.mt_shared.specs.Replay as shared
 use Rattle.mt_layer.specs.Agreeing.{Agrees, AreAlike, Serves, has_ended}
 use Rattle.mt_layer.specs.Answering.{answered_with}

@@ -4,10 +4,10 @@ use Rattle.mt_model.specs.declared.texts.config.SessionRow.{SessionRow}
 use Rattle.mt_model.specs.declared.texts.recording.Event.{Event}
 use Rattle.mt_model.specs.declared.texts.recording.Sent.{Sent}
 use Rattle.mt_talk.specs.Talks.{Talk}
-use Rattle.mt_runs.specs.Lines.{next, sent}
-use Rattle.mt_runs.specs.Whole.{SessionTalk, Whole}
-use Rattle.mt_interactions.specs.Configured.{ConfiguredInteractions}
-use Rattle.mt_interactions.specs.declared.deeds.Deed.{Deed}
+use Rattle.mt_shared.specs.mt_runs.Lines.{next, sent}
+use Rattle.mt_shared.specs.mt_runs.Whole.{SessionTalk, Whole}
+use Rattle.mt_shared.specs.mt_interactions.Configured.{ConfiguredInteractions}
+use Rattle.mt_shared.specs.mt_interactions.declared.deeds.Deed.{Deed}
 use Rattle.mt_shared.specs.Replay.{behind_deed, given_in}
 use Rattle.mt_layer.specs.Agreeing.{Serves}
 

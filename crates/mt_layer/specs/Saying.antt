@@ -7,7 +7,7 @@ use Rattle.mt_model.specs.declared.texts.recording.Sent.{Sent}
 use Rattle.mt_outside.specs.declared.network.Peer.{Peer}
 use Rattle.mt_talk.specs.Hearing.{after_datagram}
 use Rattle.mt_talk.specs.Talks.{Talk, after_drop, after_report, after_resend, report_in, resent_in, sent_by}
-use Rattle.mt_runs.specs.Datagrams.{Answer, all_sent, behind_answer, datagram_of, if_any}
+use Rattle.mt_shared.specs.mt_runs.Datagrams.{Answer, all_sent, behind_answer, datagram_of, if_any}
 use Rattle.mt_shared.specs.declared.entry.Answer as shared
 use Rattle.mt_layer.specs.Answering.{answered_with}
 use Rattle.mt_layer.specs.Deeds.{said_as_live}

@@ -4,8 +4,8 @@ ghost use Rattle.std.specs.Prelude.{◌≡◌, IfOk};
 ghost use Rattle.mt_layer.specs.Answering.{payloads_by, until_set};
 
 use mt_im_out::chunks;
-use mt_interactions::{dated, deadline_set};
 use mt_model::{Payloads, Reply, Request};
+use mt_shared::mt_interactions::{dated, deadline_set};
 use mt_talk::Key;
 use std::alloc::{AllocError, Global};
 

@@ -2,7 +2,7 @@
 
 ghost use Rattle.std.specs.Prelude.{◌≡◌, ℕ, Some, IfOk};
 ghost use Rattle.mt_im.specs.Limits.{IsWithinLimits};
-ghost use Rattle.mt_interactions.specs.Deeds.{IsWithin};
+ghost use Rattle.mt_shared.specs.mt_interactions.Deeds.{IsWithin};
 ghost use Rattle.mt_model.specs.declared.messages.message.Reply.{Reply as Replied};
 ghost use Rattle.mt_talk.specs.Hearing.{asks, said_by};
 ghost use Rattle.mt_layer.specs.Answering.{answer_by, answered_with, wait_of};
@@ -11,8 +11,8 @@ ghost use Rattle.mt_layer.specs.Deeds.{deed_ended, deed_said};
 use crate::answering::{Answering, Content};
 use mt_exchange::{EndTime, EndTimes};
 use mt_im_out::chunks;
-use mt_interactions::{Deed, asked, fault_reply};
 use mt_model::{Payloads, Request};
+use mt_shared::mt_interactions::{Deed, asked, fault_reply};
 use mt_talk::{Heard, Key};
 use std::alloc::{AllocError, Global};
 

@@ -21,4 +21,6 @@ pub use laws::{
     reports_are_lines, resends_are_lines, sessions_end_for_good, talks_are_told_by_their_run,
     ticks_are_lines,
 };
+pub use mt_shared;
+pub use mt_shared::{mt_interactions, mt_runs};
 pub use session_talk::SessionTalk;

@@ -1,11 +1,11 @@
 //! What a worker keeps of a session that is its own, and what it does over it.
 
 ghost use Rattle.std.specs.Prelude.{◌≡◌, ◌≢◌, ◌<◌, ◌^◌, ℕ, length, IfOk, OnOk};
-ghost use Rattle.mt_interactions.specs.Deeds.{IsWithin};
+ghost use Rattle.mt_shared.specs.mt_interactions.Deeds.{IsWithin};
 ghost use Rattle.mt_model.specs.declared.messages.message.Reply.{Reply as Replied};
 ghost use Rattle.mt_model.specs.declared.tables.access.Auth.TheVariants.{Group};
 ghost use Rattle.mt_model.specs.declared.texts.config.SessionRow.{SessionRow as Row};
-ghost use Rattle.mt_runs.specs.Datagrams.{behind_answer, datagram_of};
+ghost use Rattle.mt_shared.specs.mt_runs.Datagrams.{behind_answer, datagram_of};
 ghost use Rattle.mt_talk.specs.Talks.{IsTalkOf, Talk as Told, begun_talk};
 ghost use Rattle.mt_layer.specs.Answering.{answer_by, answered_with};
 ghost use Rattle.mt_layer.specs.Deeds.{deed_again, deed_heard, said_as_live};
@@ -16,10 +16,10 @@ use crate::answering::Answering;
 use crate::hearing::planned;
 use crate::sending::{all_sent, one_sent};
 use mt_im_out::chunks;
-use mt_interactions::Deed;
 use mt_model::{Reply, SentList, SessionRow};
 use mt_outside::Peer;
 use mt_shared::Answer;
+use mt_shared::mt_interactions::Deed;
 use mt_talk::Talk;
 use mt_tlv::Bytes;
 use std::alloc::{AllocError, Global};

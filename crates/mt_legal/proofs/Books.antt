@@ -6,18 +6,18 @@ use Rattle.mt_files.specs.Event.{at_time}
 use Rattle.mt_model.specs.declared.limits.TheConstants.{LAST_TIME}
 use Rattle.mt_model.specs.declared.texts.config.SessionRow.{SessionRow}
 use Rattle.mt_opcreds.specs.Laws.{KeepsRules}
-use Rattle.mt_runs.specs.Course.{Going, going_on}
-use Rattle.mt_runs.specs.Isolation.{IsValidWhole}
-use Rattle.mt_runs.specs.Messages as runs
-use Rattle.mt_runs.specs.Whole.{SessionTalk, begun, is_talk_of}
-use Rattle.mt_interactions.specs.Configured.{ConfiguredInteractions}
-use Rattle.mt_shared.specs.Book.{lines_in}
-use Rattle.mt_shared.specs.Replay.{answer_at, behind_deed, given_in, next, replay, told}
-use Rattle.mt_shared.specs.declared.entry.Call.{Call}
-use Rattle.mt_shared.specs.declared.entry.Entry.{Entry}
-use Rattle.mt_shared.specs.declared.entry.Stop.{Stop}
-use Rattle.mt_layer.specs.Laws.{BegunTalksServe}
-use Rattle.mt_layer.specs.Lines.{next_with, whole_of}
+use Rattle.mt_worker.specs.mt_runs.Course.{Going, going_on}
+use Rattle.mt_worker.specs.mt_runs.Isolation.{IsValidWhole}
+use Rattle.mt_worker.specs.mt_runs.Messages as runs
+use Rattle.mt_worker.specs.mt_runs.Whole.{SessionTalk, begun, is_talk_of}
+use Rattle.mt_worker.specs.mt_interactions.Configured.{ConfiguredInteractions}
+use Rattle.mt_worker.specs.mt_shared.Book.{lines_in}
+use Rattle.mt_worker.specs.mt_shared.Replay.{answer_at, behind_deed, given_in, next, replay, told}
+use Rattle.mt_worker.specs.mt_shared.declared.entry.Call.{Call}
+use Rattle.mt_worker.specs.mt_shared.declared.entry.Entry.{Entry}
+use Rattle.mt_worker.specs.mt_shared.declared.entry.Stop.{Stop}
+use Rattle.mt_worker.specs.mt_layer.Laws.{BegunTalksServe}
+use Rattle.mt_worker.specs.mt_layer.Lines.{next_with, whole_of}
 use Rattle.mt_worker.specs.Accounts.{Account, Accounts, all_sent, begun_account, behind}
 use Rattle.mt_worker.specs.Due.{HaveBegun, id_of, is_in}
 use Rattle.mt_worker.specs.Gots.{Got, Told}

@@ -3,11 +3,11 @@ use Rattle.std.proofs.Common.{◌≡◌, ◌≢◌, ◌∙◌, sym, subst, inl, 
 use Rattle.std.proofs.lemmas.Bool.{cases_Bool, eqb-true}
 use Rattle.mt_model.specs.declared.texts.config.SessionRow.{SessionRow}
 use Rattle.mt_talk.specs.Talks.{Talk}
-use Rattle.mt_runs.specs.Isolation.{IsValidWhole}
-use Rattle.mt_runs.specs.Whole.{SessionTalk, Whole}
-use Rattle.mt_interactions.specs.Configured.{ConfiguredInteractions}
-use Rattle.mt_layer.specs.Agreeing.{Serves}
-use Rattle.mt_layer.specs.Lines.{whole_of}
+use Rattle.mt_worker.specs.mt_runs.Isolation.{IsValidWhole}
+use Rattle.mt_worker.specs.mt_runs.Whole.{SessionTalk, Whole}
+use Rattle.mt_worker.specs.mt_interactions.Configured.{ConfiguredInteractions}
+use Rattle.mt_worker.specs.mt_layer.Agreeing.{Serves}
+use Rattle.mt_worker.specs.mt_layer.Lines.{whole_of}
 use Rattle.mt_subscribers.specs.Over.{IsOver}
 use Rattle.mt_worker.specs.Accounts.{Account, Accounts, account_behind, behind}
 use Rattle.mt_worker.specs.Due.{is_in}

@@ -11,21 +11,21 @@ use Rattle.mt_opcreds.specs.Laws.{KeepsRules}
 use Rattle.mt_outside.specs.declared.network.Peer.{Peer}
 use Rattle.mt_talk.specs.Hearing.{Said, answers, asks, confirms, ends, nothing}
 use Rattle.mt_talk.specs.Talks.{Talk}
-use Rattle.mt_runs.specs.Datagrams.{session_named}
-use Rattle.mt_runs.specs.LineLaws.{WholeStaysValid}
-use Rattle.mt_runs.specs.Lines as lines
-use Rattle.mt_runs.specs.Lines.{is_stop}
-use Rattle.mt_runs.specs.Isolation.{IsValidWhole}
-use Rattle.mt_runs.specs.Whole.{SessionTalk, Whole}
-use Rattle.mt_interactions.specs.Configured.{ConfiguredInteractions}
-use Rattle.mt_interactions.specs.declared.deeds.Deed.{Deed}
-use Rattle.mt_interactions.specs.declared.deeds.Deed.TheVariants as deeds
-use Rattle.mt_shared.specs.Replay.{answer_to, behind_deed, given_in}
-use Rattle.mt_shared.specs.declared.entry.Answer.{Answer}
-use Rattle.mt_shared.specs.declared.entry.Call.{Call}
-use Rattle.mt_layer.specs.Deeds.{deed_again, deed_ended, deed_asked, deed_heard, deed_said, said_as_live}
-use Rattle.mt_layer.specs.Laws.{DatagramsAreLines, ReportsAreLines, ResendsAreLines, TicksAreLines}
-use Rattle.mt_layer.specs.Lines.{IsLine, IsNobodysLine, next_with, whole_of}
+use Rattle.mt_worker.specs.mt_runs.Datagrams.{session_named}
+use Rattle.mt_worker.specs.mt_runs.LineLaws.{WholeStaysValid}
+use Rattle.mt_worker.specs.mt_runs.Lines as lines
+use Rattle.mt_worker.specs.mt_runs.Lines.{is_stop}
+use Rattle.mt_worker.specs.mt_runs.Isolation.{IsValidWhole}
+use Rattle.mt_worker.specs.mt_runs.Whole.{SessionTalk, Whole}
+use Rattle.mt_worker.specs.mt_interactions.Configured.{ConfiguredInteractions}
+use Rattle.mt_worker.specs.mt_interactions.declared.deeds.Deed.{Deed}
+use Rattle.mt_worker.specs.mt_interactions.declared.deeds.Deed.TheVariants as deeds
+use Rattle.mt_worker.specs.mt_shared.Replay.{answer_to, behind_deed, given_in}
+use Rattle.mt_worker.specs.mt_shared.declared.entry.Answer.{Answer}
+use Rattle.mt_worker.specs.mt_shared.declared.entry.Call.{Call}
+use Rattle.mt_worker.specs.mt_layer.Deeds.{deed_again, deed_ended, deed_asked, deed_heard, deed_said, said_as_live}
+use Rattle.mt_worker.specs.mt_layer.Laws.{DatagramsAreLines, ReportsAreLines, ResendsAreLines, TicksAreLines}
+use Rattle.mt_worker.specs.mt_layer.Lines.{IsLine, IsNobodysLine, next_with, whole_of}
 use Rattle.mt_subscribers.specs.Laws.{SubscriptionsAreGained, SubscriptionsStay}
 use Rattle.mt_subscribers.specs.Over.{IsDoneOver, IsOver}
 use Rattle.mt_worker.specs.Accounts.{Account, Accounts, behind, ends_of, sent_by, sent_in, standing_behind, talk_in}

@@ -1,14 +1,14 @@
 -- THE BOOK IS A RUN.
 use Rattle.std.specs.Prelude.{◌≡◌, ◌≤◌, List, map}
-use Rattle.mt_interactions.specs.Configured.{ConfiguredInteractions}
+use Rattle.mt_worker.specs.mt_interactions.Configured.{ConfiguredInteractions}
 use Rattle.mt_model.specs.declared.limits.TheConstants.{LAST_TIME}
 use Rattle.mt_opcreds.specs.Laws.{KeepsRules}
-use Rattle.mt_runs.specs.Course.{going_on}
-use Rattle.mt_runs.specs.Isolation.{IsValidWhole}
-use Rattle.mt_runs.specs.Messages as runs
-use Rattle.mt_shared.specs.Book.{lines_in}
-use Rattle.mt_shared.specs.Replay.{given_in, replay, told}
-use Rattle.mt_shared.specs.declared.entry.Entry.{Entry}
+use Rattle.mt_worker.specs.mt_runs.Course.{going_on}
+use Rattle.mt_worker.specs.mt_runs.Isolation.{IsValidWhole}
+use Rattle.mt_worker.specs.mt_runs.Messages as runs
+use Rattle.mt_worker.specs.mt_shared.Book.{lines_in}
+use Rattle.mt_worker.specs.mt_shared.Replay.{given_in, replay, told}
+use Rattle.mt_worker.specs.mt_shared.declared.entry.Entry.{Entry}
 use Rattle.mt_worker.specs.Accounts.{Accounts, all_sent}
 use Rattle.mt_worker.specs.Due.{HaveBegun}
 use Rattle.mt_worker.specs.Gots.{Each, Got}

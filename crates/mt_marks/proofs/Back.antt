@@ -1,7 +1,7 @@
 -- A mark of a run says all that the mark as data has.
 use Rattle.std.proofs.Common.{◌≡◌, List, [], ◌∷◌, refl, sym, ap, ◌∙◌, map}
 use Rattle.mt_model.specs.declared.texts.recording.Event.{Event}
-use Rattle.mt_machine.specs.Isolation as machine
+use Rattle.mt_runs.specs.mt_machine.Isolation as machine
 use Rattle.mt_runs.specs.Isolation.{PublicPart}
 use Rattle.mt_runs.specs.Marks.{Mark, born, gone, reopened, seen}
 use Rattle.mt_marks.specs.Seen.{descriptor_in, public_in, seen_in}

@@ -6,7 +6,7 @@ use Rattle.std.proofs.lemmas.Bool.{and_from, and_parts, cases_Bool, or_cases}
 use Rattle.mt_meta.specs.Finding.{find_data_of}
 use Rattle.mt_meta.specs.Stored.{is_stored}
 use Rattle.mt_meta.specs.declared.meta.Meta.{Meta}
-use Rattle.mt_machine.specs.State.{is_row, is_row_at}
+use Rattle.mt_runs.specs.mt_machine.State.{is_row, is_row_at}
 use Rattle.mt_model.specs.rows.Order.{are_ascending, ascend_after, may_follow, stands_before}
 use Rattle.mt_model.specs.rows.Sight.{same_place, stands_at}
 use Rattle.mt_model.specs.rows.Stored.{is_stored_place, stored_places}

@@ -2,7 +2,7 @@
 use Rattle.std.proofs.Common.{◌≡◌, ℕ, List, [], ◌∷◌, ◌++◌, refl, sym, ap, ap₂, ◌∙◌, append_assoc}
 use Rattle.mt_model.specs.declared.texts.config.SessionRow.{SessionRow}
 use Rattle.mt_model.specs.declared.texts.recording.Event.{Event}
-use Rattle.mt_machine.specs.Environment.{Environment}
+use Rattle.mt_runs.specs.mt_machine.Environment.{Environment}
 use Rattle.mt_runs.specs.Course.{Course, Going, course, goes, stepped, stops}
 use Rattle.mt_runs.specs.Lines.{next}
 use Rattle.mt_runs.specs.Marks.{Mark, if_seen, marks, marks_in as marks_behind}

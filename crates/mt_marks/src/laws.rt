@@ -7,7 +7,7 @@ ghost use Rattle.mt_model.specs.rows.Stored.{is_stored_place, stored_places};
 ghost use Rattle.mt_model.specs.declared.rows.place.Row.{Row};
 ghost use Rattle.mt_model.specs.declared.tables.fabric.Fabric.{Fabric};
 ghost use Rattle.mt_model.specs.declared.texts.recording.Event.{Event};
-ghost use Rattle.mt_machine.specs.State.{is_row};
+ghost use Rattle.mt_runs.specs.mt_machine.State.{is_row};
 ghost use Rattle.mt_runs.specs.Isolation.{public_part};
 ghost use Rattle.mt_runs.specs.Whole.{Whole};
 ghost use Rattle.mt_runs.specs.Marks.{seen};

@@ -9,7 +9,7 @@ ghost use Rattle.mt_model.specs.tables.Known.{bare_armed, bare_network};
 ghost use Rattle.mt_model.specs.declared.rows.place.Row.{Row};
 ghost use Rattle.mt_model.specs.declared.tables.access.AclEntry.{AclEntry};
 ghost use Rattle.mt_events.specs.Rings.{ring_of};
-ghost use Rattle.mt_machine.specs.State.{IsValid};
+ghost use Rattle.mt_runs.specs.mt_machine.State.{IsValid};
 ghost use Rattle.mt_marks.specs.Seen.{described, mark_before, other_owners, other_rows, seen_in};
 
 use crate::laws::rows_stand_at_stored_places;

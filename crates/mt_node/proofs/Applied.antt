@@ -13,9 +13,9 @@ use Rattle.mt_machine.specs.Effects.{after, after_all, is_setting_step}
 use Rattle.mt_machine.specs.Laws.{ChangesNowhere, StaysSettled}
 use Rattle.mt_machine.specs.Settings.{setting_cases}
 use Rattle.mt_machine.specs.Step.{after_steps, at_time}
-use Rattle.mt_lasting.specs.Changes.{change_between}
-use Rattle.mt_lasting.specs.Contents.{what_lasts}
-use Rattle.mt_lasting.specs.Laws.{NothingElseChanges}
+use Rattle.mt_regained.specs.mt_lasting.Changes.{change_between}
+use Rattle.mt_regained.specs.mt_lasting.Contents.{what_lasts}
+use Rattle.mt_regained.specs.mt_lasting.Laws.{NothingElseChanges}
 use Rattle.mt_node.specs.Plan.{HaveRoom, needed}
 
 -- Steps that set values make the same, whoever asks.

@@ -20,7 +20,7 @@ use Rattle.mt_machine.specs.Leaving.{has_left}
 use Rattle.mt_machine.specs.State.{IsValid}
 use Rattle.mt_machine.specs.Step.{Aside, after_action, after_steps, aside_between, aside_of, at_time, reply_of}
 use Rattle.mt_machine.specs.Telling.{told, told_between}
-use Rattle.mt_lasting.specs.Changes.{change_between}
+use Rattle.mt_regained.specs.mt_lasting.Changes.{change_between}
 use Rattle.mt_model.specs.declared.node.action.Effect.{Effect}
 use Rattle.mt_node.specs.declared.outcome.Outcome.{Outcome}
 

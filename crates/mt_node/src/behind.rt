@@ -5,7 +5,7 @@ ghost use Rattle.std.specs.Prelude.{◌≡◌, ℕ, true, IfOk, IsTrue};
 ghost use Rattle.mt_model.specs.texts.Config.{ascend_from};
 ghost use Rattle.mt_machine.specs.Step.{after_steps, at_time};
 ghost use Rattle.mt_machine.specs.Taking.{may_take_all};
-ghost use Rattle.mt_lasting.specs.Changes.{change_between};
+ghost use Rattle.mt_regained.specs.mt_lasting.Changes.{change_between};
 ghost use Rattle.mt_node.specs.Plan.{IsMade};
 
 use crate::between::{closed_between, differing_between, gone_between};
@@ -14,10 +14,10 @@ use crate::node::Node;
 use crate::outcome::Outcome;
 use crate::telling::{events_in, told_with};
 use mt_durable::Change;
-use mt_lasting::{change_to, only_what_lasts_changes};
 use mt_machine::{states_are_valid, steps_leave_states_valid};
 use mt_model::{Actor, Effect, ExactCopy, NodeState, Places, Steps};
-use mt_steps::make_all;
+use mt_regained::mt_lasting::{change_to, only_what_lasts_changes};
+use mt_regained::mt_steps::make_all;
 use std::alloc::{AllocError, Global};
 
 /// The outcome of an answer whose steps the state takes: sessions may end, and a fabric may leave.

@@ -22,12 +22,12 @@ use crate::node::Node;
 use crate::outcome::{Outcome, OutcomeParts};
 use crate::rooms::rooms;
 use crate::telling::events_in;
-use mt_lasting::only_what_lasts_changes;
 use mt_machine::{actions_set_values, actions_tell_their_own};
 use mt_model::{
     AclEntries, AclEntry, Actor, ChangeNumbers, Effect, NodeState, NodeStep, Place, Places, Row,
     SessionIds, Steps, StoredRows, Version, Versions, set_entries, set_entries_stand_in_order,
 };
+use mt_regained::mt_lasting::only_what_lasts_changes;
 use mt_subs::Changes;
 use std::alloc::{AllocError, Global};
 use std::mem::replace;

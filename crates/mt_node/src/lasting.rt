@@ -7,13 +7,13 @@ ghost use Rattle.mt_machine.specs.Changes.{changed_at};
 ghost use Rattle.mt_machine.specs.Effects.{after_all, is_setting_step};
 ghost use Rattle.mt_machine.specs.Step.{at_time};
 ghost use Rattle.mt_machine.specs.Taking.{may_take_all};
-ghost use Rattle.mt_lasting.specs.Changes.{change_between};
+ghost use Rattle.mt_regained.specs.mt_lasting.Changes.{change_between};
 
 use crate::node::Node;
 use mt_durable::Change;
-use mt_lasting::{change_by_steps, only_what_lasts_changes};
 use mt_machine::steps_leave_states_valid;
 use mt_model::NodeStep;
+use mt_regained::mt_lasting::{change_by_steps, only_what_lasts_changes};
 use std::alloc::{AllocError, Global};
 
 /// What steps change that set values and that the state takes, at whatever time.

@@ -32,6 +32,9 @@ mod sight;
 mod telling;
 mod writes;
 
+pub use mt_machine;
 pub use mt_model::{Action, SessionIds};
+pub use mt_regained;
+pub use mt_regained::mt_lasting;
 pub use node::Node;
 pub use outcome::Outcome;

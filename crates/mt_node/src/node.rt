@@ -8,7 +8,7 @@ ghost use Rattle.mt_machine.specs.Rollback.{is_due};
 ghost use Rattle.mt_machine.specs.State.{IsValid};
 ghost use Rattle.mt_machine.specs.Step.{asker, is_late, session_actor, tick_steps};
 ghost use Rattle.mt_node.specs.Answered.{IsAnswerInTime, is_of_credentials};
-ghost use Rattle.mt_lasting.specs.Contents.{durable};
+ghost use Rattle.mt_regained.specs.mt_lasting.Contents.{durable};
 ghost use Rattle.mt_regained.specs.Begun.{MayStart, ceiling_in, first_change};
 ghost use Rattle.mt_node.specs.Configured.{IsStarted, given_to, in_state};
 ghost use Rattle.mt_node.specs.Plan.{IsPlan, IsPlanned, applied};

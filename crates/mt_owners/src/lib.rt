@@ -8,4 +8,7 @@ mod laws;
 mod rows;
 
 pub use laws::{owners_are_exact, rows_have_begun};
+pub use mt_receiver;
+pub use mt_worker;
+pub use mt_worker::mt_shared;
 pub use rows::{ids_of, rows_of};

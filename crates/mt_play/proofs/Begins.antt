@@ -2,20 +2,20 @@
 use Rattle.std.proofs.Common.{◌≡◌, ℕ, ◌+◌, ◌-◌, ◌^◌, min, Bool, true, false, List, refl, sym, ap, arith}
 use Rattle.std.specs.Prelude.{nat_le}
 use Rattle.std.proofs.lemmas.Bool.Decides.{nat_tests}
-use Rattle.mt_lasting.specs.Laws.{ActionsKeepTheBoot}
+use Rattle.mt_whole.specs.mt_lasting.Laws.{ActionsKeepTheBoot}
 use Rattle.mt_model.specs.declared.node.action.Action.TheVariants as actions
 use Rattle.mt_model.specs.declared.texts.config.SessionRow.{SessionRow}
 use Rattle.mt_model.specs.declared.texts.recording.Event.{Event}
 use Rattle.mt_model.specs.declared.texts.recording.Event.TheVariants as events
 use Rattle.mt_im.specs.Reading.{request_in}
-use Rattle.mt_machine.specs.Environment.{Environment}
-use Rattle.mt_machine.specs.Lines.{line_actor}
-use Rattle.mt_ledger.specs.Behind.{action_in}
-use Rattle.mt_runs.specs.Course.{Course, Going, behind_course, course, going_on, stepped, surviving}
-use Rattle.mt_runs.specs.Datagrams.{session_named}
-use Rattle.mt_runs.specs.Lines.{action_asked, activity_named, next}
-use Rattle.mt_runs.specs.Reopening.{reopened}
-use Rattle.mt_runs.specs.Whole.{Whole, talk_of}
+use Rattle.mt_whole.specs.mt_machine.Environment.{Environment}
+use Rattle.mt_whole.specs.mt_machine.Lines.{line_actor}
+use Rattle.mt_whole.specs.mt_ledger.Behind.{action_in}
+use Rattle.mt_whole.specs.mt_runs.Course.{Course, Going, behind_course, course, going_on, stepped, surviving}
+use Rattle.mt_whole.specs.mt_runs.Datagrams.{session_named}
+use Rattle.mt_whole.specs.mt_runs.Lines.{action_asked, activity_named, next}
+use Rattle.mt_whole.specs.mt_runs.Reopening.{reopened}
+use Rattle.mt_whole.specs.mt_runs.Whole.{Whole, talk_of}
 use Rattle.mt_play.specs.Courses.{IsGoing, IsStopping, course_in}
 use Rattle.mt_play.specs.declared.course.Course as code
 use Rattle.mt_play.specs.declared.course.Course.TheVariants as codes

@@ -7,23 +7,23 @@ use Rattle.mt_durable.specs.Reading.{Says}
 use Rattle.mt_durable.specs.Setting.{with_all}
 use Rattle.mt_durable.specs.declared.durable.Entry.{Entry}
 use Rattle.mt_journal.specs.Stopping as journals
-use Rattle.mt_lasting.specs.Changes.{change_between}
-use Rattle.mt_lasting.specs.Contents.{durable}
-use Rattle.mt_lasting.specs.Laws.{MapsAreMaps}
-use Rattle.mt_ledger.specs.Ledger.{Ledger}
-use Rattle.mt_machine.specs.State.{IsValid, State}
+use Rattle.mt_whole.specs.mt_lasting.Changes.{change_between}
+use Rattle.mt_whole.specs.mt_lasting.Contents.{durable}
+use Rattle.mt_whole.specs.mt_lasting.Laws.{MapsAreMaps}
+use Rattle.mt_whole.specs.mt_ledger.Ledger.{Ledger}
+use Rattle.mt_whole.specs.mt_machine.State.{IsValid, State}
 use Rattle.mt_model.specs.declared.node.state.NodeState.{NodeState}
 use Rattle.mt_model.specs.declared.texts.recording.Event.{Event}
 use Rattle.mt_model.specs.declared.texts.recording.Event.TheVariants as events
 use Rattle.mt_outside.specs.MemoryDisk.{DiskState}
 use Rattle.mt_outside.specs.declared.fate.Fate.{Fate}
 use Rattle.mt_outside.specs.declared.fate.Fate.TheVariants.{Kept, Lost, Torn}
-use Rattle.mt_runs.specs.Course.{survives}
+use Rattle.mt_whole.specs.mt_runs.Course.{survives}
 use Rattle.mt_store.specs.Leading.{map_left}
-use Rattle.mt_node.specs.Plan.{applied}
-use Rattle.mt_interactions.specs.Committing.{CommitsLeadOn, LeadsOn}
-use Rattle.mt_interactions.specs.Plan.{IsPlanned, applied_history}
-use Rattle.mt_interactions.specs.declared.outcome.InteractionOutcome.{InteractionOutcome}
+use Rattle.mt_whole.specs.mt_node.Plan.{applied}
+use Rattle.mt_whole.specs.mt_interactions.Committing.{CommitsLeadOn, LeadsOn}
+use Rattle.mt_whole.specs.mt_interactions.Plan.{IsPlanned, applied_history}
+use Rattle.mt_whole.specs.mt_interactions.declared.outcome.InteractionOutcome.{InteractionOutcome}
 use Rattle.mt_keeping.specs.Laws.{MayCommit, StatesMayBeCommitted}
 use Rattle.mt_keeping.specs.States.{KeepingState, told_map}
 use Rattle.mt_play.specs.Courses.{stop_in}

@@ -1,22 +1,22 @@
 -- What becomes of a line, by the outcome that was planned for it, and what that makes of a run.
 use Rattle.std.proofs.Common.{◌≡◌, ◌≢◌, ◌∙◌, refl, sym, ap, subst, ℕ, Bool, true, false, not, true≢false, List, [], ◌∷◌, Option, Some, None, Result, Ok, Err}
 use Rattle.std.specs.Prelude.{◌↔◌, IfOk, IfSome, OnErr, is_some}
-use Rattle.mt_lasting.specs.Contents.{durable}
+use Rattle.mt_whole.specs.mt_lasting.Contents.{durable}
 use Rattle.mt_model.specs.declared.texts.config.SessionRow.{SessionRow}
 use Rattle.mt_model.specs.declared.texts.recording.Event.{Event}
 use Rattle.mt_model.specs.declared.texts.recording.Event.TheVariants as events
 use Rattle.mt_model.specs.declared.texts.recording.Sent.{Sent}
 use Rattle.mt_outside.specs.declared.fate.Fate.{Fate}
-use Rattle.mt_machine.specs.Environment.{Environment}
-use Rattle.mt_machine.specs.State.{State}
-use Rattle.mt_ledger.specs.Ledger.{Ledger}
-use Rattle.mt_runs.specs.Course.{Course, Going, Stop, behind_course, course, course_of_line, goes, stops}
-use Rattle.mt_runs.specs.Laws.{LastsTheSame, LinesThatChangeMakeCalls, LinesThatKeepMakeNone}
-use Rattle.mt_runs.specs.Lines.{is_stop, sent}
-use Rattle.mt_runs.specs.Messages.{sent_in}
-use Rattle.mt_runs.specs.Reopening.{ceiling_of}
-use Rattle.mt_runs.specs.Whole.{Whole}
-use Rattle.mt_interactions.specs.Committing.{CommitsLeadOn, LeadsOn}
+use Rattle.mt_whole.specs.mt_machine.Environment.{Environment}
+use Rattle.mt_whole.specs.mt_machine.State.{State}
+use Rattle.mt_whole.specs.mt_ledger.Ledger.{Ledger}
+use Rattle.mt_whole.specs.mt_runs.Course.{Course, Going, Stop, behind_course, course, course_of_line, goes, stops}
+use Rattle.mt_whole.specs.mt_runs.Laws.{LastsTheSame, LinesThatChangeMakeCalls, LinesThatKeepMakeNone}
+use Rattle.mt_whole.specs.mt_runs.Lines.{is_stop, sent}
+use Rattle.mt_whole.specs.mt_runs.Messages.{sent_in}
+use Rattle.mt_whole.specs.mt_runs.Reopening.{ceiling_of}
+use Rattle.mt_whole.specs.mt_runs.Whole.{Whole}
+use Rattle.mt_whole.specs.mt_interactions.Committing.{CommitsLeadOn, LeadsOn}
 use Rattle.mt_whole.specs.Plan.{IsPlan, IsPlanned}
 use Rattle.mt_whole.specs.Plan as wholes
 use Rattle.mt_whole.specs.declared.outcome.WholeOutcome.{WholeOutcome}

@@ -4,12 +4,12 @@ use Rattle.std.proofs.lemmas.Bool.{cases_Bool}
 use Rattle.mt_model.specs.declared.node.state.NodeSession.{NodeSession}
 use Rattle.mt_model.specs.declared.texts.config.SessionRow.{SessionRow}
 use Rattle.mt_subs.specs.Leaving.{is_live_as}
-use Rattle.mt_machine.specs.Environment.{Environment}
-use Rattle.mt_machine.specs.State.{State}
-use Rattle.mt_marks.specs.Remembered.{ToldTalk, remembered, told_among}
-use Rattle.mt_runs.specs.Course.{Going}
-use Rattle.mt_runs.specs.Isolation.{is_talk_among, own_part, talks_among}
-use Rattle.mt_runs.specs.Whole.{SessionTalk}
+use Rattle.mt_whole.specs.mt_machine.Environment.{Environment}
+use Rattle.mt_whole.specs.mt_machine.State.{State}
+use Rattle.mt_whole.specs.mt_marks.Remembered.{ToldTalk, remembered, told_among}
+use Rattle.mt_whole.specs.mt_runs.Course.{Going}
+use Rattle.mt_whole.specs.mt_runs.Isolation.{is_talk_among, own_part, talks_among}
+use Rattle.mt_whole.specs.mt_runs.Whole.{SessionTalk}
 use Rattle.mt_play.specs.Remembers.{IsRemembering}
 use Rattle.mt_play.specs.declared.remembering.Remembering.{Remembering}
 

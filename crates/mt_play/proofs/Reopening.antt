@@ -9,14 +9,14 @@ use Rattle.mt_durable.specs.declared.durable.Entry.{Entry}
 use Rattle.mt_grammar.specs.Decoding.{kept_in}
 use Rattle.mt_grammar.specs.Facts.{facts_hold}
 use Rattle.mt_grammar.specs.declared.kept.MapContents.{MapContents}
-use Rattle.mt_lasting.specs.Contents.{durable}
-use Rattle.mt_lasting.specs.Laws.{MapsAreMaps}
-use Rattle.mt_ledger.specs.Ledger.{Ledger, opened_at}
-use Rattle.mt_machine.specs.Environment.{Environment, given_by}
-use Rattle.mt_machine.specs.Laws.{OpensValid}
-use Rattle.mt_machine.specs.Opened as machine
-use Rattle.mt_machine.specs.Rollback.{rollback}
-use Rattle.mt_machine.specs.State.{IsValid, State}
+use Rattle.mt_whole.specs.mt_lasting.Contents.{durable}
+use Rattle.mt_whole.specs.mt_lasting.Laws.{MapsAreMaps}
+use Rattle.mt_whole.specs.mt_ledger.Ledger.{Ledger, opened_at}
+use Rattle.mt_whole.specs.mt_machine.Environment.{Environment, given_by}
+use Rattle.mt_whole.specs.mt_machine.Laws.{OpensValid}
+use Rattle.mt_whole.specs.mt_machine.Opened as machine
+use Rattle.mt_whole.specs.mt_machine.Rollback.{rollback}
+use Rattle.mt_whole.specs.mt_machine.State.{IsValid, State}
 use Rattle.mt_model.specs.declared.node.state.NodeState.{NodeState}
 use Rattle.mt_model.specs.declared.texts.config.Config.{Config}
 use Rattle.mt_model.specs.declared.texts.config.CsrRow.{CsrRow}
@@ -26,19 +26,19 @@ use Rattle.mt_model.specs.declared.texts.config.SessionRow.{SessionRow}
 use Rattle.mt_model.specs.declared.texts.recording.Event.{Event}
 use Rattle.mt_model.specs.texts.Contents.{Contents, contents_of}
 use Rattle.mt_outside.specs.MemoryDisk.{DiskState}
-use Rattle.mt_regained.specs.Begun.{boot_in, ceiling_in, first_change}
-use Rattle.mt_regained.specs.Regained.{state_of}
-use Rattle.mt_regained.specs.Reopened.{NewNodesBegin, new_map, reopened_map}
-use Rattle.mt_regained.specs.Reopening.{ReopensValid, reopened_node}
-use Rattle.mt_regained.specs.Rolled.{ceiling_of, rolled_if, rolled_map_of}
-use Rattle.mt_runs.specs.Course.{Going, surviving, survives}
-use Rattle.mt_runs.specs.Laws.{StopsLeaveAll}
-use Rattle.mt_runs.specs.Lines.{next}
-use Rattle.mt_runs.specs.Reopening as runs
-use Rattle.mt_runs.specs.Reopening.{reopened}
-use Rattle.mt_runs.specs.Whole.{Whole}
-use Rattle.mt_interactions.specs.Configured.{ConfiguredInteractions, IsFirst, IsStarted, given_to}
-use Rattle.mt_interactions.specs.Plan.{applied_ledger, applied_state}
+use Rattle.mt_whole.specs.mt_regained.Begun.{boot_in, ceiling_in, first_change}
+use Rattle.mt_whole.specs.mt_regained.Regained.{state_of}
+use Rattle.mt_whole.specs.mt_regained.Reopened.{NewNodesBegin, new_map, reopened_map}
+use Rattle.mt_whole.specs.mt_regained.Reopening.{ReopensValid, reopened_node}
+use Rattle.mt_whole.specs.mt_regained.Rolled.{ceiling_of, rolled_if, rolled_map_of}
+use Rattle.mt_whole.specs.mt_runs.Course.{Going, surviving, survives}
+use Rattle.mt_whole.specs.mt_runs.Laws.{StopsLeaveAll}
+use Rattle.mt_whole.specs.mt_runs.Lines.{next}
+use Rattle.mt_whole.specs.mt_runs.Reopening as runs
+use Rattle.mt_whole.specs.mt_runs.Reopening.{reopened}
+use Rattle.mt_whole.specs.mt_runs.Whole.{Whole}
+use Rattle.mt_whole.specs.mt_interactions.Configured.{ConfiguredInteractions, IsFirst, IsStarted, given_to}
+use Rattle.mt_whole.specs.mt_interactions.Plan.{applied_ledger, applied_state}
 use Rattle.mt_whole.specs.Plan.{whole_from}
 use Rattle.mt_whole.specs.Talks.{IsWholeOf}
 use Rattle.mt_whole.specs.declared.outcome.WholeOutcome.{WholeOutcome}

@@ -4,13 +4,13 @@ use Rattle.std.specs.Prelude.{Option, Some, None, IfSome, is_some, not}
 use Rattle.std.specs.List.{list_any}
 use Rattle.mt_model.specs.declared.texts.recording.Event.{Event}
 use Rattle.mt_model.specs.declared.texts.recording.Event.TheVariants as events
-use Rattle.mt_machine.specs.Environment.{Environment}
-use Rattle.mt_runs.specs.Laws.{StopsLeaveAll}
-use Rattle.mt_runs.specs.Lines.{is_stop, next, talks_behind}
-use Rattle.mt_runs.specs.Whole.{SessionTalk, Whole, without_ended}
-use Rattle.mt_marks.specs.Noted.{noted_if}
-use Rattle.mt_marks.specs.Remembered.{ToldTalk, remembered, told_without_ended}
-use Rattle.mt_marks.specs.declared.shown.Note.{Note}
+use Rattle.mt_whole.specs.mt_machine.Environment.{Environment}
+use Rattle.mt_whole.specs.mt_runs.Laws.{StopsLeaveAll}
+use Rattle.mt_whole.specs.mt_runs.Lines.{is_stop, next, talks_behind}
+use Rattle.mt_whole.specs.mt_runs.Whole.{SessionTalk, Whole, without_ended}
+use Rattle.mt_whole.specs.mt_marks.Noted.{noted_if}
+use Rattle.mt_whole.specs.mt_marks.Remembered.{ToldTalk, remembered, told_without_ended}
+use Rattle.mt_whole.specs.mt_marks.declared.shown.Note.{Note}
 use Rattle.mt_whole.specs.Laws.{TalksLetGoWhatCloses}
 use Rattle.mt_whole.specs.Plan.{IsPlan, IsPlanned}
 use Rattle.mt_whole.specs.declared.outcome.WholeOutcome.{WholeOutcome}

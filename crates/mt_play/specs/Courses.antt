@@ -3,7 +3,7 @@ use Rattle.std.specs.Prelude.{◌≡◌, ◌≤◌, Bool, Option}
 use Rattle.std.specs.Option.{option_map}
 use Rattle.mt_model.specs.declared.texts.recording.Event.{Event}
 use Rattle.mt_model.specs.declared.texts.recording.Event.TheVariants as events
-use Rattle.mt_runs.specs.Course.{Course, Stop, course_of_line, course_of_stop, goes, stops, survives}
+use Rattle.mt_whole.specs.mt_runs.Course.{Course, Stop, course_of_line, course_of_stop, goes, stops, survives}
 use Rattle.mt_play.specs.declared.course.ComingStop.{ComingStop}
 use Rattle.mt_play.specs.declared.course.Course as code
 use Rattle.mt_play.specs.declared.course.Course.TheVariants as codes

@@ -1,23 +1,23 @@
 -- For which written run on its way a node stands that plays, and what a line makes of it.
 use Rattle.std.specs.Prelude.{◌≡◌, ◌≢◌, ◌<◌, ◌≤◌, ◌^◌, ℕ, Bool, true, false, not, List, [], ◌∷◌, Option, Some, None, IfSome, is_some, if◌then◌else◌}
 use Rattle.mt_durable.specs.declared.durable.Entry.{Entry}
-use Rattle.mt_lasting.specs.Contents.{durable}
+use Rattle.mt_whole.specs.mt_lasting.Contents.{durable}
 use Rattle.mt_model.specs.declared.node.state.NodeState.{NodeState}
 use Rattle.mt_model.specs.declared.texts.config.Config.{Config}
 use Rattle.mt_model.specs.declared.texts.config.SessionRow.{SessionRow}
 use Rattle.mt_model.specs.declared.texts.recording.Event.{Event}
 use Rattle.mt_model.specs.declared.texts.recording.Sent.{Sent}
 use Rattle.mt_model.specs.texts.Contents.{contents_of}
-use Rattle.mt_machine.specs.Environment.{Environment, given_by}
-use Rattle.mt_machine.specs.State.{IsValid}
-use Rattle.mt_regained.specs.Begun.{MayStart, boot_in, next_boot}
-use Rattle.mt_regained.specs.Begun as begun
-use Rattle.mt_regained.specs.Reopening.{reopened_node}
-use Rattle.mt_runs.specs.Course.{Going, Stop, course, going_on, stepped, surviving, survives}
-use Rattle.mt_runs.specs.Lines.{is_stop, next, sent}
-use Rattle.mt_runs.specs.Messages.{sent_on_way}
-use Rattle.mt_runs.specs.Reopening.{reopened}
-use Rattle.mt_interactions.specs.Plan.{applied_ledger, applied_state}
+use Rattle.mt_whole.specs.mt_machine.Environment.{Environment, given_by}
+use Rattle.mt_whole.specs.mt_machine.State.{IsValid}
+use Rattle.mt_whole.specs.mt_regained.Begun.{MayStart, boot_in, next_boot}
+use Rattle.mt_whole.specs.mt_regained.Begun as begun
+use Rattle.mt_whole.specs.mt_regained.Reopening.{reopened_node}
+use Rattle.mt_whole.specs.mt_runs.Course.{Going, Stop, course, going_on, stepped, surviving, survives}
+use Rattle.mt_whole.specs.mt_runs.Lines.{is_stop, next, sent}
+use Rattle.mt_whole.specs.mt_runs.Messages.{sent_on_way}
+use Rattle.mt_whole.specs.mt_runs.Reopening.{reopened}
+use Rattle.mt_whole.specs.mt_interactions.Plan.{applied_ledger, applied_state}
 use Rattle.mt_whole.specs.Plan.{IsPlan, IsPlanned, given_to, whole_from}
 use Rattle.mt_whole.specs.Talks.{IsWholeOf}
 use Rattle.mt_whole.specs.declared.outcome.WholeOutcome.{WholeOutcome}

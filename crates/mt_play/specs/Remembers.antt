@@ -3,10 +3,10 @@ use Rattle.std.specs.Prelude.{◌≡◌, List, Option, Some, None, map}
 use Rattle.mt_model.specs.declared.texts.config.SessionRow.{SessionRow}
 use Rattle.mt_model.specs.declared.texts.recording.Event.{Event}
 use Rattle.mt_model.specs.declared.texts.recording.Sent.{Sent}
-use Rattle.mt_machine.specs.Environment.{Environment}
-use Rattle.mt_runs.specs.Course.{Going, stepped}
-use Rattle.mt_runs.specs.Messages.{sent_on_way}
-use Rattle.mt_marks.specs.Remembered.{ToldTalk, remembered, told_without_ended}
+use Rattle.mt_whole.specs.mt_machine.Environment.{Environment}
+use Rattle.mt_whole.specs.mt_runs.Course.{Going, stepped}
+use Rattle.mt_whole.specs.mt_runs.Messages.{sent_on_way}
+use Rattle.mt_whole.specs.mt_marks.Remembered.{ToldTalk, remembered, told_without_ended}
 use Rattle.mt_whole.specs.declared.outcome.WholeOutcome.{WholeOutcome}
 use Rattle.mt_play.specs.Plays.{IsPlaying}
 use Rattle.mt_play.specs.declared.remembering.Remembering.{Remembering}

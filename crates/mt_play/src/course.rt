@@ -2,7 +2,7 @@
 
 ghost use Rattle.std.specs.Prelude.{◌≡◌};
 ghost use Rattle.std.specs.Option.{option_map};
-ghost use Rattle.mt_runs.specs.Course.{course_of_line, course_of_stop, is_kept};
+ghost use Rattle.mt_whole.specs.mt_runs.Course.{course_of_line, course_of_stop, is_kept};
 ghost use Rattle.mt_play.specs.Courses.{IsTold, course_in, stop_in};
 
 use mt_outside::Fate;

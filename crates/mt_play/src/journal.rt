@@ -9,7 +9,7 @@ ghost use Rattle.mt_durable.specs.declared.durable.Entry.{Entry};
 ghost use Rattle.mt_grammar.specs.Grammar.{is_in_grammar};
 ghost use Rattle.mt_keeping.specs.Laws.{MayCommit};
 ghost use Rattle.mt_keeping.specs.States.{told_map};
-ghost use Rattle.mt_regained.specs.Begun.{boot_in, ceiling_in};
+ghost use Rattle.mt_whole.specs.mt_regained.Begun.{boot_in, ceiling_in};
 ghost use Rattle.mt_store.specs.Leading.{map_left};
 ghost use Rattle.mt_play.specs.Journal.{IsReady, Keeps, Rests};
 

@@ -15,5 +15,6 @@ mod playing;
 mod remembering;
 
 pub use course::{ComingStop, Course};
+pub use mt_whole::{mt_marks, mt_runs};
 pub use playing::{Planned, Playing};
 pub use remembering::Remembering;

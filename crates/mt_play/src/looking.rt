@@ -3,26 +3,26 @@
 ghost use Rattle.std.specs.Prelude.{◌≡◌, ◌↔◌, IfOk, IsTrue, List, map, option_copied};
 ghost use Rattle.std.specs.Option.{option_map};
 ghost use Rattle.mt_model.specs.declared.texts.config.SessionRow.{SessionRow};
-ghost use Rattle.mt_machine.specs.Environment.{Environment};
-ghost use Rattle.mt_machine.specs.State.{is_member};
-ghost use Rattle.mt_runs.specs.Lines.{fabric_of, talks_behind};
-ghost use Rattle.mt_runs.specs.Course.{Going};
-ghost use Rattle.mt_runs.specs.Isolation.{public_part};
-ghost use Rattle.mt_runs.specs.Marks.{seen};
-ghost use Rattle.mt_runs.specs.Whole.{Whole as Told, fabric_live};
-ghost use Rattle.mt_marks.specs.Noted.{noted_if};
-ghost use Rattle.mt_marks.specs.Remembered.{remembered};
-ghost use Rattle.mt_marks.specs.Seen.{seen_in};
+ghost use Rattle.mt_whole.specs.mt_machine.Environment.{Environment};
+ghost use Rattle.mt_whole.specs.mt_machine.State.{is_member};
+ghost use Rattle.mt_whole.specs.mt_runs.Lines.{fabric_of, talks_behind};
+ghost use Rattle.mt_whole.specs.mt_runs.Course.{Going};
+ghost use Rattle.mt_whole.specs.mt_runs.Isolation.{public_part};
+ghost use Rattle.mt_whole.specs.mt_runs.Marks.{seen};
+ghost use Rattle.mt_whole.specs.mt_runs.Whole.{Whole as Told, fabric_live};
+ghost use Rattle.mt_whole.specs.mt_marks.Noted.{noted_if};
+ghost use Rattle.mt_whole.specs.mt_marks.Remembered.{remembered};
+ghost use Rattle.mt_whole.specs.mt_marks.Seen.{seen_in};
 ghost use Rattle.mt_whole.specs.Plan.{given_to};
 ghost use Rattle.mt_whole.specs.Seeing.{mark_of, own_standing};
 ghost use Rattle.mt_whole.specs.Talks.{IsWholeOf};
 ghost use Rattle.mt_play.specs.Plays.{IsPlaying};
 
 use crate::playing::Playing;
-use mt_marks::Note;
 use mt_model::{Armed, Event, NodeSession, NodeState};
 use mt_subs::Subs;
 use mt_whole::Mark;
+use mt_whole::mt_marks::Note;
 use std::alloc::AllocError;
 
 impl<'a> Playing<'a> {

@@ -1,16 +1,16 @@
 //! A node on its journal that plays the lines of a recording.
 
 ghost use Rattle.std.specs.Prelude.{◌≡◌, ◌≤◌, ◌^◌, ℕ, List, IfOk, IfSome, OnErr, OnOk, option_copied};
-ghost use Rattle.mt_lasting.specs.Contents.{durable};
+ghost use Rattle.mt_whole.specs.mt_lasting.Contents.{durable};
 ghost use Rattle.mt_model.specs.declared.node.state.NodeState.{NodeState};
 ghost use Rattle.mt_model.specs.declared.texts.config.SessionRow.{SessionRow};
 ghost use Rattle.mt_model.specs.declared.texts.recording.Event.{Event as Line};
 ghost use Rattle.mt_model.specs.texts.Contents.{contents_of};
-ghost use Rattle.mt_machine.specs.Environment.{Environment, given_by};
-ghost use Rattle.mt_machine.specs.State.{IsValid};
-ghost use Rattle.mt_regained.specs.Reopened.{new_map};
-ghost use Rattle.mt_runs.specs.Course.{Going, going_on, survives};
-ghost use Rattle.mt_runs.specs.Whole.{opened};
+ghost use Rattle.mt_whole.specs.mt_machine.Environment.{Environment, given_by};
+ghost use Rattle.mt_whole.specs.mt_machine.State.{IsValid};
+ghost use Rattle.mt_whole.specs.mt_regained.Reopened.{new_map};
+ghost use Rattle.mt_whole.specs.mt_runs.Course.{Going, going_on, survives};
+ghost use Rattle.mt_whole.specs.mt_runs.Whole.{opened};
 ghost use Rattle.mt_whole.specs.Plan.{IsPlanned, IsStarted};
 ghost use Rattle.mt_keeping.specs.States.{told_map};
 ghost use Rattle.mt_play.specs.Courses.{IsTold, coming, course_by, course_in, stop_in};
@@ -20,14 +20,14 @@ ghost use Rattle.mt_play.specs.Plays.{Brings, GoesTo, IsAtRest, IsMade, IsOnJour
 use crate::course::{ComingStop, Course, course_of_line, course_of_stop};
 use crate::journal::{commit, commit_if_any, commit_stopped, counts_one_more};
 use mt_durable::Durable;
-use mt_interactions::commits_lead_on;
 use mt_keeping::{Store, journals_are_recovered, states_are_reopened, states_may_be_committed};
-use mt_lasting::maps_are_maps;
-use mt_machine::states_are_valid;
 use mt_model::{Config, Event, SentList, TableVerdicts};
 use mt_outside::MemDisk;
-use mt_regained::{reopened_nodes_may_start, reopenings_roll_back};
-use mt_runs::{lines_make_calls_where_what_lasts_changes, stops_leave_all};
+use mt_whole::mt_interactions::commits_lead_on;
+use mt_whole::mt_lasting::maps_are_maps;
+use mt_whole::mt_machine::states_are_valid;
+use mt_whole::mt_regained::{reopened_nodes_may_start, reopenings_roll_back};
+use mt_whole::mt_runs::{lines_make_calls_where_what_lasts_changes, stops_leave_all};
 use mt_whole::{Whole, WholeOutcome};
 use std::alloc::{AllocError, Global};
 

@@ -1,3 +1,5 @@
+pub use Rattle.mt_lasting.specs as mt_lasting
+pub use Rattle.mt_steps.specs as mt_steps
 pub mod Begun
 pub mod Laws
 pub mod Regained

@@ -19,6 +19,8 @@ pub use laws::{
     boots_begin_valid, durable_maps_are_kept, maps_go_on_again, reopened_nodes_may_start,
     reopenings_roll_back, reopenings_see_the_own, rollbacks_are_the_last_word, states_are_regained,
 };
+pub use mt_lasting;
+pub use mt_steps;
 pub use opening::next_boot;
 pub use regained::state_from;
 pub use reopened::{new_map, reopened_map};

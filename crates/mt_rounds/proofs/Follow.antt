@@ -6,7 +6,7 @@ use Rattle.mt_outside.specs.declared.network.Arrival.{Arrival}
 use Rattle.mt_outside.specs.declared.network.Arrival.TheVariants.{Datagram, Quiet}
 use Rattle.mt_queue.specs.declared.job.Job.TheVariants.{End}
 use Rattle.mt_receiver.specs.Rounds.{jobs_for, take_jobs, wakes, woken_behind}
-use Rattle.mt_runs.specs.Datagrams.{session_named}
+use Rattle.mt_worker.specs.mt_runs.Datagrams.{session_named}
 use Rattle.mt_worker.specs.Accounts.{Account, Accounts, account_over, all_behind}
 use Rattle.mt_worker.specs.Due.{AreRising, DoesAll, Sweeps, is_in}
 use Rattle.mt_worker.specs.Gots.{Got}

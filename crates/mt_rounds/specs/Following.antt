@@ -4,7 +4,7 @@ use Rattle.mt_outside.specs.Network.{time_of}
 use Rattle.mt_outside.specs.declared.network.Arrival.{Arrival}
 use Rattle.mt_outside.specs.declared.network.Arrival.TheVariants.{Datagram, Quiet}
 use Rattle.mt_receiver.specs.Rounds.{wakes, woken_behind}
-use Rattle.mt_runs.specs.Datagrams.{session_named}
+use Rattle.mt_worker.specs.mt_runs.Datagrams.{session_named}
 use Rattle.mt_worker.specs.Accounts.{Account, account_over}
 use Rattle.mt_worker.specs.Due.{Hears, Wakes}
 use Rattle.mt_worker.specs.Gots.{Got}

@@ -1,8 +1,8 @@
 -- Which lines make calls of the disk: those that change what lasts, and no other.
 use Rattle.std.proofs.Common.{◌≡◌, ◌≢◌, Bool, true, false, List, [], ◌∷◌, refl, ap}
 use Rattle.mt_durable.specs.declared.durable.Entry.{Entry}
-use Rattle.mt_lasting.specs.Changes.{change_between}
-use Rattle.mt_lasting.specs.Laws.{EmptyWhereEqual}
+use Rattle.mt_regained.specs.mt_lasting.Changes.{change_between}
+use Rattle.mt_regained.specs.mt_lasting.Laws.{EmptyWhereEqual}
 use Rattle.mt_model.specs.declared.texts.recording.Event.{Event}
 use Rattle.mt_model.specs.declared.texts.recording.Event.TheVariants as events
 use Rattle.mt_machine.specs.Environment.{Environment}

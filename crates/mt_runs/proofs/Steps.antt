@@ -1,7 +1,7 @@
 -- One line that is carried out: what it sends a fabric, what it leaves that, and which of its lives it ends, is what is made of its marks.
 use Rattle.std.proofs.Common.{◌≡◌, ◌≢◌, ℕ, ◌==◌, ◌&&◌, ◌||◌, not, Bool, true, false, List, [], ◌∷◌, ◌++◌, Option, Some, None, inl, inr, arith, refl, sym, ap, ◌∙◌, map, if◌then◌else◌}
 use Rattle.std.proofs.lemmas.Bool.{cases_Bool, eqb-true, or_parts}
-use Rattle.mt_lasting.specs.Laws.{ActionsKeepTheBoot}
+use Rattle.mt_regained.specs.mt_lasting.Laws.{ActionsKeepTheBoot}
 use Rattle.mt_model.specs.declared.texts.config.SessionRow.{SessionRow}
 use Rattle.mt_model.specs.declared.texts.recording.Event.{Event}
 use Rattle.mt_model.specs.declared.texts.recording.Event.TheVariants as events

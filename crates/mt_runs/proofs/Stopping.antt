@@ -5,7 +5,7 @@ use Rattle.std.proofs.lemmas.Bool.{and_parts, cases_Bool, not-true}
 use Rattle.mt_fabrics.specs.Table.{has_index, is_used}
 use Rattle.mt_failsafe.specs.Notes.{was_added}
 use Rattle.mt_im.specs.Reading.{request_in}
-use Rattle.mt_lasting.specs.Laws.{ActionsKeepTheBoot}
+use Rattle.mt_regained.specs.mt_lasting.Laws.{ActionsKeepTheBoot}
 use Rattle.mt_ledger.specs.Behind.{action_in}
 use Rattle.mt_model.specs.declared.node.action.Action.TheVariants as actions
 use Rattle.mt_model.specs.declared.tables.fabric.Credentials.{Credentials}

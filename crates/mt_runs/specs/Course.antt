@@ -2,7 +2,7 @@
 -- survives.
 use Rattle.std.specs.Prelude.{ℕ, ◌-◌, ◌==◌, nat_le, Bool, true, false, List, [], ◌∷◌, Option, Some, None, if◌then◌else◌}
 use Rattle.mt_durable.specs.declared.durable.Entry.{Entry}
-use Rattle.mt_lasting.specs.Changes.{change_between}
+use Rattle.mt_regained.specs.mt_lasting.Changes.{change_between}
 use Rattle.mt_model.specs.declared.texts.config.SessionRow.{SessionRow}
 use Rattle.mt_model.specs.declared.texts.recording.Event.{Event}
 use Rattle.mt_model.specs.declared.texts.recording.Event.TheVariants as events

@@ -2,7 +2,7 @@
 use Rattle.std.specs.Prelude.{◌≡◌, ◌≢◌, ◌+◌, ◌≤◌, ◌^◌, ◌&&◌, ℕ, true, false, not, List, [], Some, length, map}
 use Rattle.std.specs.List.{list_all}
 use Rattle.mt_failsafe.specs.Notes.{was_added}
-use Rattle.mt_lasting.specs.Contents.{durable, kept_of}
+use Rattle.mt_regained.specs.mt_lasting.Contents.{durable, kept_of}
 use Rattle.mt_model.specs.texts.Config.{are_sessions}
 use Rattle.mt_model.specs.declared.texts.config.SessionRow.{SessionRow}
 use Rattle.mt_model.specs.declared.texts.recording.Event.{Event}

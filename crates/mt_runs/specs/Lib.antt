@@ -1,3 +1,5 @@
+pub use Rattle.mt_ledger.specs as mt_ledger
+pub use Rattle.mt_machine.specs as mt_machine
 pub mod Course
 pub mod Datagrams
 pub mod Expiries

@@ -1,6 +1,6 @@
 -- Reopenings in lines: whatever line the disk stops in, the node behind it is the next boot of what was kept, rolled back.
 use Rattle.std.specs.Prelude.{◌≡◌, ◌+◌, Bool, List, Some}
-use Rattle.mt_lasting.specs.Contents.{kept_of}
+use Rattle.mt_regained.specs.mt_lasting.Contents.{kept_of}
 use Rattle.mt_model.specs.declared.texts.config.SessionRow.{SessionRow}
 use Rattle.mt_model.specs.declared.texts.recording.Event.{Event}
 use Rattle.mt_opcreds.specs.Laws.{KeepsRules}

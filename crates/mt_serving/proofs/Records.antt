@@ -6,9 +6,9 @@ use Rattle.mt_files.specs.Lines.{ended}
 use Rattle.mt_model.specs.declared.texts.recording.Event.{Event}
 use Rattle.mt_outside.specs.Laws.{StreamLaws}
 use Rattle.mt_outside.specs.Stream.{Took, TookLess, one_more}
-use Rattle.mt_shared.specs.Book.{lines_in, onto_lines}
-use Rattle.mt_shared.specs.declared.entry.Entry.{Entry}
-use Rattle.mt_shared.specs.declared.entry.Stop.{Stop}
+use Rattle.mt_starting.specs.mt_shared.Book.{lines_in, onto_lines}
+use Rattle.mt_starting.specs.mt_shared.declared.entry.Entry.{Entry}
+use Rattle.mt_starting.specs.mt_shared.declared.entry.Stop.{Stop}
 use Rattle.mt_serving.specs.Record.{TookFront, Writes, event_lines}
 use Rattle.mt_serving.specs.declared.recording.RecordFault.{RecordFault}
 use Rattle.mt_serving.specs.declared.recording.RecordFault.TheVariants.{Memory, Write}

@@ -1,10 +1,10 @@
 -- What a node was served for, from its disk to its record.
 use Rattle.std.specs.Prelude.{◌≡◌, ℕ, true, List, Option}
-use Rattle.mt_interactions.specs.Configured.{ConfiguredInteractions}
+use Rattle.mt_starting.specs.mt_interactions.Configured.{ConfiguredInteractions}
 use Rattle.mt_model.specs.declared.texts.config.Config.{Config}
 use Rattle.mt_outside.specs.Stream.{Took}
-use Rattle.mt_shared.specs.Book.{is_timed}
-use Rattle.mt_shared.specs.declared.entry.Entry.{Entry}
+use Rattle.mt_starting.specs.mt_shared.Book.{is_timed}
+use Rattle.mt_starting.specs.mt_shared.declared.entry.Entry.{Entry}
 use Rattle.mt_starting.specs.Starts.{IsStartedOn}
 use Rattle.mt_serving.specs.Record.{record_of}
 

@@ -2,13 +2,13 @@
 
 ghost use Rattle.std.specs.Prelude.{◌≡◌, ◌∷◌, [], IfOk};
 ghost use Rattle.mt_files.specs.Event.{at_time};
-ghost use Rattle.mt_shared.specs.Book.{lines_in};
+ghost use Rattle.mt_starting.specs.mt_shared.Book.{lines_in};
 ghost use Rattle.mt_serving.specs.Record.{Writes, event_lines, record_of};
 
 use mt_files::write_event;
 use mt_model::{Event, ExactCopy};
 use mt_outside::{Sink, write_all, writings_add_up};
-use mt_shared::Entry;
+use mt_starting::mt_shared::Entry;
 use std::alloc::{AllocError, Global};
 
 /// Why a record is not written whole.

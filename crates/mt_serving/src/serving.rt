@@ -10,7 +10,7 @@ use crate::recording::{RecordFault, write_record};
 use mt_crew::{reserve, run};
 use mt_model::Config;
 use mt_outside::{Disk, Gate, Intake, Outlet, Progress, Sink};
-use mt_shared::{Entry, SharedNode};
+use mt_starting::mt_shared::{Entry, SharedNode};
 use mt_starting::{Started, start_on};
 use std::alloc::Global;
 use std::sync::Wait;

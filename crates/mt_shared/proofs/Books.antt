@@ -2,8 +2,8 @@
 use Rattle.std.proofs.Common.{◌≡◌, ◌∙◌, refl, sym, ap, subst, ℕ, ◌+◌, max, Bool, true, false, cond, true≢false, List, [], ◌∷◌, ◌++◌, length, Option, Some, None, slice_get, arith, eq-eqb, length-append}
 use Rattle.std.specs.Prelude.{◌==◌, is_some}
 use Rattle.mt_outside.specs.Stream.{one_more}
-use Rattle.mt_machine.specs.State.{State}
-use Rattle.mt_ledger.specs.Ledger.{Ledger}
+use Rattle.mt_interactions.specs.mt_machine.State.{State}
+use Rattle.mt_interactions.specs.mt_ledger.Ledger.{Ledger}
 use Rattle.mt_interactions.specs.Configured.{ConfiguredInteractions, behind}
 use Rattle.mt_shared.specs.Book.{asked, done, failed, first_of, is_timed, last_time, stop_in}
 use Rattle.mt_shared.specs.Replay.{answer_at, next, replay, told}

@@ -4,13 +4,13 @@ use Rattle.std.specs.Prelude.{◌==◌, OnErr, OnOk, Result, Ok, Err}
 use Rattle.mt_durable.specs.Keeping.{Committed, HasRoom, IsAdmitted, IsChange, WasOrCommitted}
 use Rattle.mt_durable.specs.Reading.{Says}
 use Rattle.mt_durable.specs.declared.durable.Entry.{Entry}
-use Rattle.mt_lasting.specs.Changes.{change_between}
-use Rattle.mt_lasting.specs.Contents.{durable}
-use Rattle.mt_lasting.specs.Laws.{MapsAreMaps}
-use Rattle.mt_ledger.specs.Ledger.{Ledger}
-use Rattle.mt_machine.specs.State.{State}
+use Rattle.mt_interactions.specs.mt_lasting.Changes.{change_between}
+use Rattle.mt_interactions.specs.mt_lasting.Contents.{durable}
+use Rattle.mt_interactions.specs.mt_lasting.Laws.{MapsAreMaps}
+use Rattle.mt_interactions.specs.mt_ledger.Ledger.{Ledger}
+use Rattle.mt_interactions.specs.mt_machine.State.{State}
 use Rattle.mt_model.specs.declared.node.state.NodeState.{NodeState}
-use Rattle.mt_node.specs.Plan.{applied}
+use Rattle.mt_interactions.specs.mt_node.Plan.{applied}
 use Rattle.mt_interactions.specs.Committing.{CommitsLeadOn, LeadsOn}
 use Rattle.mt_interactions.specs.Plan.{IsPlanned, applied_history}
 use Rattle.mt_interactions.specs.declared.outcome.InteractionOutcome.{InteractionOutcome}

@@ -1,6 +1,6 @@
 -- A planned deed, where what is given is what the configuration gives.
 use Rattle.std.proofs.Common.{◌≡◌, ◌∙◌, ap, subst, sym, ℕ, List}
-use Rattle.mt_machine.specs.Environment.{Environment, given_by}
+use Rattle.mt_interactions.specs.mt_machine.Environment.{Environment, given_by}
 use Rattle.mt_model.specs.declared.texts.config.CsrRow.{CsrRow}
 use Rattle.mt_model.specs.declared.texts.config.JoinRow.{JoinRow}
 use Rattle.mt_model.specs.declared.texts.config.RootRow.{RootRow}

@@ -1,10 +1,10 @@
 -- What a book replays to, from the node with which it began: the node behind its entries, and what each of them was answered.
 use Rattle.std.specs.Prelude.{ℕ, List, [], ◌∷◌, Option, Some, None}
 use Rattle.mt_durable.specs.declared.durable.Entry as kept
-use Rattle.mt_lasting.specs.Contents.{durable}
-use Rattle.mt_ledger.specs.Behind.{Activity, action_in, ledger_behind}
-use Rattle.mt_machine.specs.Environment.{Environment, given_by}
-use Rattle.mt_machine.specs.Lines.{behind_action}
+use Rattle.mt_interactions.specs.mt_lasting.Contents.{durable}
+use Rattle.mt_interactions.specs.mt_ledger.Behind.{Activity, action_in, ledger_behind}
+use Rattle.mt_interactions.specs.mt_machine.Environment.{Environment, given_by}
+use Rattle.mt_interactions.specs.mt_machine.Lines.{behind_action}
 use Rattle.mt_model.specs.declared.messages.message.Reply.TheVariants as replies
 use Rattle.mt_interactions.specs.Configured.{ConfiguredInteractions, behind}
 use Rattle.mt_interactions.specs.Deeds.{activity_at, closed_with, fabric_at, replied}

@@ -9,9 +9,9 @@ ghost use Rattle.mt_shared.specs.Acts.{AdmitsStates};
 ghost use Rattle.mt_shared.specs.Replay.{map_of};
 
 use mt_durable::Keeper;
+use mt_interactions::mt_lasting::maps_are_maps;
 use mt_interactions::{InteractionOutcome, Interactions, commits_lead_on};
 use mt_keeping::states_may_be_committed;
-use mt_lasting::maps_are_maps;
 use mt_outside::Failed;
 
 /// Commits what an outcome that was planned on a node changes of what lasts, where it changes something. The keeper has the map of

@@ -22,4 +22,7 @@ mod shared;
 pub use crossing::shared_nodes_are_lent;
 pub use entry::{ActFault, Answer, Call, Entry, Stamped, Stop};
 pub use held::Held;
+pub use mt_interactions;
+pub use mt_interactions::{mt_machine, mt_regained, mt_runs};
+pub use mt_keeping;
 pub use shared::{NodePass, SharedNode};

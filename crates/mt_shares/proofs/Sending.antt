@@ -4,17 +4,17 @@ use Rattle.std.specs.Prelude.{◌==◌, ◌%◌, filter, if◌then◌else◌}
 use Rattle.std.proofs.lemmas.List.Elements.{filter-append}
 use mathlib.Core.Logic.{dite}
 use native.Mathlib.Decide.{ℕ_discrete}
-use Rattle.mt_layer.specs.Saying.{if_live}
+use Rattle.mt_worker.specs.mt_layer.Saying.{if_live}
 use Rattle.mt_model.specs.declared.texts.recording.Event.{Event}
 use Rattle.mt_model.specs.declared.texts.recording.Event.TheVariants.{Ask, Datagram, Report, Resend, Stop as StopLine, Tick}
 use Rattle.mt_model.specs.declared.texts.recording.Sent.{Sent}
 use Rattle.mt_model.specs.declared.texts.recording.To.{To}
 use Rattle.mt_model.specs.declared.texts.recording.To.TheVariants.{Session, Plain}
 use Rattle.mt_outside.specs.declared.network.Peer.{Peer}
-use Rattle.mt_runs.specs.Datagrams as runs
-use Rattle.mt_shared.specs.Replay.{unless_stopped}
-use Rattle.mt_shared.specs.declared.entry.Answer.{Answer}
-use Rattle.mt_shared.specs.declared.entry.Stop.{Stop}
+use Rattle.mt_worker.specs.mt_runs.Datagrams as runs
+use Rattle.mt_worker.specs.mt_shared.Replay.{unless_stopped}
+use Rattle.mt_worker.specs.mt_shared.declared.entry.Answer.{Answer}
+use Rattle.mt_worker.specs.mt_shared.declared.entry.Stop.{Stop}
 use Rattle.mt_worker.specs.Accounts.{Account, Accounts, account_behind, all_sent, behind, sent_by, sent_in, standing_behind, talk_in}
 use Rattle.mt_worker.specs.Gots.{Each, Got, Told}
 use Rattle.mt_worker.specs.Made.{AreTicks, IsTick}

@@ -9,20 +9,20 @@ use Rattle.mt_durable.specs.declared.durable.Entry.{Entry}
 use Rattle.mt_grammar.specs.Decoding.{kept_in}
 use Rattle.mt_grammar.specs.Facts.{facts_hold}
 use Rattle.mt_grammar.specs.declared.kept.MapContents.{MapContents}
-use Rattle.mt_interactions.specs.Configured.{ConfiguredInteractions, IsFirst, IsStarted}
-use Rattle.mt_keeping.specs.Laws.{BeginsReopened, FirstChangesAreSaid, MayCommit, StatesAreReopened, StatesHaveMaps, StatesMayBeCommitted}
-use Rattle.mt_lasting.specs.Contents.{durable, kept_of}
-use Rattle.mt_ledger.specs.Ledger.{Ledger, opened_at}
-use Rattle.mt_machine.specs.State.{IsValid}
+use Rattle.mt_shared.specs.mt_interactions.Configured.{ConfiguredInteractions, IsFirst, IsStarted}
+use Rattle.mt_shared.specs.mt_keeping.Laws.{BeginsReopened, FirstChangesAreSaid, MayCommit, StatesAreReopened, StatesHaveMaps, StatesMayBeCommitted}
+use Rattle.mt_shared.specs.mt_lasting.Contents.{durable, kept_of}
+use Rattle.mt_shared.specs.mt_ledger.Ledger.{Ledger, opened_at}
+use Rattle.mt_shared.specs.mt_machine.State.{IsValid}
 use Rattle.mt_model.specs.declared.node.state.NodeState.{NodeState}
 use Rattle.mt_model.specs.declared.texts.config.Config.{Config}
 use Rattle.mt_model.specs.texts.Contents.{Contents, contents_of}
-use Rattle.mt_regained.specs.Begun.{MayStart, boot_in, ceiling_in, first_change, next_boot}
-use Rattle.mt_regained.specs.Laws.{DurableIsKept, IsKeptIn, KeptAgain, StatesAreValid, is_of_bytes}
-use Rattle.mt_regained.specs.Regained.{state_of}
-use Rattle.mt_regained.specs.Reopened.{reopened_map}
-use Rattle.mt_regained.specs.Reopening.{ReopensValid, reopened_node}
-use Rattle.mt_regained.specs.Rolled.{ceiling_of, rolled_if, rolled_map, rolled_map_of}
+use Rattle.mt_shared.specs.mt_regained.Begun.{MayStart, boot_in, ceiling_in, first_change, next_boot}
+use Rattle.mt_shared.specs.mt_regained.Laws.{DurableIsKept, IsKeptIn, KeptAgain, StatesAreValid, is_of_bytes}
+use Rattle.mt_shared.specs.mt_regained.Regained.{state_of}
+use Rattle.mt_shared.specs.mt_regained.Reopened.{reopened_map}
+use Rattle.mt_shared.specs.mt_regained.Reopening.{ReopensValid, reopened_node}
+use Rattle.mt_shared.specs.mt_regained.Rolled.{ceiling_of, rolled_if, rolled_map, rolled_map_of}
 use Rattle.mt_starting.specs.Starts.{HasRoom}
 
 some_same : {X : Type 0} (a b : X) → Some a ≡ Some b → a ≡ b
@@ -64,7 +64,7 @@ module _ (reopen : StatesAreReopened) (reopens : ReopensValid) (valid : StatesAr
   low : ceiling_of its.kept ≤ 2 ^ 62
   low =
       let bound : ceiling_in found ≤ 2 ^ 61 = may.ceiling in
-      let same : ceiling_in found ≡ ceiling_of its.kept = ap (λ (read : Option MapContents). Rattle.mt_regained.specs.Begun.ceiling_if read) its.read in
+      let same : ceiling_in found ≡ ceiling_of its.kept = ap (λ (read : Option MapContents). Rattle.mt_shared.specs.mt_regained.Begun.ceiling_if read) its.read in
       omega arith
 
   rolls : reopened_map (contents_of config) (durable before (ceiling_of its.kept)) ≡ Some found

@@ -2,11 +2,11 @@
 use Rattle.std.proofs.Common.{◌≡◌, ℕ, List}
 use Rattle.std.specs.Prelude.{IfErr, IfOk, Result, Ok, Err}
 use Rattle.mt_durable.specs.declared.durable.Entry.{Entry}
-use Rattle.mt_interactions.specs.Configured.{ConfiguredInteractions}
+use Rattle.mt_shared.specs.mt_interactions.Configured.{ConfiguredInteractions}
 use Rattle.mt_journal.specs.Recovering.{FaultHasCause, HasPlace}
 use Rattle.mt_journal.specs.declared.reading.JournalFault.{JournalFault}
 use Rattle.mt_journal.specs.declared.reading.JournalFault.TheVariants as journals
-use Rattle.mt_keeping.specs.Recovered.{recovered}
+use Rattle.mt_shared.specs.mt_keeping.Recovered.{recovered}
 use Rattle.mt_model.specs.declared.texts.config.Config.{Config}
 use Rattle.mt_model.specs.texts.Contents.{contents_of}
 use Rattle.mt_starting.specs.Starts.{HasFailedFor, IsBegunWith, IsRecovered, IsStartCause, IsStartedOn, IsWornCause, fault_of}

@@ -1,14 +1,14 @@
 -- With which node a disk starts, and why it may not.
 use Rattle.std.specs.Prelude.{◌≡◌, ◌<◌, ◌≤◌, ◌^◌, ℕ, List, Some, Ok, Err, ⊤}
 use Rattle.mt_durable.specs.declared.durable.Entry.{Entry}
-use Rattle.mt_interactions.specs.Configured.{ConfiguredInteractions, IsStarted}
+use Rattle.mt_shared.specs.mt_interactions.Configured.{ConfiguredInteractions, IsStarted}
 use Rattle.mt_journal.specs.declared.reading.JournalFault.{JournalFault}
 use Rattle.mt_journal.specs.declared.reading.JournalFault.TheVariants as journals
-use Rattle.mt_keeping.specs.Recovered.{recovered}
+use Rattle.mt_shared.specs.mt_keeping.Recovered.{recovered}
 use Rattle.mt_model.specs.declared.texts.config.Config.{Config}
 use Rattle.mt_model.specs.texts.Contents.{contents_of}
 use Rattle.mt_outside.specs.Stream.{one_more}
-use Rattle.mt_regained.specs.Begun.{boot_in, ceiling_in}
+use Rattle.mt_shared.specs.mt_regained.Begun.{boot_in, ceiling_in}
 use Rattle.mt_starting.specs.declared.starting.StartFault.{StartFault}
 use Rattle.mt_starting.specs.declared.starting.StartFault.TheVariants.{Disk, NotAJournal, Worn, Memory}
 

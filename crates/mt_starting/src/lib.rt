@@ -5,4 +5,5 @@
 
 mod starting;
 
+pub use mt_shared;
 pub use starting::{StartFault, Started, start_on};

@@ -4,23 +4,23 @@ ghost use Rattle.std.specs.Prelude.{◌≡◌, ◌↔◌, ℕ, List, Some, false
 ghost use Rattle.std.specs.Coded.{codes};
 ghost use Rattle.std.specs.List.{list_all};
 ghost use Rattle.mt_tlv.specs.contracts.value.Value as values;
-ghost use Rattle.mt_machine.specs.State.{IsValid};
+ghost use Rattle.mt_shared.specs.mt_machine.State.{IsValid};
 ghost use Rattle.mt_model.specs.texts.Contents.{contents_of};
-ghost use Rattle.mt_regained.specs.Laws.{is_of_bytes};
-ghost use Rattle.mt_regained.specs.Reopened.{reopened_map};
+ghost use Rattle.mt_shared.specs.mt_regained.Laws.{is_of_bytes};
+ghost use Rattle.mt_shared.specs.mt_regained.Reopened.{reopened_map};
 ghost use Rattle.mt_shared.specs.Acts.{HasVerdicts};
 ghost use Rattle.mt_shared.specs.Replay.{map_of};
-ghost use Rattle.mt_keeping.specs.States.{told_map};
+ghost use Rattle.mt_shared.specs.mt_keeping.States.{told_map};
 ghost use Rattle.mt_starting.specs.Starts.{HasFailedFor, HasRoom, IsBegunWith, IsStartCause, IsStartedOn, IsWornCause, fault_of};
 
 use mt_durable::{Durable, Entry, Keeper};
 use mt_grammar::kept_in;
-use mt_interactions::Interactions;
 use mt_journal::JournalFault;
-use mt_keeping::{Store, states_are_reopened, states_may_be_committed};
 use mt_model::{Config, TableVerdicts};
 use mt_outside::Disk;
-use mt_regained::{
+use mt_shared::mt_interactions::Interactions;
+use mt_shared::mt_keeping::{Store, states_are_reopened, states_may_be_committed};
+use mt_shared::mt_regained::{
     durable_maps_are_kept, reopened_nodes_may_start, reopenings_roll_back, states_are_regained,
 };
 use std::alloc::{AllocError, Global};

@@ -59,8 +59,8 @@ use Rattle.mt_opcreds.specs.RemoveFabric as removal
 use Rattle.mt_opcreds.specs.UpdateFabricLabel as labels
 use Rattle.mt_opcreds.specs.UpdateNoc as update_noc
 use Rattle.mt_opcreds.specs.declared.fault.CertificateFault.{CertificateFault}
-use Rattle.mt_machine.specs.Commands.{carried_out, command_effect, is_commissioning, nobodys_rows, of_others, own_rows, unless_refused}
-use Rattle.mt_machine.specs.Environment.{Environment}
+use Rattle.mt_shared.specs.mt_machine.Commands.{carried_out, command_effect, is_commissioning, nobodys_rows, of_others, own_rows, unless_refused}
+use Rattle.mt_shared.specs.mt_machine.Environment.{Environment}
 
 -- the subscription that a reply tells
 abbrev pub subscription_of : Reply → Option ℕ

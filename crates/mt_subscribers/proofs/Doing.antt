@@ -10,11 +10,11 @@ use Rattle.mt_subs.specs.Leaving.{is_by_another, is_none_of, without_node}
 use Rattle.mt_subs.specs.Subscriptions.{IsSubs, added, confirmed, next_id, reported}
 use Rattle.mt_subs.specs.declared.subscription.Kept.{Kept}
 use Rattle.mt_subs.specs.declared.subscription.SubState.{SubState}
-use Rattle.mt_machine.specs.Step.{asker, is_late}
-use Rattle.mt_ledger.specs.Behind.{Activity, acts, confirms, ends, reports, subs_done}
-use Rattle.mt_ledger.specs.Ledger.{Ledger}
-use Rattle.mt_ledger.specs.Reporting.{Due, behind_report, due_events, due_now, told_now}
-use Rattle.mt_ledger.specs.Subscribing.{Wish, at_once, behind_wish, behind_wish_if_any, first_events, first_told, has_no_room, is_malformed, last_told, left_by, subscribed, wish_asked, wish_in_time, wish_of}
+use Rattle.mt_shared.specs.mt_machine.Step.{asker, is_late}
+use Rattle.mt_shared.specs.mt_ledger.Behind.{Activity, acts, confirms, ends, reports, subs_done}
+use Rattle.mt_shared.specs.mt_ledger.Ledger.{Ledger}
+use Rattle.mt_shared.specs.mt_ledger.Reporting.{Due, behind_report, due_events, due_now, told_now}
+use Rattle.mt_shared.specs.mt_ledger.Subscribing.{Wish, at_once, behind_wish, behind_wish_if_any, first_events, first_told, has_no_room, is_malformed, last_told, left_by, subscribed, wish_asked, wish_in_time, wish_of}
 use Rattle.mt_subscribers.proofs.Keeping.{AreOver, NextRises, OthersNextStays, StayingAre, added_over, changed_over, staying_over}
 use Rattle.mt_subscribers.proofs.Lists.{KeepsSession}
 

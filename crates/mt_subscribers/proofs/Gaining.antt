@@ -16,14 +16,14 @@ use Rattle.mt_model.specs.declared.node.state.Standing.TheVariants.{Waits, Live,
 use Rattle.mt_model.specs.declared.tables.access.Actor.{Actor}
 use Rattle.mt_subs.specs.Subscriptions.{IsSubs, added, next_id}
 use Rattle.mt_subs.specs.declared.subscription.SubState.{SubState}
-use Rattle.mt_machine.specs.Environment.{Environment}
-use Rattle.mt_machine.specs.Step.{asked_reply, live_actor, refusal, session_actor}
-use Rattle.mt_ledger.specs.history.Asking.{events_for, with_events}
-use Rattle.mt_ledger.specs.Asking.{with_wish}
-use Rattle.mt_ledger.specs.Behind.{acts, subs_done}
-use Rattle.mt_ledger.specs.Ledger.{Ledger}
-use Rattle.mt_ledger.specs.Subscribing.{Wish, behind_wish, behind_wish_if_any, first_events, first_items, first_told, has_no_room, is_malformed, last_told, left_by, subscribed, wish_asked, wish_in_time, wish_reply}
-use Rattle.mt_runs.specs.Datagrams.{actor_on, reply_over}
+use Rattle.mt_shared.specs.mt_machine.Environment.{Environment}
+use Rattle.mt_shared.specs.mt_machine.Step.{asked_reply, live_actor, refusal, session_actor}
+use Rattle.mt_shared.specs.mt_ledger.history.Asking.{events_for, with_events}
+use Rattle.mt_shared.specs.mt_ledger.Asking.{with_wish}
+use Rattle.mt_shared.specs.mt_ledger.Behind.{acts, subs_done}
+use Rattle.mt_shared.specs.mt_ledger.Ledger.{Ledger}
+use Rattle.mt_shared.specs.mt_ledger.Subscribing.{Wish, behind_wish, behind_wish_if_any, first_events, first_items, first_told, has_no_room, is_malformed, last_told, left_by, subscribed, wish_asked, wish_in_time, wish_reply}
+use Rattle.mt_shared.specs.mt_runs.Datagrams.{actor_on, reply_over}
 use Rattle.mt_subscribers.proofs.Commands.{subscription_of}
 use Rattle.mt_subscribers.proofs.Doing.{in_time, left_is, next_left, told_keeps}
 use Rattle.mt_subscribers.proofs.Keeping.{AreOver, NextIsUnused, NextRises, StayingAre, changed_over, gained_over}

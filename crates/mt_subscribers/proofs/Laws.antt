@@ -1,19 +1,19 @@
 -- The laws: subscriptions stay over their session, and are gained over that of their request.
 use Rattle.std.proofs.Common.{◌≡◌, ℕ, ◌<◌, if◌then◌else◌, Bool, true, false, Option, Some, None, refl, sym, ap, subst, ◌∙◌}
-use Rattle.mt_interactions.specs.Configured.{ConfiguredInteractions}
-use Rattle.mt_interactions.specs.Deeds.{activity_at, confirmed_for, done_for, replied}
-use Rattle.mt_interactions.specs.declared.deeds.Deed.{Deed}
-use Rattle.mt_interactions.specs.declared.deeds.Deed.TheVariants.{Ask, Confirm, Ends, Report, Expire, Nothing}
-use Rattle.mt_ledger.specs.Behind.{Activity, acts, state_done, subs_done}
-use Rattle.mt_ledger.specs.Ledger.{IsLedger, Ledger}
-use Rattle.mt_ledger.specs.Subscribing.{confirm_reply}
-use Rattle.mt_machine.specs.Environment.{Environment}
+use Rattle.mt_shared.specs.mt_interactions.Configured.{ConfiguredInteractions}
+use Rattle.mt_shared.specs.mt_interactions.Deeds.{activity_at, confirmed_for, done_for, replied}
+use Rattle.mt_shared.specs.mt_interactions.declared.deeds.Deed.{Deed}
+use Rattle.mt_shared.specs.mt_interactions.declared.deeds.Deed.TheVariants.{Ask, Confirm, Ends, Report, Expire, Nothing}
+use Rattle.mt_shared.specs.mt_ledger.Behind.{Activity, acts, state_done, subs_done}
+use Rattle.mt_shared.specs.mt_ledger.Ledger.{IsLedger, Ledger}
+use Rattle.mt_shared.specs.mt_ledger.Subscribing.{confirm_reply}
+use Rattle.mt_shared.specs.mt_machine.Environment.{Environment}
 use Rattle.mt_model.specs.declared.messages.message.Reply.TheVariants as replies
 use Rattle.mt_model.specs.declared.messages.message.Request.{Request}
 use Rattle.mt_model.specs.declared.node.action.Action.TheVariants as actions
 use Rattle.mt_model.specs.declared.node.state.NodeState.{NodeState}
-use Rattle.mt_runs.specs.Datagrams.{actor_on}
-use Rattle.mt_runs.specs.Whole.{fabric_live}
+use Rattle.mt_shared.specs.mt_runs.Datagrams.{actor_on}
+use Rattle.mt_shared.specs.mt_runs.Whole.{fabric_live}
 use Rattle.mt_shared.specs.Replay.{answer_to, given_in}
 use Rattle.mt_subs.specs.Leaving.{left_in, stands_in}
 use Rattle.mt_subs.specs.Subscriptions.{kept_at}

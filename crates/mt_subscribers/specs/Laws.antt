@@ -1,9 +1,9 @@
 -- Laws of subscriptions and the sessions over which they are told.
 use Rattle.std.specs.Prelude.{◌≡◌, ◌<◌, ℕ, Bool, List, Some}
-use Rattle.mt_interactions.specs.Configured.{ConfiguredInteractions}
-use Rattle.mt_interactions.specs.declared.deeds.Deed.{Deed}
-use Rattle.mt_ledger.specs.Ledger.{IsLedger}
-use Rattle.mt_machine.specs.State.{IsValid}
+use Rattle.mt_shared.specs.mt_interactions.Configured.{ConfiguredInteractions}
+use Rattle.mt_shared.specs.mt_interactions.declared.deeds.Deed.{Deed}
+use Rattle.mt_shared.specs.mt_ledger.Ledger.{IsLedger}
+use Rattle.mt_shared.specs.mt_machine.State.{IsValid}
 use Rattle.mt_model.specs.declared.messages.message.Item.{Item}
 use Rattle.mt_model.specs.declared.messages.message.Reply.TheVariants as replies
 use Rattle.mt_shared.specs.Replay.{answer_to, behind_deed}

@@ -17,11 +17,11 @@ use Rattle.mt_model.specs.declared.texts.recording.Event.{Event}
 use Rattle.mt_model.specs.texts.Config.{are_csrs, are_joins, are_roots, is_csr, is_join, is_root}
 use Rattle.mt_model.specs.texts.Contents.{Contents, contents_of}
 use Rattle.mt_opcreds.specs.Laws.{KeepsRules}
-use Rattle.mt_machine.specs.Environment.{given_by}
-use Rattle.mt_runs.specs.Isolation.{IsValidWhole}
-use Rattle.mt_runs.specs.LineLaws.{WholeOpensValid}
-use Rattle.mt_runs.specs.Messages.{Message, messages}
-use Rattle.mt_runs.specs.Laws.{EqualMarksEqualEnds, EqualMarksEqualMessages, EqualMarksEqualParts, HasRoom, RunsAreTheirMessages}
+use Rattle.mt_compare.specs.mt_machine.Environment.{given_by}
+use Rattle.mt_compare.specs.mt_runs.Isolation.{IsValidWhole}
+use Rattle.mt_compare.specs.mt_runs.LineLaws.{WholeOpensValid}
+use Rattle.mt_compare.specs.mt_runs.Messages.{Message, messages}
+use Rattle.mt_compare.specs.mt_runs.Laws.{EqualMarksEqualEnds, EqualMarksEqualMessages, EqualMarksEqualParts, HasRoom, RunsAreTheirMessages}
 use Rattle.mt_endings.specs.Endings.{Recordings, configured, of_files, recorded}
 use Rattle.mt_top.specs.Asked.{played, replayed}
 use Rattle.mt_top.specs.Begun.{begun_with}

@@ -7,9 +7,9 @@ use Rattle.mt_model.specs.declared.texts.recording.Event.{Event}
 use Rattle.mt_model.specs.declared.texts.recording.Sent.{Sent}
 use Rattle.mt_files.specs.Lines.{ended}
 use Rattle.mt_files.specs.Output.{output_text, sent_line}
-use Rattle.mt_runs.specs.Messages.{run}
+use Rattle.mt_compare.specs.mt_runs.Messages.{run}
 use Rattle.mt_top.specs.Begun.{Begun, Plays, behind, sent_by}
-use Rattle.mt_play.specs.declared.playing.Playing.{Playing}
+use Rattle.mt_compare.specs.mt_play.declared.playing.Playing.{Playing}
 
 -- what is sent for events
 abbrev pub sent_of : Begun → List Event → List Sent

@@ -4,13 +4,13 @@ use Rattle.std.specs.Option.{option_map}
 use Rattle.mt_files.specs.Output.{sent_line}
 use Rattle.mt_model.specs.declared.texts.recording.Event.{Event}
 use Rattle.mt_model.specs.texts.Contents.{Contents}
-use Rattle.mt_runs.specs.Messages.{run}
+use Rattle.mt_compare.specs.mt_runs.Messages.{run}
 use Rattle.mt_soak.specs.Generated.{generated}
 use Rattle.mt_soak.specs.Summary.{summary_lines}
 use Rattle.mt_words.specs.Words.{asked}
 use Rattle.mt_words.specs.declared.asked.Asked.{Asked}
 use Rattle.mt_words.specs.declared.asked.Asked.TheVariants.{Ask, Compare, Replay, Settle, Show, Soak}
-use Rattle.mt_marks.specs.differences.Difference.{Difference, difference}
+use Rattle.mt_compare.specs.mt_marks.differences.Difference.{Difference, difference}
 use Rattle.mt_compare.specs.Text.{comparison_lines}
 use Rattle.mt_asking.specs.Asked.{asking, showing}
 use Rattle.mt_settle.specs.Settled.{settled}

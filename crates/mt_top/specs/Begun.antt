@@ -6,12 +6,12 @@ use Rattle.mt_model.specs.texts.Contents.{Contents}
 use Rattle.mt_model.specs.declared.texts.config.SessionRow.{SessionRow}
 use Rattle.mt_model.specs.declared.texts.recording.Event.{Event}
 use Rattle.mt_model.specs.declared.texts.recording.Sent.{Sent}
-use Rattle.mt_machine.specs.Environment.{Environment, given_by}
-use Rattle.mt_runs.specs.Course.{Going, going_on, stepped}
-use Rattle.mt_runs.specs.Messages.{sent_on_way}
-use Rattle.mt_runs.specs.Whole.{whole_with}
-use Rattle.mt_play.specs.Plays.{IsPlaying}
-use Rattle.mt_play.specs.declared.playing.Playing.{Playing}
+use Rattle.mt_compare.specs.mt_machine.Environment.{Environment, given_by}
+use Rattle.mt_compare.specs.mt_runs.Course.{Going, going_on, stepped}
+use Rattle.mt_compare.specs.mt_runs.Messages.{sent_on_way}
+use Rattle.mt_compare.specs.mt_runs.Whole.{whole_with}
+use Rattle.mt_compare.specs.mt_play.Plays.{IsPlaying}
+use Rattle.mt_compare.specs.mt_play.declared.playing.Playing.{Playing}
 use Rattle.mt_soak.specs.Summary.{IsTallyOf}
 use Rattle.mt_soak.specs.declared.tally.Tally.{Tally}
 

@@ -6,12 +6,12 @@ use Rattle.mt_files.specs.Recording.{recording_of}
 use Rattle.mt_model.specs.declared.texts.config.Config.{Config}
 use Rattle.mt_model.specs.declared.texts.recording.Event.{Event}
 use Rattle.mt_model.specs.texts.Contents.{contents_of}
-use Rattle.mt_runs.specs.Course.{Going}
-use Rattle.mt_runs.specs.Isolation.{IsValidWhole, own_part}
-use Rattle.mt_runs.specs.Laws.{HasRoom}
-use Rattle.mt_runs.specs.Marks.{marks}
-use Rattle.mt_runs.specs.Messages.{Message, behind, messages, messages_to}
-use Rattle.mt_runs.specs.Replay.{ends, held}
+use Rattle.mt_compare.specs.mt_runs.Course.{Going}
+use Rattle.mt_compare.specs.mt_runs.Isolation.{IsValidWhole, own_part}
+use Rattle.mt_compare.specs.mt_runs.Laws.{HasRoom}
+use Rattle.mt_compare.specs.mt_runs.Marks.{marks}
+use Rattle.mt_compare.specs.mt_runs.Messages.{Message, behind, messages, messages_to}
+use Rattle.mt_compare.specs.mt_runs.Replay.{ends, held}
 use Rattle.mt_endings.specs.Endings.{Recordings, of_files}
 use Rattle.mt_top.specs.Asked.{replayed}
 use Rattle.mt_top.specs.Begun.{Begun, begun_with}

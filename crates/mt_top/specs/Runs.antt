@@ -3,9 +3,9 @@ use Rattle.std.specs.Prelude.{ℕ, List}
 use Rattle.mt_endings.specs.Moments.{Input, Moment}
 use Rattle.mt_asking.specs.Laws.{AskedIsOpened, ShownIsExact}
 use Rattle.mt_endings.specs.OnDisk.{EndsAs}
-use Rattle.mt_runs.specs.Expiries.{ExpiriesAreRollbacks}
-use Rattle.mt_runs.specs.Replies.{RepliesAreExact}
-use Rattle.mt_runs.specs.Restarts.{ReopeningsAreExact}
+use Rattle.mt_compare.specs.mt_runs.Expiries.{ExpiriesAreRollbacks}
+use Rattle.mt_compare.specs.mt_runs.Replies.{RepliesAreExact}
+use Rattle.mt_compare.specs.mt_runs.Restarts.{ReopeningsAreExact}
 use Rattle.mt_top.specs.Asked.{asked_of}
 use Rattle.mt_top.specs.Clusters.{KeySetsAreTheirOwn, KeysAreSecret, WindowsAreExact}
 use Rattle.mt_top.specs.Compared.{ComparisonsAreExact}

@@ -5,9 +5,11 @@ ghost use Rattle.mt_top.specs.Compared.{ComparisonsAreExact};
 ghost use Rattle.mt_top.specs.Denials.{DenialsAreExact};
 ghost use Rattle.mt_top.specs.Isolated.{RunsAreIsolated};
 
+use mt_compare::mt_marks::equal_marks_do_not_differ;
+use mt_compare::mt_runs::{
+    equal_marks_have_equal_messages, runs_are_their_messages, wholes_are_valid,
+};
 use mt_files::recordings_are_read;
-use mt_marks::equal_marks_do_not_differ;
-use mt_runs::{equal_marks_have_equal_messages, runs_are_their_messages, wholes_are_valid};
 
 /// Of every configuration and every recording: the lines to which they come are the messages of the written run, each to one
 /// fabric; and whatever other run there is in which a fabric begins with the same own part and has the same marks, that fabric

@@ -3,13 +3,13 @@
 ghost use Rattle.std.specs.Prelude.{◌≡◌, List, IfOk, OnOk};
 ghost use Rattle.mt_files.specs.Output.{output_text};
 ghost use Rattle.mt_model.specs.declared.texts.recording.Sent.{Sent};
-ghost use Rattle.mt_play.specs.Plays.{IsOnJournal};
+ghost use Rattle.mt_compare.specs.mt_play.Plays.{IsOnJournal};
 ghost use Rattle.mt_soak.specs.Summary.{IsTallyOf};
 ghost use Rattle.mt_top.specs.Begun.{Begun, Plays, Steps, Tells};
 
+use mt_compare::mt_play::Playing;
 use mt_files::write_sent;
 use mt_model::{Event, Sent};
-use mt_play::Playing;
 use mt_soak::Tally;
 use std::alloc::{AllocError, Global};
 

@@ -2,10 +2,10 @@
 
 ghost use Rattle.std.specs.Prelude.{◌≡◌, ◌≢◌, Some, Err, IfErr, OnOk};
 ghost use Rattle.mt_model.specs.texts.Contents.{contents_of};
-ghost use Rattle.mt_runs.specs.Expiries.{ExpiriesAreRollbacks};
-ghost use Rattle.mt_runs.specs.Replies.{RepliesAreExact};
-ghost use Rattle.mt_runs.specs.Restarts.{ReopeningsAreExact};
-ghost use Rattle.mt_play.specs.Plays.{IsOnJournal};
+ghost use Rattle.mt_compare.specs.mt_runs.Expiries.{ExpiriesAreRollbacks};
+ghost use Rattle.mt_compare.specs.mt_runs.Replies.{RepliesAreExact};
+ghost use Rattle.mt_compare.specs.mt_runs.Restarts.{ReopeningsAreExact};
+ghost use Rattle.mt_compare.specs.mt_play.Plays.{IsOnJournal};
 ghost use Rattle.mt_endings.specs.Endings.{in_hand_of};
 ghost use Rattle.mt_endings.specs.Moments.{Input, in_hand, input, moment};
 ghost use Rattle.mt_endings.specs.Parts.{PlayedTo, StopsPlaying};
@@ -17,11 +17,11 @@ ghost use Rattle.mt_top.specs.Asked.{played, replayed};
 
 use crate::isolation::{denials_are_exact, runs_are_isolated};
 use crate::playing::step;
+use mt_compare::mt_play::Playing;
+use mt_compare::mt_runs::{expiries_are_rollbacks, reopenings_are_exact, replies_are_exact};
 use mt_endings::{Fault, endings_add_up, finish, read_recording, tell_memory};
 use mt_model::{Config, Events};
 use mt_outside::{Sink, Source, write_all, writings_add_up};
-use mt_play::Playing;
-use mt_runs::{expiries_are_rollbacks, reopenings_are_exact, replies_are_exact};
 use std::alloc::Global;
 
 /// Runs the recording that `first` gives against a configuration, on a disk in memory that stops where the recording says, and writes

@@ -1,8 +1,8 @@
 //! A long input made from a number, and the summary of what is sent for it.
 
 ghost use Rattle.std.specs.Prelude.{◌≡◌, ◌≤◌, [], IfOk, OnOk, Some, length};
-ghost use Rattle.mt_runs.specs.Messages.{run};
-ghost use Rattle.mt_play.specs.Plays.{IsOnJournal};
+ghost use Rattle.mt_compare.specs.mt_runs.Messages.{run};
+ghost use Rattle.mt_compare.specs.mt_play.Plays.{IsOnJournal};
 ghost use Rattle.mt_soak.specs.Generated.{events_from};
 ghost use Rattle.mt_soak.specs.Summary.{IsTallyOf};
 ghost use Rattle.mt_top.specs.Begun.{Begun, Plays};
@@ -14,10 +14,10 @@ ghost use Rattle.mt_endings.specs.Run.{Ends};
 ghost use Rattle.mt_top.specs.Asked.{soaked, summarized};
 
 use crate::playing::tell;
+use mt_compare::mt_play::Playing;
 use mt_endings::{Fault, endings_add_up, finish, tell_memory};
 use mt_model::Config;
 use mt_outside::{Progress, Sink, write_all, writings_add_up};
-use mt_play::Playing;
 use mt_soak::{Generator, Tally, events_come_one_by_one};
 use std::alloc::{AllocError, Global};
 

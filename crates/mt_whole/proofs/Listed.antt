@@ -7,7 +7,7 @@ use Rattle.mt_model.specs.declared.limits.TheConstants.{SESSIONS}
 use Rattle.mt_model.specs.texts.Config.{are_sessions, have_one_session, is_session, none_alike}
 use Rattle.mt_model.specs.declared.texts.config.SessionRow.{SessionRow}
 use Rattle.mt_talk.specs.Talks.{IsTalkOf, Talk}
-use Rattle.mt_runs.specs.Whole.{SessionTalk, begun, begun_in, is_of_boot, is_talk_of, with_talk, without_ended}
+use Rattle.mt_interactions.specs.mt_runs.Whole.{SessionTalk, begun, begun_in, is_of_boot, is_talk_of, with_talk, without_ended}
 use Rattle.mt_whole.specs.declared.talks.SessionTalk as code
 use Rattle.mt_whole.specs.Talks.{AreTalks, IsFoundAs, IsTalkAt, is_code_of, put}
 

@@ -19,10 +19,10 @@ use Rattle.mt_exchange.specs.declared.exchange.Key.{Key}
 use Rattle.mt_exchange.specs.declared.telling.Outgoing.{Outgoing}
 use Rattle.mt_talk.specs.Hearing.{after_received, fresh_by}
 use Rattle.mt_talk.specs.Talks.{Talk, after_answer, after_report, answer_in, behind_unless_refused, behind_unless_too_long, refusal_in, report_in, run_in}
-use Rattle.mt_machine.specs.Environment.{Environment}
-use Rattle.mt_ledger.specs.Reporting.{due_now}
-use Rattle.mt_runs.specs.Lines.{talks_behind, with_next}
-use Rattle.mt_runs.specs.Whole.{SessionTalk, Whole, is_talk_of, with_talk}
+use Rattle.mt_interactions.specs.mt_machine.Environment.{Environment}
+use Rattle.mt_interactions.specs.mt_ledger.Reporting.{due_now}
+use Rattle.mt_interactions.specs.mt_runs.Lines.{talks_behind, with_next}
+use Rattle.mt_interactions.specs.mt_runs.Whole.{SessionTalk, Whole, is_talk_of, with_talk}
 use Rattle.mt_interactions.specs.Reporting.{reported_over}
 use Rattle.mt_marks.specs.Noted.{noted, noted_if, shown_in}
 use Rattle.mt_marks.specs.Remembered.{ToldTalk, remembered}

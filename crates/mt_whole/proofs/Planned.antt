@@ -15,17 +15,17 @@ use Rattle.mt_outside.specs.declared.network.Peer.{Peer}
 use Rattle.mt_exchange.specs.declared.exchange.Key.{Key}
 use Rattle.mt_talk.specs.Hearing.{Said}
 use Rattle.mt_talk.specs.Talks.{Talk, after_report, after_resend, ended_in, report_in, resent_in, sent_by}
-use Rattle.mt_machine.specs.Environment.{Environment}
-use Rattle.mt_machine.specs.Lines.{behind_action, line_actor}
-use Rattle.mt_machine.specs.State.{State}
-use Rattle.mt_machine.specs.Step.{Aside, closed_between}
-use Rattle.mt_ledger.specs.Behind.{acts, action_in, ends, ledger_behind, reports}
-use Rattle.mt_ledger.specs.Ledger.{Ledger}
-use Rattle.mt_ledger.specs.Reporting.{Due, due_now, due_report}
-use Rattle.mt_runs.specs.Datagrams.{Answer, all_sent, answer_to, datagram_of, activity_said, heard, if_any, its_answer, resent_talk, sent_over, session_named, talked}
-use Rattle.mt_runs.specs.Lines as lines
-use Rattle.mt_runs.specs.Lines.{activity_again, activity_named, ledger_after, next, resent_named, sent_asked, sent_due, sent_named, sent_to, state_behind, talks_behind, talks_due, talks_told, with_next}
-use Rattle.mt_runs.specs.Whole.{SessionTalk, Whole, fabric_over, is_live, is_talk_of, talk_of, with_talk, without_ended}
+use Rattle.mt_interactions.specs.mt_machine.Environment.{Environment}
+use Rattle.mt_interactions.specs.mt_machine.Lines.{behind_action, line_actor}
+use Rattle.mt_interactions.specs.mt_machine.State.{State}
+use Rattle.mt_interactions.specs.mt_machine.Step.{Aside, closed_between}
+use Rattle.mt_interactions.specs.mt_ledger.Behind.{acts, action_in, ends, ledger_behind, reports}
+use Rattle.mt_interactions.specs.mt_ledger.Ledger.{Ledger}
+use Rattle.mt_interactions.specs.mt_ledger.Reporting.{Due, due_now, due_report}
+use Rattle.mt_interactions.specs.mt_runs.Datagrams.{Answer, all_sent, answer_to, datagram_of, activity_said, heard, if_any, its_answer, resent_talk, sent_over, session_named, talked}
+use Rattle.mt_interactions.specs.mt_runs.Lines as lines
+use Rattle.mt_interactions.specs.mt_runs.Lines.{activity_again, activity_named, ledger_after, next, resent_named, sent_asked, sent_due, sent_named, sent_to, state_behind, talks_behind, talks_due, talks_told, with_next}
+use Rattle.mt_interactions.specs.mt_runs.Whole.{SessionTalk, Whole, fabric_over, is_live, is_talk_of, talk_of, with_talk, without_ended}
 use Rattle.mt_whole.specs.declared.outcome.WholeOutcome.{WholeOutcome}
 use Rattle.mt_whole.specs.declared.talks.SessionTalk as code
 use Rattle.mt_interactions.specs.Plan as interactions

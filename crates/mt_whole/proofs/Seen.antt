@@ -6,12 +6,12 @@ use Rattle.mt_model.specs.declared.node.state.NodeSession.{NodeSession}
 use Rattle.mt_events.specs.Telling.{own_of}
 use Rattle.mt_subs.specs.Leaving.{is_live_as}
 use Rattle.mt_subs.specs.Subscriptions.{is_of, next_id}
-use Rattle.mt_machine.specs.Isolation.{OwnOfWhole, is_deadline_in, own, own_of_whole}
-use Rattle.mt_machine.specs.State.{State}
-use Rattle.mt_ledger.specs.Isolation.{OwnLedger, own_ledger}
-use Rattle.mt_ledger.specs.Ledger.{Ledger}
-use Rattle.mt_runs.specs.Isolation.{OwnPart, is_talk_among, own_part, talks_among}
-use Rattle.mt_runs.specs.Whole.{SessionTalk, Whole}
+use Rattle.mt_interactions.specs.mt_machine.Isolation.{OwnOfWhole, is_deadline_in, own, own_of_whole}
+use Rattle.mt_interactions.specs.mt_machine.State.{State}
+use Rattle.mt_interactions.specs.mt_ledger.Isolation.{OwnLedger, own_ledger}
+use Rattle.mt_interactions.specs.mt_ledger.Ledger.{Ledger}
+use Rattle.mt_interactions.specs.mt_runs.Isolation.{OwnPart, is_talk_among, own_part, talks_among}
+use Rattle.mt_interactions.specs.mt_runs.Whole.{SessionTalk, Whole}
 use Rattle.mt_marks.specs.Remembered.{remembered}
 use Rattle.mt_whole.specs.declared.talks.SessionTalk as code
 use Rattle.mt_whole.specs.declared.whole.Whole as whole

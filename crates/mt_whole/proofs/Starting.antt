@@ -4,8 +4,8 @@ use Rattle.std.specs.Prelude.{unwrap_or}
 use Rattle.mt_durable.specs.declared.durable.Entry.{Entry}
 use Rattle.mt_model.specs.declared.node.state.NodeState.{NodeState}
 use Rattle.mt_model.specs.declared.texts.config.Config.{Config}
-use Rattle.mt_regained.specs.Begun.{ceiling_in, next_boot}
-use Rattle.mt_runs.specs.Whole.{begun_in}
+use Rattle.mt_interactions.specs.mt_regained.Begun.{ceiling_in, next_boot}
+use Rattle.mt_interactions.specs.mt_runs.Whole.{begun_in}
 use Rattle.mt_interactions.specs.Configured as configured
 use Rattle.mt_whole.specs.Plan.{whole_from}
 use Rattle.mt_whole.specs.Talks.{AreTalks, IsWholeOf}

@@ -1,11 +1,11 @@
 -- Laws of wholes, of their outcomes and of what is a fabric's own of them.
 use Rattle.std.specs.Prelude.{◌≡◌, ◌↔◌, ℕ, map}
 use Rattle.mt_model.specs.declared.texts.recording.Event.{Event}
-use Rattle.mt_machine.specs.Environment.{Environment}
-use Rattle.mt_machine.specs.Step.{closed_between}
-use Rattle.mt_runs.specs.Isolation.{own_part}
-use Rattle.mt_runs.specs.Lines.{next, talks_behind}
-use Rattle.mt_runs.specs.Whole.{Whole, without_ended}
+use Rattle.mt_interactions.specs.mt_machine.Environment.{Environment}
+use Rattle.mt_interactions.specs.mt_machine.Step.{closed_between}
+use Rattle.mt_interactions.specs.mt_runs.Isolation.{own_part}
+use Rattle.mt_interactions.specs.mt_runs.Lines.{next, talks_behind}
+use Rattle.mt_interactions.specs.mt_runs.Whole.{Whole, without_ended}
 use Rattle.mt_marks.specs.Remembered.{remembered}
 use Rattle.mt_whole.specs.Plan.{Brings, IsPlanned}
 use Rattle.mt_whole.specs.Seeing.{own_standing}

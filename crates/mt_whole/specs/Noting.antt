@@ -1,7 +1,7 @@
 -- What a line adds to what is shown of a session.
 use Rattle.std.specs.Prelude.{◌≡◌, ℕ, List, [], ◌∷◌, ◌++◌, Option, Some, None, map}
 use Rattle.mt_exchange.specs.declared.telling.Outgoing.{Outgoing}
-use Rattle.mt_runs.specs.Whole.{SessionTalk}
+use Rattle.mt_interactions.specs.mt_runs.Whole.{SessionTalk}
 use Rattle.mt_talk.specs.Talks.{Talk}
 use Rattle.mt_marks.specs.Noted.{shown_in}
 use Rattle.mt_marks.specs.declared.shown.Note.{Note}

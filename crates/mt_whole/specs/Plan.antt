@@ -17,15 +17,15 @@ use Rattle.mt_session.specs.Opening.{Arrival}
 use Rattle.mt_talk.specs.Hearing.{Said, fresh_by, received_in}
 use Rattle.mt_model.specs.declared.messages.message.Payload.{Payload}
 use Rattle.mt_talk.specs.Talks.{IsTalkOf, Talk, after_report, report_in, sent_by}
-use Rattle.mt_machine.specs.Environment.{Environment}
-use Rattle.mt_machine.specs.Lines.{behind_action}
-use Rattle.mt_machine.specs.State.{State}
-use Rattle.mt_runs.specs.Datagrams.{Answer, all_sent, answer_to, activity_resent, activity_said, if_any, resent_over, resent_talk, said_to, sent_over, session_named, talked}
-use Rattle.mt_ledger.specs.Behind.{acts, action_in, ledger_behind}
-use Rattle.mt_ledger.specs.Ledger.{Ledger, opened_at}
-use Rattle.mt_regained.specs.Begun.{ceiling_in, next_boot}
-use Rattle.mt_runs.specs.Lines.{ledger_after, sent, state_behind, talks_behind}
-use Rattle.mt_runs.specs.Whole.{SessionTalk, Whole, begun_in, talk_of}
+use Rattle.mt_interactions.specs.mt_machine.Environment.{Environment}
+use Rattle.mt_interactions.specs.mt_machine.Lines.{behind_action}
+use Rattle.mt_interactions.specs.mt_machine.State.{State}
+use Rattle.mt_interactions.specs.mt_runs.Datagrams.{Answer, all_sent, answer_to, activity_resent, activity_said, if_any, resent_over, resent_talk, said_to, sent_over, session_named, talked}
+use Rattle.mt_interactions.specs.mt_ledger.Behind.{acts, action_in, ledger_behind}
+use Rattle.mt_interactions.specs.mt_ledger.Ledger.{Ledger, opened_at}
+use Rattle.mt_interactions.specs.mt_regained.Begun.{ceiling_in, next_boot}
+use Rattle.mt_interactions.specs.mt_runs.Lines.{ledger_after, sent, state_behind, talks_behind}
+use Rattle.mt_interactions.specs.mt_runs.Whole.{SessionTalk, Whole, begun_in, talk_of}
 use Rattle.mt_interactions.specs.Configured as configured
 use Rattle.mt_interactions.specs.Plan as interactions
 use Rattle.mt_interactions.specs.Plan.{applied_ledger, applied_state}

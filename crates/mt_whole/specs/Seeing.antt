@@ -6,11 +6,11 @@ use Rattle.mt_model.specs.declared.texts.recording.Event.{Event}
 use Rattle.mt_outside.specs.declared.network.Peer.{Peer}
 use Rattle.mt_exchange.specs.declared.exchange.Exchange.{Exchange}
 use Rattle.mt_subs.specs.Leaving.{is_live_as}
-use Rattle.mt_machine.specs.Isolation.{OwnOfWhole, own_of_whole}
-use Rattle.mt_ledger.specs.Isolation.{OwnLedger, own_ledger}
-use Rattle.mt_runs.specs.Isolation.{own_part, public_part}
-use Rattle.mt_runs.specs.Whole.{SessionTalk, Whole}
-use Rattle.mt_runs.specs.Marks.{Mark, is_seen, seen}
+use Rattle.mt_interactions.specs.mt_machine.Isolation.{OwnOfWhole, own_of_whole}
+use Rattle.mt_interactions.specs.mt_ledger.Isolation.{OwnLedger, own_ledger}
+use Rattle.mt_interactions.specs.mt_runs.Isolation.{own_part, public_part}
+use Rattle.mt_interactions.specs.mt_runs.Whole.{SessionTalk, Whole}
+use Rattle.mt_interactions.specs.mt_runs.Marks.{Mark, is_seen, seen}
 use Rattle.mt_whole.specs.declared.talks.SessionTalk as code
 use Rattle.mt_whole.specs.declared.whole.Whole as whole
 

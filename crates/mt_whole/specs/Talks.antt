@@ -1,7 +1,7 @@
 -- For which talks those of the code stand.
 use Rattle.std.specs.Prelude.{◌≡◌, ℕ, ◌==◌, Bool, List, [], ◌∷◌, Option, Some, None, ⊤, if◌then◌else◌}
 use Rattle.mt_talk.specs.Talks.{IsTalkOf}
-use Rattle.mt_runs.specs.Whole.{SessionTalk, Whole}
+use Rattle.mt_interactions.specs.mt_runs.Whole.{SessionTalk, Whole}
 use Rattle.mt_whole.specs.declared.talks.SessionTalk as code
 use Rattle.mt_whole.specs.declared.whole.Whole as whole
 

@@ -3,8 +3,8 @@
 ghost use Rattle.std.specs.Prelude.{◌≡◌, ◌≢◌, ◌<◌, ◌^◌, None, length, IfOk, OnOk};
 ghost use Rattle.mt_model.specs.declared.texts.recording.Event.TheVariants.{Datagram};
 ghost use Rattle.mt_model.specs.declared.texts.config.SessionRow.{SessionRow};
-ghost use Rattle.mt_runs.specs.Datagrams.{behind_answer, datagram_of, ending, session_named};
-ghost use Rattle.mt_runs.specs.Whole.{SessionTalk as ToldTalk, Whole as Told, fabric_over};
+ghost use Rattle.mt_interactions.specs.mt_runs.Datagrams.{behind_answer, datagram_of, ending, session_named};
+ghost use Rattle.mt_interactions.specs.mt_runs.Whole.{SessionTalk as ToldTalk, Whole as Told, fabric_over};
 ghost use Rattle.mt_interactions.specs.Plan.{IsDone};
 ghost use Rattle.mt_talk.specs.Hearing.{fresh_as, said_by};
 ghost use Rattle.mt_talk.specs.Talks.{IsTalkOf, Talk as Written};

@@ -4,13 +4,13 @@ ghost use Rattle.std.specs.Prelude.{◌≡◌, ◌<◌, ◌++◌, ◌∷◌, ◌
 ghost use Rattle.std.specs.Option.{option_map};
 ghost use Rattle.mt_model.specs.declared.texts.recording.Event.TheVariants.{Datagram, Report, Resend};
 ghost use Rattle.mt_model.specs.declared.texts.config.SessionRow.{SessionRow};
-ghost use Rattle.mt_runs.specs.Datagrams.{behind_answer, resent_talk, talked};
-ghost use Rattle.mt_runs.specs.Lines.{talks_behind};
-ghost use Rattle.mt_runs.specs.Whole.{SessionTalk as ToldTalk, Whole as Told};
+ghost use Rattle.mt_interactions.specs.mt_runs.Datagrams.{behind_answer, resent_talk, talked};
+ghost use Rattle.mt_interactions.specs.mt_runs.Lines.{talks_behind};
+ghost use Rattle.mt_interactions.specs.mt_runs.Whole.{SessionTalk as ToldTalk, Whole as Told};
 ghost use Rattle.mt_exchange.specs.Shown.{heard as heard_as};
 ghost use Rattle.mt_talk.specs.Hearing.{fresh_as};
 ghost use Rattle.mt_talk.specs.Talks.{IsTalkOf, Talk as Written, after_report};
-ghost use Rattle.mt_machine.specs.Environment.{Environment};
+ghost use Rattle.mt_interactions.specs.mt_machine.Environment.{Environment};
 ghost use Rattle.mt_marks.specs.Noted.{noted_if, shown_in};
 ghost use Rattle.mt_marks.specs.Remembered.{remembered};
 ghost use Rattle.mt_whole.specs.Noting.{IsNoteOf, IsShownBehind, listed, sent_if, told_if};

@@ -1,9 +1,9 @@
 //! What comes of a line.
 
 ghost use Rattle.std.specs.Prelude.{◌≡◌, []};
-ghost use Rattle.mt_machine.specs.Environment.{Environment};
+ghost use Rattle.mt_interactions.specs.mt_machine.Environment.{Environment};
 ghost use Rattle.mt_model.specs.declared.texts.recording.Event.{Event};
-ghost use Rattle.mt_runs.specs.Whole.{Whole};
+ghost use Rattle.mt_interactions.specs.mt_runs.Whole.{Whole};
 ghost use Rattle.mt_whole.specs.Plan.{Brings};
 
 use crate::talks::SessionTalk;

@@ -1,7 +1,7 @@
 //! What is sent to the peer of a session.
 
 ghost use Rattle.std.specs.Prelude.{◌≡◌, IfOk};
-ghost use Rattle.mt_runs.specs.Datagrams.{all_sent, if_any, sent_at};
+ghost use Rattle.mt_interactions.specs.mt_runs.Datagrams.{all_sent, if_any, sent_at};
 
 use mt_model::{Sent, SentList, To};
 use mt_outside::Peer;

@@ -3,7 +3,7 @@
 ghost use Rattle.std.specs.Prelude.{◌≡◌, List, Some, true, IfOk, map, option_copied};
 ghost use Rattle.std.specs.List.{find, list_all};
 ghost use Rattle.mt_model.specs.texts.Config.{is_session};
-ghost use Rattle.mt_runs.specs.Whole.{SessionTalk as Told, begun, begun_in, without_ended};
+ghost use Rattle.mt_interactions.specs.mt_runs.Whole.{SessionTalk as Told, begun, begun_in, without_ended};
 ghost use Rattle.mt_whole.specs.Talks.{AreTalks, IsTalkAt, is_code_of, put};
 
 use mt_model::{ExactCopy, SessionRow};

@@ -1,11 +1,11 @@
 //! The whole.
 
 ghost use Rattle.std.specs.Prelude.{◌≡◌, IfOk, IfSome, is_some, not, option_copied};
-ghost use Rattle.mt_machine.specs.Environment.{Environment};
+ghost use Rattle.mt_interactions.specs.mt_machine.Environment.{Environment};
 ghost use Rattle.mt_model.specs.declared.texts.recording.Event.{Event as Line};
-ghost use Rattle.mt_runs.specs.Lines.{is_stop, next};
-ghost use Rattle.mt_runs.specs.Whole.{Whole as Told, fabric_live};
-ghost use Rattle.mt_regained.specs.Begun.{MayStart};
+ghost use Rattle.mt_interactions.specs.mt_runs.Lines.{is_stop, next};
+ghost use Rattle.mt_interactions.specs.mt_runs.Whole.{Whole as Told, fabric_live};
+ghost use Rattle.mt_interactions.specs.mt_regained.Begun.{MayStart};
 ghost use Rattle.mt_interactions.specs.Configured.{IsFirst, behind};
 ghost use Rattle.mt_interactions.specs.Plan.{applied_ledger, applied_state};
 ghost use Rattle.mt_whole.specs.Plan.{Brings, IsPlainly, IsPlan, IsPlanned, IsStarted, given_to};

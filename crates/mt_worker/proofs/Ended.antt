@@ -4,7 +4,7 @@ use Rattle.std.specs.Prelude.{is_err, ⊤}
 use Rattle.mt_model.specs.declared.texts.config.SessionRow.{SessionRow}
 use Rattle.mt_outside.specs.declared.network.Parcel.{Parcel}
 use Rattle.mt_queue.specs.declared.job.Job.{Job}
-use Rattle.mt_shared.specs.Shared.{NodePass}
+use Rattle.mt_layer.specs.mt_shared.Shared.{NodePass}
 use Rattle.mt_worker.specs.Accounts.{Accounts, all_sent}
 use Rattle.mt_worker.specs.Due.{DoesAll, id_of}
 use Rattle.mt_worker.specs.Faults.{Counts, IsCause, status_of}

@@ -4,10 +4,10 @@ use Rattle.std.specs.Prelude.{Contains, is_some}
 use Rattle.std.proofs.lemmas.List.{take-append-drop}
 use Rattle.std.proofs.lemmas.List.Elements.{Contains-append_right}
 use Rattle.mt_outside.specs.declared.network.Peer.{Peer}
-use Rattle.mt_runs.specs.Datagrams.{session_named}
-use Rattle.mt_shared.specs.Replay.{unless_stopped}
-use Rattle.mt_shared.specs.declared.entry.Call.{Call}
-use Rattle.mt_shared.specs.declared.entry.Stop.{Stop}
+use Rattle.mt_layer.specs.mt_runs.Datagrams.{session_named}
+use Rattle.mt_layer.specs.mt_shared.Replay.{unless_stopped}
+use Rattle.mt_layer.specs.mt_shared.declared.entry.Call.{Call}
+use Rattle.mt_layer.specs.mt_shared.declared.entry.Stop.{Stop}
 use Rattle.mt_worker.specs.Accounts.{Account, Accounts, account_behind, account_over, all_behind, behind, standing_behind, talk_in}
 use Rattle.mt_worker.specs.Due.{call_again, call_heard, call_report, call_tick}
 use Rattle.mt_worker.specs.Gots.{Got, Told}

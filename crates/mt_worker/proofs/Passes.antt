@@ -2,16 +2,16 @@
 use Rattle.std.proofs.Common.{◌≡◌, ◌≢◌, ◌≤◌, ◌∙◌, refl, sym, ap, subst, ℕ, ◌+◌, zero, suc, inl, inr, false, cond, List, [], ◌∷◌, ◌++◌, length, map, Some, None, slice_get, arith, append-nil, append_assoc, length-append, le-ltb, lt-ltb}
 use mathlib.Core.List.{IsPrefix}
 use Rattle.mt_files.specs.Form.{HasForm}
-use Rattle.mt_interactions.specs.Configured.{ConfiguredInteractions}
-use Rattle.mt_shared.specs.Book.{failed, is_full, stop_in, time_for}
-use Rattle.mt_shared.specs.Replay.{answer_at, next, no_answer, replay, told}
-use Rattle.mt_shared.specs.Shared.{IsAnswered, IsRefused, NodePass}
-use Rattle.mt_shared.specs.declared.entry.ActFault.{ActFault}
-use Rattle.mt_shared.specs.declared.entry.ActFault.TheVariants.{Stopped, RecordFull, Memory}
-use Rattle.mt_shared.specs.declared.entry.Call.{Call}
-use Rattle.mt_shared.specs.declared.entry.Entry.{Entry}
-use Rattle.mt_shared.specs.declared.entry.Stamped.{Stamped}
-use Rattle.mt_shared.specs.declared.entry.Stop.{Stop}
+use Rattle.mt_layer.specs.mt_interactions.Configured.{ConfiguredInteractions}
+use Rattle.mt_layer.specs.mt_shared.Book.{failed, is_full, stop_in, time_for}
+use Rattle.mt_layer.specs.mt_shared.Replay.{answer_at, next, no_answer, replay, told}
+use Rattle.mt_layer.specs.mt_shared.Shared.{IsAnswered, IsRefused, NodePass}
+use Rattle.mt_layer.specs.mt_shared.declared.entry.ActFault.{ActFault}
+use Rattle.mt_layer.specs.mt_shared.declared.entry.ActFault.TheVariants.{Stopped, RecordFull, Memory}
+use Rattle.mt_layer.specs.mt_shared.declared.entry.Call.{Call}
+use Rattle.mt_layer.specs.mt_shared.declared.entry.Entry.{Entry}
+use Rattle.mt_layer.specs.mt_shared.declared.entry.Stamped.{Stamped}
+use Rattle.mt_layer.specs.mt_shared.declared.entry.Stop.{Stop}
 use Rattle.mt_turn.specs.History.{IsOutsideAgain}
 use Rattle.mt_turn.specs.Known.{places_after}
 use Rattle.mt_worker.specs.Faults.{IsCause, IsDenied, fault_of}

@@ -5,7 +5,7 @@ use Rattle.mt_outside.specs.declared.network.Parcel.{Parcel}
 use Rattle.mt_outside.specs.declared.network.Peer.{Peer}
 use Rattle.mt_queue.specs.declared.job.Job.{Job}
 use Rattle.mt_queue.specs.declared.job.Job.TheVariants.{End}
-use Rattle.mt_runs.specs.Datagrams.{session_named}
+use Rattle.mt_layer.specs.mt_runs.Datagrams.{session_named}
 use Rattle.mt_worker.specs.Accounts.{Account, Accounts, account_over, all_behind, all_sent, sent_over}
 use Rattle.mt_worker.specs.Due.{AreRising, Does, DoesAll, Hears, Sweeps, Takes, Wakes, is_in}
 use Rattle.mt_worker.specs.Gots.{Each, Got}

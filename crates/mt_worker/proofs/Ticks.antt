@@ -1,7 +1,7 @@
 -- The reporter's work, one job after another.
 use Rattle.std.proofs.Common.{◌≡◌, ◌∙◌, refl, false, sym, ap, List, [], ◌∷◌, ◌++◌, Result, append-nil, append_assoc}
 use Rattle.mt_queue.specs.declared.job.Job.{Job}
-use Rattle.mt_shared.specs.Shared.{NodePass}
+use Rattle.mt_layer.specs.mt_shared.Shared.{NodePass}
 use Rattle.mt_worker.specs.Due.{Ticks, TicksAll}
 use Rattle.mt_worker.specs.Gots.{Got}
 use Rattle.mt_worker.specs.Works.{TickedBy}

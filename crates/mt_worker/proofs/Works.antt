@@ -1,14 +1,14 @@
 -- Parts of a worker's work: one call, and one part after another.
 use Rattle.std.proofs.Common.{◌≡◌, ◌≢◌, ◌∙◌, refl, sym, ap, subst, ℕ, false, Some, List, [], ◌∷◌, ◌++◌, Option, Result, Ok, Err, OnOk, IfOk, IfErr}
-use Rattle.mt_interactions.specs.Configured.{ConfiguredInteractions}
+use Rattle.mt_layer.specs.mt_interactions.Configured.{ConfiguredInteractions}
 use Rattle.mt_model.specs.declared.texts.recording.Sent.{Sent}
 use Rattle.mt_outside.specs.declared.network.Parcel.{Parcel}
 use Rattle.mt_outside.specs.Stream.{HasCause}
 use mathlib.Core.List.{IsPrefix}
 use Rattle.mt_queue.specs.declared.job.Job.TheVariants.{Wake}
-use Rattle.mt_shared.specs.Shared.{IsAnswered, NodePass}
-use Rattle.mt_shared.specs.declared.entry.Call.{Call}
-use Rattle.mt_shared.specs.declared.entry.Stamped.{Stamped}
+use Rattle.mt_layer.specs.mt_shared.Shared.{IsAnswered, NodePass}
+use Rattle.mt_layer.specs.mt_shared.declared.entry.Call.{Call}
+use Rattle.mt_layer.specs.mt_shared.declared.entry.Stamped.{Stamped}
 use Rattle.mt_turn.specs.History.{IsOutsideAgain}
 use Rattle.mt_worker.specs.Accounts.{Account, account_over, sent_over}
 use Rattle.mt_worker.specs.Due.{Ticks, call_tick}

@@ -2,13 +2,13 @@
 use Rattle.std.specs.Prelude.{◌≡◌, ℕ, ◌+◌, true, List, Result, Ok, Err, Some, length, ⊤}
 use Rattle.mt_files.specs.Form.{HasForm}
 use Rattle.mt_outside.specs.Stream.{one_more}
-use Rattle.mt_shared.specs.Book.{is_full, stop_in}
-use Rattle.mt_shared.specs.Shared.{IsRefused, NodePass}
-use Rattle.mt_shared.specs.declared.entry.ActFault.{ActFault}
-use Rattle.mt_shared.specs.declared.entry.ActFault.TheVariants as acts
-use Rattle.mt_shared.specs.declared.entry.Call.{Call}
-use Rattle.mt_shared.specs.declared.entry.Entry.{Entry}
-use Rattle.mt_shared.specs.declared.entry.Stop.{Stop}
+use Rattle.mt_layer.specs.mt_shared.Book.{is_full, stop_in}
+use Rattle.mt_layer.specs.mt_shared.Shared.{IsRefused, NodePass}
+use Rattle.mt_layer.specs.mt_shared.declared.entry.ActFault.{ActFault}
+use Rattle.mt_layer.specs.mt_shared.declared.entry.ActFault.TheVariants as acts
+use Rattle.mt_layer.specs.mt_shared.declared.entry.Call.{Call}
+use Rattle.mt_layer.specs.mt_shared.declared.entry.Entry.{Entry}
+use Rattle.mt_layer.specs.mt_shared.declared.entry.Stop.{Stop}
 use Rattle.mt_worker.specs.declared.fault.WorkFault.{WorkFault}
 use Rattle.mt_worker.specs.declared.fault.WorkFault.TheVariants.{Memory, Stopped, Link, Full}
 

@@ -1,11 +1,11 @@
 -- What the calls of a thread got: each stands at a place of the one book, which tells the entry there with its answer.
 use Rattle.std.specs.Prelude.{◌≡◌, ◌≤◌, ℕ, suc, List, [], ◌∷◌, ◌++◌, Some, length, map, slice_get, ⊤}
 use mathlib.Core.List.{IsPrefix}
-use Rattle.mt_interactions.specs.Configured.{ConfiguredInteractions}
-use Rattle.mt_shared.specs.Replay.{told}
-use Rattle.mt_shared.specs.Shared.{NodePass}
-use Rattle.mt_shared.specs.declared.entry.Answer.{Answer}
-use Rattle.mt_shared.specs.declared.entry.Entry.{Entry}
+use Rattle.mt_layer.specs.mt_interactions.Configured.{ConfiguredInteractions}
+use Rattle.mt_layer.specs.mt_shared.Replay.{told}
+use Rattle.mt_layer.specs.mt_shared.Shared.{NodePass}
+use Rattle.mt_layer.specs.mt_shared.declared.entry.Answer.{Answer}
+use Rattle.mt_layer.specs.mt_shared.declared.entry.Entry.{Entry}
 use Rattle.mt_turn.specs.History.{IsOutsideAgain}
 
 -- each of these

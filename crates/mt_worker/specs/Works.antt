@@ -1,14 +1,14 @@
 -- What a worker did, and the reporter.
 use Rattle.std.specs.Prelude.{◌≡◌, ◌≢◌, ℕ, ⊤, true, List, [], ◌∷◌, Option, Result, is_some, map, IfErr, IfOk, OnOk}
-use Rattle.mt_interactions.specs.Configured.{ConfiguredInteractions}
+use Rattle.mt_layer.specs.mt_interactions.Configured.{ConfiguredInteractions}
 use Rattle.mt_model.specs.declared.texts.config.SessionRow.{SessionRow}
 use Rattle.mt_model.specs.declared.texts.recording.Sent.{Sent}
 use Rattle.mt_outside.specs.declared.network.Parcel.{Parcel}
 use Rattle.mt_queue.specs.declared.job.Job.{Job}
-use Rattle.mt_shared.specs.Book.{done}
-use Rattle.mt_shared.specs.Shared.{NodePass}
-use Rattle.mt_shared.specs.declared.entry.Call.{Call}
-use Rattle.mt_shared.specs.declared.entry.Stamped.{Stamped}
+use Rattle.mt_layer.specs.mt_shared.Book.{done}
+use Rattle.mt_layer.specs.mt_shared.Shared.{NodePass}
+use Rattle.mt_layer.specs.mt_shared.declared.entry.Call.{Call}
+use Rattle.mt_layer.specs.mt_shared.declared.entry.Stamped.{Stamped}
 use Rattle.mt_worker.specs.Accounts.{Account, Accounts, account_over, all_behind, all_sent, sent_over}
 use Rattle.mt_worker.specs.Due.{DoesAll, Ticks, TicksAll, id_of, is_in}
 use Rattle.mt_worker.specs.Faults.{Counts, IsCause, status_of}

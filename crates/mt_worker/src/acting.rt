@@ -3,16 +3,16 @@
 ghost use Rattle.std.specs.Prelude.{IfErr, IfOk};
 ghost use mathlib.Core.List.{IsPrefix};
 ghost use Rattle.mt_files.specs.Form.{HasForm};
-ghost use Rattle.mt_interactions.specs.Deeds.{IsWithin};
-ghost use Rattle.mt_shared.specs.Shared.{IsAnswered, IsPassOf};
+ghost use Rattle.mt_layer.specs.mt_interactions.Deeds.{IsWithin};
+ghost use Rattle.mt_layer.specs.mt_shared.Shared.{IsAnswered, IsPassOf};
 ghost use Rattle.mt_turn.specs.History.{IsOutsideAgain};
 ghost use Rattle.mt_worker.specs.Faults.{IsDenied};
 
 use crate::fault::WorkFault;
 use mt_durable::Keeper;
+use mt_layer::mt_shared::{Call, NodePass, SharedNode, Stamped};
 use mt_model::Verdicts;
 use mt_outside::{Gate, Point};
-use mt_shared::{Call, NodePass, SharedNode, Stamped};
 use std::sync::Wait;
 
 /// What a thread of a served node acts with: what it waits by, the node, the gate, and the number that the gate is told.

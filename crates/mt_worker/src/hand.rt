@@ -2,11 +2,11 @@
 
 ghost use Rattle.std.specs.Prelude.{◌≡◌, ◌≤◌, ◌∷◌, [], ℕ, Contains, List, Some, drop, length, IfOk};
 ghost use Rattle.mt_files.specs.Form.{HasForm};
-ghost use Rattle.mt_interactions.specs.Deeds.{IsWithin};
+ghost use Rattle.mt_layer.specs.mt_interactions.Deeds.{IsWithin};
 ghost use Rattle.mt_model.specs.declared.limits.TheConstants.{LAST_TIME, RECEIVED_BYTES};
 ghost use Rattle.mt_queue.specs.Jobs.{IsWithinLimits, is_end};
-ghost use Rattle.mt_runs.specs.Datagrams.{session_named};
-ghost use Rattle.mt_shared.specs.Shared.{IsPassOf};
+ghost use Rattle.mt_layer.specs.mt_runs.Datagrams.{session_named};
+ghost use Rattle.mt_layer.specs.mt_shared.Shared.{IsPassOf};
 ghost use Rattle.mt_turn.specs.History.{IsOutsideAgain};
 ghost use Rattle.mt_worker.specs.Accounts.{Account, Accounts, IsReportable};
 ghost use Rattle.mt_worker.specs.Due.{AreRising, Does, Hears, Reports, Resends, Sweeps, Takes, Wakes};
@@ -18,11 +18,11 @@ use crate::fault::WorkFault;
 use crate::seat::{Seat, Subscription};
 use crate::sending::send_all;
 use mt_durable::Keeper;
-use mt_interactions::Deed;
+use mt_layer::mt_interactions::Deed;
+use mt_layer::mt_shared::{Call, NodePass, Stamped};
 use mt_model::{Event, Verdicts};
 use mt_outside::{Gate, Outlet, Peer};
 use mt_queue::Job;
-use mt_shared::{Call, NodePass, Stamped};
 use mt_tlv::Bytes;
 use mt_whole::session_named;
 use std::sync::Wait;

@@ -21,6 +21,8 @@ mod sitting;
 mod working;
 
 pub use fault::WorkFault;
+pub use mt_layer;
+pub use mt_layer::{mt_runs, mt_shared};
 pub use reporting::reporter;
 pub use seat::Subscription;
 pub use working::{Done, worker};

@@ -3,7 +3,7 @@
 ghost use Rattle.std.specs.Prelude.{◌≡◌, ◌≤◌, [], IfOk, OnOk};
 ghost use Rattle.mt_model.specs.declared.limits.TheConstants.{LAST_TIME};
 ghost use Rattle.mt_queue.specs.Jobs.{IsEnded, IsWithinLimits, is_end};
-ghost use Rattle.mt_shared.specs.Shared.{IsPassOf};
+ghost use Rattle.mt_layer.specs.mt_shared.Shared.{IsPassOf};
 ghost use Rattle.mt_turn.specs.History.{IsOutsideAgain};
 ghost use Rattle.mt_worker.specs.Works.{Reported, Ticked, TickedThrough};
 
@@ -11,11 +11,11 @@ use crate::acting::Desk;
 use crate::fault::WorkFault;
 use crate::working::{Done, status_of, take_to_end};
 use mt_durable::Keeper;
-use mt_interactions::Deed;
+use mt_layer::mt_interactions::Deed;
+use mt_layer::mt_shared::{Call, NodePass, SharedNode};
 use mt_model::{Event, Verdicts};
 use mt_outside::Gate;
 use mt_queue::{Job, Jobs};
-use mt_shared::{Call, NodePass, SharedNode};
 use std::sync::Wait;
 
 /// The reporter: it takes jobs until the end message, and in each wake makes a time step. After a fault it goes on taking jobs, and does

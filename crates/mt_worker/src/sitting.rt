@@ -2,7 +2,7 @@
 
 ghost use Rattle.std.specs.Prelude.{◌≡◌, ◌≢◌, ◌<◌, ◌≤◌, ◌+◌, ◌++◌, ◌∷◌, [], ℕ, All, drop, length, IfOk, IfSome, MatchOption, OnOk};
 ghost use Rattle.mt_files.specs.Form.{HasForm};
-ghost use Rattle.mt_interactions.specs.Deeds.{IsWithin};
+ghost use Rattle.mt_layer.specs.mt_interactions.Deeds.{IsWithin};
 ghost use Rattle.mt_layer.specs.Answering.{answer_by, answered_with};
 ghost use Rattle.mt_layer.specs.Deeds.{said_as_live};
 ghost use Rattle.mt_layer.specs.Saying.{heard_as_live, sent_again, sent_answering, sent_report, talk_again, talk_answering, talk_report};
@@ -14,12 +14,12 @@ ghost use Rattle.mt_worker.specs.Seats.{IsSeatOf};
 
 use crate::seat::{Seat, Subscription};
 use mt_exchange::EndTime;
-use mt_interactions::Deed;
+use mt_layer::mt_interactions::Deed;
+use mt_layer::mt_shared::{Answer, Call};
 use mt_layer::{Answering, SessionTalk};
 use mt_model::limits::LAST_FABRIC;
 use mt_model::{Event, ExactCopy, Reply, SentList, SessionRow};
 use mt_outside::Peer;
-use mt_shared::{Answer, Call};
 use mt_tlv::Bytes;
 use std::alloc::{AllocError, Global};
 

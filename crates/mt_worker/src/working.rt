@@ -2,7 +2,7 @@
 
 ghost use Rattle.std.specs.Prelude.{◌≡◌, [], ℕ, List, All, map, IfOk, OnOk};
 ghost use Rattle.mt_queue.specs.Jobs.{IsEnded};
-ghost use Rattle.mt_shared.specs.Shared.{IsPassOf};
+ghost use Rattle.mt_layer.specs.mt_shared.Shared.{IsPassOf};
 ghost use Rattle.mt_turn.specs.History.{IsOutsideAgain};
 ghost use Rattle.mt_worker.specs.Accounts.{Accounts};
 ghost use Rattle.mt_worker.specs.Due.{AreRising, HaveBegun, IsServed, id_of};
@@ -15,10 +15,10 @@ use crate::fault::WorkFault;
 use crate::hand::Hand;
 use crate::seat::Seat;
 use mt_durable::Keeper;
+use mt_layer::mt_shared::{NodePass, SharedNode};
 use mt_model::{SessionRow, SessionRows, Verdicts};
 use mt_outside::{Gate, Outlet};
 use mt_queue::{Job, Jobs, QueuePass};
-use mt_shared::{NodePass, SharedNode};
 use std::alloc::{AllocError, Global};
 use std::sync::Wait;
 

@@ -40,8 +40,8 @@ use Rattle.mt_session.specs.Sessions.{Message}
 use Rattle.mt_exchange.specs.Shown.{Outgoing, Shown, again, closed, heard, sent, told}
 use Rattle.mt_exchange.specs.contracts.exchange.Exchange as exchanges
 use Rattle.mt_exchange.specs.declared.exchange.Exchange.{Exchange}
-use Rattle.mt_machine.specs.Isolation.{Descriptor, Own, OwnOfWhole}
-use Rattle.mt_ledger.specs.Isolation.{OwnLedger}
+use Rattle.mt_runs.specs.mt_machine.Isolation.{Descriptor, Own, OwnOfWhole}
+use Rattle.mt_runs.specs.mt_ledger.Isolation.{OwnLedger}
 use Rattle.mt_runs.specs.Isolation.{OwnPart}
 use Rattle.mt_runs.specs.Marks.{Unanswered}
 use Rattle.mt_runs.specs.Whole.{SessionTalk}

@@ -2,7 +2,7 @@
 use Rattle.std.specs.Prelude.{ℕ, ◌+◌, List, [], ◌∷◌, Option, Some, None, if◌then◌else◌}
 use Rattle.mt_model.specs.declared.texts.config.SessionRow.{SessionRow}
 use Rattle.mt_model.specs.declared.texts.recording.Event.{Event}
-use Rattle.mt_machine.specs.Environment.{Environment}
+use Rattle.mt_runs.specs.mt_machine.Environment.{Environment}
 use Rattle.mt_runs.specs.Course.{Going}
 use Rattle.mt_runs.specs.Isolation.{OwnPart, PublicPart}
 use Rattle.mt_runs.specs.Marks.{Mark, Unanswered, born, gone, reopened, seen}

@@ -2,7 +2,7 @@
 use Rattle.std.specs.Prelude.{ℕ, List, [], ◌∷◌, ◌++◌, map}
 use Rattle.mt_model.specs.declared.texts.config.SessionRow.{SessionRow}
 use Rattle.mt_model.specs.declared.texts.recording.Event.{Event}
-use Rattle.mt_machine.specs.Environment.{Environment}
+use Rattle.mt_runs.specs.mt_machine.Environment.{Environment}
 use Rattle.mt_runs.specs.Course.{Course, Going, course, goes, stepped, stops}
 use Rattle.mt_runs.specs.Lines.{next}
 use Rattle.mt_runs.specs.Marks.{Mark, if_born, if_gone, if_seen, marks_in as marks_behind}

@@ -2,8 +2,8 @@
 
 ghost use Rattle.std.specs.Prelude.{◌≡◌, ◌↔◌, IsTrue, filter, option_copied};
 ghost use Rattle.mt_fabrics.specs.Table.{has_index};
-ghost use Rattle.mt_machine.specs.Isolation.{own, saved_for};
-ghost use Rattle.mt_machine.specs.State.{IsValid};
+ghost use Rattle.mt_runs.specs.mt_machine.Isolation.{own, saved_for};
+ghost use Rattle.mt_runs.specs.mt_machine.State.{IsValid};
 ghost use Rattle.mt_model.specs.Optional.{is_that};
 ghost use Rattle.mt_model.specs.rows.Seen.{own_entries};
 ghost use Rattle.mt_model.specs.declared.node.state.NodeSession.{NodeSession};

@@ -2,7 +2,7 @@
 
 ghost use Rattle.std.specs.Prelude.{◌≡◌, ◌↔◌, ◌==◌, ◌<◌, ◌∷◌, [], ℕ, Bool, IfNone, IfSome, IsTrue, filter, length};
 ghost use Rattle.mt_fabrics.specs.Table.{has_index};
-ghost use Rattle.mt_machine.specs.Isolation.{is_deadline_in, owns};
+ghost use Rattle.mt_runs.specs.mt_machine.Isolation.{is_deadline_in, owns};
 ghost use Rattle.mt_subs.specs.Leaving.{is_live_as};
 ghost use Rattle.mt_subs.specs.Subscriptions.{is_of};
 

@@ -3,7 +3,7 @@
 ghost use Rattle.std.specs.Prelude.{◌≡◌, ◌↔◌, IsTrue, filter};
 ghost use Rattle.mt_events.specs.Rings.{AreRings};
 ghost use Rattle.mt_events.specs.Telling.{own_of};
-ghost use Rattle.mt_machine.specs.Isolation.{is_deadline_in};
+ghost use Rattle.mt_runs.specs.mt_machine.Isolation.{is_deadline_in};
 ghost use Rattle.mt_subs.specs.Subscriptions.{is_of, next_id};
 
 use crate::own::owned::are_own_same;

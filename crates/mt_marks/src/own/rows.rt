@@ -2,7 +2,7 @@
 
 ghost use Rattle.std.specs.Prelude.{◌≡◌, ◌↔◌, IsTrue, filter};
 ghost use Rattle.std.specs.List.{list_all};
-ghost use Rattle.mt_machine.specs.Isolation.{owns};
+ghost use Rattle.mt_runs.specs.mt_machine.Isolation.{owns};
 ghost use Rattle.mt_model.specs.rows.Order.{are_ascending};
 ghost use Rattle.mt_model.specs.rows.Stored.{is_stored_place};
 ghost use Rattle.mt_model.specs.declared.rows.place.Row.{Row};

@@ -1,5 +1,5 @@
 use Rattle.std.proofs.Common.{sym, ◌∙◌}
-use Rattle.mt_runs.specs.Isolation.{own_part}
+use Rattle.mt_play.specs.mt_runs.Isolation.{own_part}
 use Rattle.mt_compare.proofs.Parting.{born_other}
 use Rattle.mt_compare.proofs.between.born_between.Goals as goal
 

@@ -2,11 +2,11 @@ use Rattle.std.proofs.Common.{◌≡◌, ◌++◌, List, subst}
 use Rattle.std.specs.Prelude.{IfOk}
 use Rattle.std.specs.Option.{option_map}
 use Rattle.mt_model.specs.texts.Contents.{contents_of}
-use Rattle.mt_machine.specs.Environment.{given_by}
-use Rattle.mt_runs.specs.Course.{going_on}
-use Rattle.mt_runs.specs.Whole.{opened}
-use Rattle.mt_marks.specs.differences.Difference.{difference_from}
-use Rattle.mt_marks.specs.differences.Marked.{Marked, marked}
+use Rattle.mt_play.specs.mt_machine.Environment.{given_by}
+use Rattle.mt_play.specs.mt_runs.Course.{going_on}
+use Rattle.mt_play.specs.mt_runs.Whole.{opened}
+use Rattle.mt_play.specs.mt_marks.differences.Difference.{difference_from}
+use Rattle.mt_play.specs.mt_marks.differences.Marked.{Marked, marked}
 use Rattle.mt_compare.specs.Found.{difference_in}
 use Rattle.mt_compare.specs.Sides.{if_lost_at, left}
 use Rattle.mt_compare.proofs.comparing.compare.Goals as goal

@@ -1,7 +1,7 @@
 use Rattle.std.proofs.Common.{List}
 use Rattle.mt_model.specs.declared.texts.config.SessionRow.{SessionRow}
-use Rattle.mt_machine.specs.Environment.{Environment}
-use Rattle.mt_runs.specs.Course.{Going}
+use Rattle.mt_play.specs.mt_machine.Environment.{Environment}
+use Rattle.mt_play.specs.mt_runs.Course.{Going}
 use Rattle.mt_play.specs.Plays.{IsOnJournal}
 use Rattle.mt_play.specs.Remembers.{IsRemembering}
 use Rattle.mt_compare.proofs.Abreast.{Abreast}

@@ -1,5 +1,5 @@
 use Rattle.std.proofs.Common.{◌≡◌, drop}
-use Rattle.mt_machine.specs.Lines.{deadline_of}
+use Rattle.mt_node.specs.mt_machine.Lines.{deadline_of}
 use Rattle.mt_interactions.proofs.deadlines.deadline_of.Given as goal
 
 -- the deadlines that were looked at are of others

@@ -1,5 +1,5 @@
 use Rattle.std.proofs.Common.{◌≡◌, ◌++◌, drop}
-use Rattle.mt_machine.specs.Lines.{without}
+use Rattle.mt_node.specs.mt_machine.Lines.{without}
 use Rattle.mt_interactions.proofs.deadlines.without.Given as goal
 
 -- those of others so far, and those among the deadlines to come

@@ -1,7 +1,7 @@
 use Rattle.std.proofs.Common.{◌≡◌, ℕ, List, Ok, Option, ap, refl, subst, sym, unwrap_or, ◌∙◌}
 use Rattle.mt_model.specs.declared.node.action.Action.TheVariants.{Ask}
 use Rattle.mt_model.specs.declared.node.action.PlainDeadline.{PlainDeadline}
-use Rattle.mt_machine.specs.Lines.{deadline_of}
+use Rattle.mt_node.specs.mt_machine.Lines.{deadline_of}
 use Rattle.mt_node.specs.Plan.{IsPlan}
 use Rattle.mt_interactions.specs.Configured.{ConfiguredInteractions, given_to}
 use Rattle.mt_interactions.specs.Plan.{IsLine, IsPlanned, left_without, told_to_commit}

@@ -1,5 +1,5 @@
 use Rattle.std.proofs.Common.{◌≡◌, None, ap, sym, ◌∙◌}
-use Rattle.mt_machine.specs.Step.{asker}
+use Rattle.mt_node.specs.mt_machine.Step.{asker}
 use Rattle.mt_interactions.specs.Configured.{ConfiguredInteractions, given_to}
 use Rattle.mt_interactions.proofs.Planned.{quiet_line, quiet_sent}
 use Rattle.mt_interactions.proofs.lines.planned_line.Goals as goal

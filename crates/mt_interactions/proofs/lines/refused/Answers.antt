@@ -1,6 +1,6 @@
 use Rattle.std.proofs.Common.{Err, ap, refl, subst, sym, ◌∙◌}
 use Rattle.mt_model.specs.declared.node.action.Action.TheVariants.{Nothing}
-use Rattle.mt_machine.specs.Lines.{sent_as}
+use Rattle.mt_node.specs.mt_machine.Lines.{sent_as}
 use Rattle.mt_node.specs.Plan.{IsPlan}
 use Rattle.mt_interactions.specs.Configured.{ConfiguredInteractions, given_to}
 use Rattle.mt_interactions.specs.Plan.{IsLine, IsPlanned, told_to_commit}

@@ -1,7 +1,7 @@
 use Rattle.std.proofs.Common.{List, ap, subst, sym, ◌∙◌}
 use Rattle.mt_model.specs.declared.node.state.NodeState.{NodeState}
 use Rattle.mt_model.specs.rows.Seen.{own_entries}
-use Rattle.mt_ledger.specs.Reporting.{with_places}
+use Rattle.mt_runs.specs.mt_ledger.Reporting.{with_places}
 use Rattle.mt_model.specs.declared.node.state.ChangeNumber.{ChangeNumber}
 use Rattle.mt_subs.specs.Changes.{IsChanges}
 use Rattle.mt_subs.specs.Owed.{due_of}

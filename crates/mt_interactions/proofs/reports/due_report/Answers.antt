@@ -1,6 +1,6 @@
 use Rattle.std.proofs.Common.{List, [], Some, false, ap, map, ◌++◌, ◌∙◌}
-use Rattle.mt_ledger.specs.Reporting.{subscriber}
-use Rattle.mt_ledger.specs.Subscribing.{attributes_for}
+use Rattle.mt_runs.specs.mt_ledger.Reporting.{subscriber}
+use Rattle.mt_runs.specs.mt_ledger.Subscribing.{attributes_for}
 use Rattle.mt_model.specs.messages.Blocks.{path_of}
 use Rattle.mt_model.specs.declared.messages.message.Item.{Item}
 use Rattle.mt_model.specs.declared.messages.message.Reply.TheVariants as replies

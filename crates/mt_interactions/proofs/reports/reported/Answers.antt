@@ -1,7 +1,7 @@
 use Rattle.std.proofs.Common.{ℕ, ap, refl, ◌∙◌}
 use Rattle.mt_model.specs.declared.node.state.NodeState.{NodeState}
-use Rattle.mt_ledger.specs.Behind.{reports}
-use Rattle.mt_ledger.specs.Reporting.{Due}
+use Rattle.mt_runs.specs.mt_ledger.Behind.{reports}
+use Rattle.mt_runs.specs.mt_ledger.Reporting.{Due}
 use Rattle.mt_interactions.specs.Configured.{ConfiguredInteractions, given_to}
 use Rattle.mt_interactions.specs.Reporting.{due_by}
 use Rattle.mt_interactions.specs.declared.behind.SubsBehind.TheVariants.{Told}

@@ -1,7 +1,7 @@
 use Rattle.std.proofs.Common.{◌≡◌, ◌++◌, [], sym, ap, ◌∙◌, map, append-nil}
 use Rattle.std.proofs.lemmas.List.{nil_from_length}
 use Rattle.std.specs.Vec.Iter.{into_iter_items}
-use Rattle.mt_machine.specs.Lines.{sent_plain}
+use Rattle.mt_node.specs.mt_machine.Lines.{sent_plain}
 use Rattle.mt_interactions.proofs.sending.sent_as.Goals as goal
 
 pub returns : goal.returns

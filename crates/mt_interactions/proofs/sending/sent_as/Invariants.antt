@@ -1,6 +1,6 @@
 use Rattle.std.proofs.Common.{◌≡◌, ◌++◌, length, map}
 use Rattle.std.specs.Vec.Iter.{into_iter_items, into_iter_len}
-use Rattle.mt_machine.specs.Lines.{sent_as, sent_plain}
+use Rattle.mt_node.specs.mt_machine.Lines.{sent_as, sent_plain}
 use Rattle.mt_interactions.proofs.sending.sent_as.Given as goal
 
 -- the messages so far and those of the payloads to come are those of all payloads

@@ -1,6 +1,6 @@
 use Rattle.std.proofs.Common.{ℕ, ◌-◌, Bool, ap, is_none, ◌∙◌}
 use Rattle.mt_model.specs.declared.node.state.NodeState.{NodeState}
-use Rattle.mt_ledger.specs.Subscribing.{Wish, last_told}
+use Rattle.mt_runs.specs.mt_ledger.Subscribing.{Wish, last_told}
 use Rattle.mt_subs.specs.Subscriptions.{changed, reported}
 use Rattle.mt_subs.specs.declared.subscription.SubState.{SubState}
 use Rattle.mt_interactions.specs.Configured.{ConfiguredInteractions}

@@ -1,6 +1,6 @@
 use Rattle.std.proofs.Common.{[], List, Option, ap, sym, unwrap_or, ◌∙◌}
 use Rattle.mt_model.specs.declared.messages.message.Item.{Item}
-use Rattle.mt_ledger.specs.Subscribing.{attributes_for}
+use Rattle.mt_runs.specs.mt_ledger.Subscribing.{attributes_for}
 use Rattle.mt_interactions.specs.Configured.{ConfiguredInteractions}
 use Rattle.mt_interactions.proofs.telling.attributes_for.Goals as goal
 

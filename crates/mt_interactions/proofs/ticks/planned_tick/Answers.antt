@@ -1,8 +1,8 @@
 use Rattle.std.proofs.Common.{◌≡◌, List, None, ap, refl, subst, sym, unwrap_or, ◌∙◌}
 use Rattle.mt_model.specs.declared.node.action.Action.TheVariants.{Expire}
 use Rattle.mt_model.specs.declared.node.action.PlainDeadline.{PlainDeadline}
-use Rattle.mt_machine.specs.State.{IsValid}
-use Rattle.mt_ledger.specs.Behind.{acts}
+use Rattle.mt_node.specs.mt_machine.State.{IsValid}
+use Rattle.mt_runs.specs.mt_ledger.Behind.{acts}
 use Rattle.mt_node.specs.Plan.{IsPlan}
 use Rattle.mt_interactions.specs.Configured.{ConfiguredInteractions, given_to}
 use Rattle.mt_interactions.specs.Plan.{IsDone, IsPlanned, IsTick, left_without, told_to_commit}

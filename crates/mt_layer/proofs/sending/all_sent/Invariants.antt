@@ -1,6 +1,6 @@
 use Rattle.std.proofs.Common.{◌≡◌, ◌++◌, length, map}
 use Rattle.std.specs.Vec.Iter.{into_iter_items, into_iter_len}
-use Rattle.mt_runs.specs.Datagrams.{sent_at}
+use Rattle.mt_shared.specs.mt_runs.Datagrams.{sent_at}
 use Rattle.mt_layer.proofs.sending.all_sent.Given as goal
 
 -- the messages so far and those of the datagrams to come are those of all

@@ -1,6 +1,6 @@
 use Rattle.std.proofs.Common.{◌≡◌, ◌∙◌, ap, map}
 use Rattle.mt_model.specs.tables.Known.{bare_network}
-use Rattle.mt_machine.specs.Isolation.{descriptor_of}
+use Rattle.mt_runs.specs.mt_machine.Isolation.{descriptor_of}
 use Rattle.mt_runs.specs.Marks.{seen}
 use Rattle.mt_marks.specs.Seen.{described, descriptor_in, other_owners}
 use Rattle.mt_marks.proofs.Seeing.{map-described}

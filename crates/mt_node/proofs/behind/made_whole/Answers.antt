@@ -3,7 +3,7 @@ use Rattle.mt_model.specs.declared.node.state.NodeState.{NodeState}
 use Rattle.mt_machine.specs.Effects.{events_in}
 use Rattle.mt_machine.specs.Step.{after_steps, at_time, closed_between, gone_between}
 use Rattle.mt_machine.specs.Telling.{told_between}
-use Rattle.mt_lasting.specs.Changes.{change_between}
+use Rattle.mt_regained.specs.mt_lasting.Changes.{change_between}
 use Rattle.mt_node.specs.Configured.{ConfiguredNode}
 use Rattle.mt_node.proofs.behind.made_whole.Goals as goal
 

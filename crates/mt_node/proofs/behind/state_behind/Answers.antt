@@ -8,8 +8,8 @@ use Rattle.mt_machine.specs.Laws.{AllStayValid, TimesStayValid}
 use Rattle.mt_machine.specs.State.{IsValid}
 use Rattle.mt_machine.specs.Step.{after_steps, at_time}
 use Rattle.mt_machine.specs.Taking.{may_take_all}
-use Rattle.mt_lasting.specs.Changes.{change_between}
-use Rattle.mt_lasting.specs.Contents.{what_lasts}
+use Rattle.mt_regained.specs.mt_lasting.Changes.{change_between}
+use Rattle.mt_regained.specs.mt_lasting.Contents.{what_lasts}
 use Rattle.mt_node.specs.Configured.{ConfiguredNode}
 use Rattle.mt_node.proofs.Counts.{newest_up_to, settled_is}
 use Rattle.mt_node.proofs.behind.state_behind.Goals as goal

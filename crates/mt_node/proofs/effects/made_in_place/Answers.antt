@@ -9,7 +9,7 @@ use Rattle.mt_machine.specs.Changes.{changed_at, differing}
 use Rattle.mt_machine.specs.Effects.{after_all, events_in, is_setting_step}
 use Rattle.mt_machine.specs.Step.{at_time}
 use Rattle.mt_machine.specs.Taking.{may_take_all}
-use Rattle.mt_lasting.specs.Changes.{change_between}
+use Rattle.mt_regained.specs.mt_lasting.Changes.{change_between}
 use Rattle.mt_node.specs.Configured.{ConfiguredNode}
 use Rattle.mt_node.specs.Plan.{HaveRoom, entries_in}
 use Rattle.mt_node.proofs.Applied.{anyones_steps, needed_at_most}

@@ -2,7 +2,7 @@ use Rattle.std.proofs.Common.{◌≡◌, ◌∙◌, None, ap, sym}
 use Rattle.mt_model.specs.declared.node.state.NodeState.{NodeState}
 use Rattle.mt_machine.specs.Effects.{after_all}
 use Rattle.mt_machine.specs.Taking.{may_take_all}
-use Rattle.mt_lasting.specs.Changes.{change_between}
+use Rattle.mt_regained.specs.mt_lasting.Changes.{change_between}
 use Rattle.mt_node.specs.Configured.{ConfiguredNode}
 use Rattle.mt_node.proofs.lasting.change_set.Goals as goal
 

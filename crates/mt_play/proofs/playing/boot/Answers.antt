@@ -1,7 +1,7 @@
 use Rattle.std.proofs.Common.{subst, sym}
 use Rattle.mt_keeping.specs.Laws.{MayCommit}
 use Rattle.mt_keeping.specs.States.{told_map}
-use Rattle.mt_interactions.specs.Configured.{IsFirst}
+use Rattle.mt_whole.specs.mt_interactions.Configured.{IsFirst}
 use Rattle.mt_play.proofs.Reopening.{fits_begun, keeps_first, may_commit_first, valid_begun}
 use Rattle.mt_play.proofs.playing.boot.Goals as goal
 

@@ -1,6 +1,6 @@
 use Rattle.std.proofs.Common.{rules}
 use Rattle.std.specs.Prelude.{codes}
-use Rattle.mt_shared.specs.Book.{lines_in}
+use Rattle.mt_starting.specs.mt_shared.Book.{lines_in}
 use Rattle.mt_serving.specs.Record.{event_lines}
 use Rattle.mt_serving.proofs.Records.{writes-behind}
 use Rattle.mt_serving.proofs.recording.write_record.Goals as goal

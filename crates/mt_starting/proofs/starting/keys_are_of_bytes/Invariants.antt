@@ -1,6 +1,6 @@
 use Rattle.std.proofs.Common.{◌≡◌, drop}
 use Rattle.std.specs.List.{list_all}
-use Rattle.mt_regained.specs.Laws.{is_of_bytes}
+use Rattle.mt_shared.specs.mt_regained.Laws.{is_of_bytes}
 use Rattle.mt_starting.proofs.starting.keys_are_of_bytes.Given as goal
 
 -- the keys that were read are of bytes

@@ -2,15 +2,15 @@ use Rattle.std.proofs.Common.{rules, ◌≡◌, ◌∙◌, ap, sym, subst, List,
 use Rattle.std.specs.List.{list_all}
 use Rattle.mt_durable.specs.Maps.{have_values, keys_ascend}
 use Rattle.mt_durable.specs.declared.durable.Entry.{Entry}
-use Rattle.mt_interactions.specs.Configured.{IsFirst, given_to}
-use Rattle.mt_keeping.specs.Laws.{MayCommit}
-use Rattle.mt_keeping.specs.States.{told_map}
-use Rattle.mt_machine.specs.Environment.{given_by}
-use Rattle.mt_machine.specs.State.{IsValid}
+use Rattle.mt_shared.specs.mt_interactions.Configured.{IsFirst, given_to}
+use Rattle.mt_shared.specs.mt_keeping.Laws.{MayCommit}
+use Rattle.mt_shared.specs.mt_keeping.States.{told_map}
+use Rattle.mt_shared.specs.mt_machine.Environment.{given_by}
+use Rattle.mt_shared.specs.mt_machine.State.{IsValid}
 use Rattle.mt_model.specs.texts.Contents.{contents_of}
 use Rattle.mt_opcreds.specs.Judged.{judged_by}
-use Rattle.mt_regained.specs.Begun.{MayStart}
-use Rattle.mt_regained.specs.Laws.{is_of_bytes}
+use Rattle.mt_shared.specs.mt_regained.Begun.{MayStart}
+use Rattle.mt_shared.specs.mt_regained.Laws.{is_of_bytes}
 use Rattle.mt_starting.specs.Starts.{HasRoom}
 use Rattle.mt_starting.proofs.Begins.{leads, may_commit, says, valid_start}
 use Rattle.mt_starting.proofs.starting.start_with.Goals as goal

@@ -2,7 +2,7 @@ use Rattle.std.proofs.Common.{◌≡◌, ◌∙◌, ℕ, ap}
 use Rattle.std.proofs.lemmas.Result.{IfOk-weaker}
 use Rattle.std.specs.Global.{Vec}
 use Rattle.mt_files.specs.Output.{output_text}
-use Rattle.mt_play.specs.Plays.{IsOnJournal}
+use Rattle.mt_compare.specs.mt_play.Plays.{IsOnJournal}
 use Rattle.mt_top.specs.Begun.{Steps}
 use Rattle.mt_top.proofs.playing.step.Goals as goal
 

@@ -1,5 +1,5 @@
 use Rattle.std.proofs.Common.{◌≡◌, drop}
-use Rattle.mt_play.specs.Plays.{IsOnJournal}
+use Rattle.mt_compare.specs.mt_play.Plays.{IsOnJournal}
 use Rattle.mt_top.specs.Begun.{Begun, Plays}
 use Rattle.mt_top.proofs.Plays.{SoFar}
 use Rattle.mt_top.proofs.replaying.play.Given as goal

@@ -3,7 +3,7 @@ use Rattle.std.specs.Prelude.{IfOk}
 use Rattle.mt_files.specs.Lines.{text_of}
 use Rattle.mt_model.specs.declared.texts.recording.Event.{Event}
 use Rattle.mt_model.specs.texts.Contents.{contents_of}
-use Rattle.mt_runs.specs.Messages.{run}
+use Rattle.mt_compare.specs.mt_runs.Messages.{run}
 use Rattle.mt_soak.specs.Generated.{State, begun, events_from}
 use Rattle.mt_top.specs.Asked.{summary_of}
 use Rattle.mt_top.specs.Begun.{begun_with}

@@ -1,5 +1,5 @@
 use Rattle.std.proofs.Common.{◌≡◌, ◌-◌, []}
-use Rattle.mt_play.specs.Plays.{IsOnJournal}
+use Rattle.mt_compare.specs.mt_play.Plays.{IsOnJournal}
 use Rattle.mt_soak.specs.Generated.{events_from}
 use Rattle.mt_soak.specs.Summary.{IsTallyOf}
 use Rattle.mt_top.specs.Begun.{Begun, Plays}

@@ -3,9 +3,9 @@ use Rattle.mt_im.specs.declared.fault.ImFault.{ImFault}
 use Rattle.mt_model.specs.declared.messages.message.Request.{Request}
 use Rattle.mt_talk.specs.Hearing.{answers, asks, confirms, ends, said_by}
 use Rattle.mt_talk.specs.declared.hearing.Heard.{Heard}
-use Rattle.mt_machine.specs.Lines.{action_of}
-use Rattle.mt_ledger.specs.Behind.{acts}
-use Rattle.mt_runs.specs.Datagrams.{actor_on, payloads_over}
+use Rattle.mt_interactions.specs.mt_machine.Lines.{action_of}
+use Rattle.mt_interactions.specs.mt_ledger.Behind.{acts}
+use Rattle.mt_interactions.specs.mt_runs.Datagrams.{actor_on, payloads_over}
 use Rattle.mt_interactions.specs.Plan.{IsDone}
 use Rattle.mt_whole.specs.Plan.{IsAnswered, given_to}
 use Rattle.mt_whole.proofs.Planned.{answered_with, answering}

@@ -1,7 +1,7 @@
 use Rattle.std.proofs.Common.{◌≡◌, Option, IfOk, OnOk, sym, subst}
 use Rattle.mt_model.specs.declared.texts.config.SessionRow.{SessionRow}
 use Rattle.mt_talk.specs.Talks.{IsTalkOf, Talk}
-use Rattle.mt_runs.specs.Datagrams.{behind_answer, datagram_of}
+use Rattle.mt_interactions.specs.mt_runs.Datagrams.{behind_answer, datagram_of}
 use Rattle.mt_whole.specs.declared.datagrams.Answering.{Answering}
 use Rattle.mt_whole.specs.Plan.{answer_as}
 use Rattle.mt_whole.proofs.datagrams.datagram_of.Goals as goal

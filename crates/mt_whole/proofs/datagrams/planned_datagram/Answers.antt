@@ -1,11 +1,11 @@
 use Rattle.std.proofs.Common.{◌≡◌, ℕ, Option, Some, None, sym, ap, subst, ◌∙◌}
 use Rattle.std.specs.List.{find}
 use Rattle.std.specs.Option.{option_copied}
-use Rattle.mt_machine.specs.State.{State}
-use Rattle.mt_ledger.specs.Ledger.{Ledger}
+use Rattle.mt_interactions.specs.mt_machine.State.{State}
+use Rattle.mt_interactions.specs.mt_ledger.Ledger.{Ledger}
 use Rattle.mt_model.specs.declared.texts.recording.Event.TheVariants.{Datagram}
-use Rattle.mt_runs.specs.Datagrams.{session_named}
-use Rattle.mt_runs.specs.Whole.{talk_of}
+use Rattle.mt_interactions.specs.mt_runs.Datagrams.{session_named}
+use Rattle.mt_interactions.specs.mt_runs.Whole.{talk_of}
 use Rattle.mt_whole.specs.Plan.{IsHeard, IsQuiet, IsPlan, given_to}
 use Rattle.mt_whole.specs.Talks.{is_code_of}
 use Rattle.mt_whole.proofs.Planned.{heard_as_planned, if_ok, one_found, unheard}

@@ -2,9 +2,9 @@ use Rattle.std.proofs.Common.{◌≡◌, ℕ, Bool, List, Option, is_some, sym, 
 use Rattle.mt_talk.specs.Hearing.{Said, after_datagram, fresh_by, received_in, said, said_by}
 use Rattle.mt_talk.specs.Talks.{IsTalkOf}
 use Rattle.mt_talk.specs.declared.talk.Talk as code
-use Rattle.mt_machine.specs.Step.{session_actor}
-use Rattle.mt_runs.specs.Datagrams.{Answer, behind_answer, datagram_of, heard, its_answer, said_to}
-use Rattle.mt_runs.specs.Whole.{is_live}
+use Rattle.mt_interactions.specs.mt_machine.Step.{session_actor}
+use Rattle.mt_interactions.specs.mt_runs.Datagrams.{Answer, behind_answer, datagram_of, heard, its_answer, said_to}
+use Rattle.mt_interactions.specs.mt_runs.Whole.{is_live}
 use Rattle.mt_whole.specs.Plan.{IsAnswered, answer_as, given_to}
 use Rattle.mt_whole.proofs.Planned.{sent_as_heard}
 use Rattle.mt_whole.proofs.datagrams.planned_heard.Goals as goal

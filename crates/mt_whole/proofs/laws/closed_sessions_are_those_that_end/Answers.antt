@@ -1,6 +1,6 @@
 use Rattle.std.proofs.Common.{ℕ, List, sym, ap, map}
-use Rattle.mt_runs.specs.Lines.{talks_behind}
-use Rattle.mt_runs.specs.Whole.{without_ended}
+use Rattle.mt_interactions.specs.mt_runs.Lines.{talks_behind}
+use Rattle.mt_interactions.specs.mt_runs.Whole.{without_ended}
 use Rattle.mt_whole.proofs.Planned.{closed_behind}
 use Rattle.mt_whole.proofs.laws.closed_sessions_are_those_that_end.Goals as goal
 

@@ -1,7 +1,7 @@
 use Rattle.std.proofs.Common.{◌≡◌, ℕ, Bool, true, false, Some, is_some, not, refl, sym, ap, subst, ◌∙◌, if◌then◌else◌}
-use Rattle.mt_machine.specs.Step.{session_actor}
+use Rattle.mt_interactions.specs.mt_machine.Step.{session_actor}
 use Rattle.mt_talk.specs.Talks.{after_resend}
-use Rattle.mt_runs.specs.Whole.{is_live}
+use Rattle.mt_interactions.specs.mt_runs.Whole.{is_live}
 use Rattle.mt_marks.specs.declared.shown.Shown.TheVariants as codes
 use Rattle.mt_whole.specs.Noting.{IsNoteOf}
 use Rattle.mt_whole.proofs.Noted.{one_noted}

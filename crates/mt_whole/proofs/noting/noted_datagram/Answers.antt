@@ -1,11 +1,11 @@
 use Rattle.std.proofs.Common.{◌≡◌, ℕ, Option, Some, None, map, sym, ap, subst, ◌∙◌}
 use Rattle.std.specs.List.{find}
 use Rattle.std.specs.Option.{option_copied}
-use Rattle.mt_machine.specs.State.{State}
-use Rattle.mt_ledger.specs.Ledger.{Ledger}
-use Rattle.mt_runs.specs.Datagrams.{session_named, talked}
-use Rattle.mt_runs.specs.Lines.{with_next}
-use Rattle.mt_runs.specs.Whole.{SessionTalk, talk_of}
+use Rattle.mt_interactions.specs.mt_machine.State.{State}
+use Rattle.mt_interactions.specs.mt_ledger.Ledger.{Ledger}
+use Rattle.mt_interactions.specs.mt_runs.Datagrams.{session_named, talked}
+use Rattle.mt_interactions.specs.mt_runs.Lines.{with_next}
+use Rattle.mt_interactions.specs.mt_runs.Whole.{SessionTalk, talk_of}
 use Rattle.mt_marks.specs.Remembered.{remembered}
 use Rattle.mt_whole.specs.Noting.{IsNoteOf}
 use Rattle.mt_whole.specs.Plan.{given_to}

@@ -3,9 +3,9 @@ use Rattle.mt_exchange.specs.Shown as showing
 use Rattle.mt_talk.specs.Hearing.{Said, after_datagram, fresh_as, fresh_by, received_in, said, said_by}
 use Rattle.mt_talk.specs.Talks.{IsTalkOf}
 use Rattle.mt_talk.specs.declared.talk.Talk as code
-use Rattle.mt_machine.specs.Step.{session_actor}
-use Rattle.mt_runs.specs.Datagrams.{Answer, behind_answer, heard, its_answer, said_to}
-use Rattle.mt_runs.specs.Whole.{is_live}
+use Rattle.mt_interactions.specs.mt_machine.Step.{session_actor}
+use Rattle.mt_interactions.specs.mt_runs.Datagrams.{Answer, behind_answer, heard, its_answer, said_to}
+use Rattle.mt_interactions.specs.mt_runs.Whole.{is_live}
 use Rattle.mt_marks.specs.Noted.{shown_in}
 use Rattle.mt_whole.specs.Plan.{IsAnswered, answer_as, given_to}
 use Rattle.mt_whole.proofs.Noted.{both_shown, heard_list}

@@ -1,11 +1,11 @@
 use Rattle.std.proofs.Common.{◌≡◌, ℕ, List, Option, Some, None, map, sym, ap, subst, ◌∙◌}
 use Rattle.std.specs.List.{find}
 use Rattle.std.specs.Option.{option_copied}
-use Rattle.mt_machine.specs.State.{State}
-use Rattle.mt_ledger.specs.Ledger.{Ledger}
-use Rattle.mt_ledger.specs.Reporting.{due_now}
+use Rattle.mt_interactions.specs.mt_machine.State.{State}
+use Rattle.mt_interactions.specs.mt_ledger.Ledger.{Ledger}
+use Rattle.mt_interactions.specs.mt_ledger.Reporting.{due_now}
 use Rattle.mt_talk.specs.Talks.{after_report}
-use Rattle.mt_runs.specs.Lines.{talks_behind}
+use Rattle.mt_interactions.specs.mt_runs.Lines.{talks_behind}
 use Rattle.mt_model.specs.declared.messages.message.Payload.{Payload}
 use Rattle.mt_model.specs.declared.texts.recording.Event.TheVariants.{Report}
 use Rattle.mt_interactions.specs.Reporting.{reported_over}

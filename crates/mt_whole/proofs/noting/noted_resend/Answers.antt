@@ -1,10 +1,10 @@
 use Rattle.std.proofs.Common.{◌≡◌, Option, Some, None, map, sym, ap, subst, ◌∙◌}
 use Rattle.std.specs.List.{find}
 use Rattle.std.specs.Option.{option_copied}
-use Rattle.mt_runs.specs.Datagrams.{resent_talk}
-use Rattle.mt_runs.specs.Lines.{talks_behind, with_next}
-use Rattle.mt_runs.specs.Whole.{SessionTalk}
-use Rattle.mt_machine.specs.State.{State}
+use Rattle.mt_interactions.specs.mt_runs.Datagrams.{resent_talk}
+use Rattle.mt_interactions.specs.mt_runs.Lines.{talks_behind, with_next}
+use Rattle.mt_interactions.specs.mt_runs.Whole.{SessionTalk}
+use Rattle.mt_interactions.specs.mt_machine.State.{State}
 use Rattle.mt_model.specs.declared.texts.recording.Event.TheVariants.{Resend}
 use Rattle.mt_marks.specs.Noted.{noted_if}
 use Rattle.mt_marks.specs.Remembered.{remembered}

@@ -1,5 +1,5 @@
 use Rattle.std.proofs.Common.{Option, append-nil, sym, ap, ◌∙◌}
-use Rattle.mt_runs.specs.Datagrams.{behind_answer}
+use Rattle.mt_interactions.specs.mt_runs.Datagrams.{behind_answer}
 use Rattle.mt_whole.specs.Plan.{answer_as}
 use Rattle.mt_whole.specs.declared.datagrams.Answering.{Answering}
 use Rattle.mt_whole.proofs.noting.sent_with.Goals as goal

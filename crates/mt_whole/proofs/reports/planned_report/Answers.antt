@@ -1,8 +1,8 @@
 use Rattle.std.proofs.Common.{◌≡◌, Some, None, sym, ap, subst, ◌∙◌}
 use Rattle.std.specs.List.{find}
 use Rattle.std.specs.Option.{option_copied}
-use Rattle.mt_machine.specs.State.{State}
-use Rattle.mt_ledger.specs.Ledger.{Ledger}
+use Rattle.mt_interactions.specs.mt_machine.State.{State}
+use Rattle.mt_interactions.specs.mt_ledger.Ledger.{Ledger}
 use Rattle.mt_model.specs.declared.texts.recording.Event.TheVariants.{Report}
 use Rattle.mt_whole.specs.declared.outcome.WholeOutcome.{WholeOutcome}
 use Rattle.mt_whole.specs.Plan.{IsPlan, IsPlanned, IsToldOver, given_to}

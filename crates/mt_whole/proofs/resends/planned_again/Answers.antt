@@ -1,8 +1,8 @@
 use Rattle.std.proofs.Common.{◌≡◌, ℕ, true, false, is_some, not, refl, sym, ap, subst, ◌∙◌}
 use Rattle.mt_talk.specs.Talks.{IsTalkOf, after_resend}
 use Rattle.mt_talk.specs.declared.talk.Talk as code
-use Rattle.mt_machine.specs.Step.{session_actor}
-use Rattle.mt_runs.specs.Whole.{is_live}
+use Rattle.mt_interactions.specs.mt_machine.Step.{session_actor}
+use Rattle.mt_interactions.specs.mt_runs.Whole.{is_live}
 use Rattle.mt_whole.specs.Plan.{IsAgain, IsQuiet, given_to}
 use Rattle.mt_whole.proofs.Planned.{again_over, if_ok, quiet_again}
 use Rattle.mt_whole.proofs.resends.planned_again.Goals as goal

@@ -2,8 +2,8 @@ use Rattle.std.proofs.Common.{Some, None, sym, ap, subst, ◌∙◌}
 use Rattle.std.specs.List.{find}
 use Rattle.std.specs.Option.{option_copied}
 use Rattle.mt_whole.specs.Talks.{is_code_of}
-use Rattle.mt_machine.specs.State.{State}
-use Rattle.mt_ledger.specs.Ledger.{Ledger}
+use Rattle.mt_interactions.specs.mt_machine.State.{State}
+use Rattle.mt_interactions.specs.mt_ledger.Ledger.{Ledger}
 use Rattle.mt_model.specs.declared.texts.recording.Event.TheVariants.{Resend}
 use Rattle.mt_whole.specs.Plan.{IsAgain, IsQuiet, IsPlan, given_to}
 use Rattle.mt_whole.proofs.Planned.{again_as_planned, if_ok, one_found, unsent}

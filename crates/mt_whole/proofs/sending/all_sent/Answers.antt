@@ -2,7 +2,7 @@ use Rattle.std.proofs.Common.{◌≡◌, ◌++◌, [], Option, sym, ap, ◌∙�
 use Rattle.std.proofs.lemmas.List.{nil_from_length}
 use Rattle.std.specs.Vec.Iter.{into_iter_items}
 use Rattle.mt_outside.specs.declared.network.Peer.{Peer}
-use Rattle.mt_runs.specs.Datagrams.{all_sent, sent_at}
+use Rattle.mt_interactions.specs.mt_runs.Datagrams.{all_sent, sent_at}
 use Rattle.mt_whole.proofs.sending.all_sent.Goals as goal
 
 pub returns : goal.returns

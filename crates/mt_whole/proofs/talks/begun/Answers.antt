@@ -2,7 +2,7 @@ use Rattle.std.proofs.Common.{◌++◌, List, sym, ap, subst, ◌∙◌}
 use Rattle.std.proofs.lemmas.Bool.{eq-eqb, ne_eqb}
 use Rattle.mt_whole.specs.declared.talks.SessionTalk as code
 use Rattle.mt_whole.specs.Talks.{AreTalks}
-use Rattle.mt_runs.specs.Whole.{begun_in}
+use Rattle.mt_interactions.specs.mt_runs.Whole.{begun_in}
 use Rattle.mt_whole.proofs.Listed.{no_more_begun, none_begun, one_more_begun}
 use Rattle.mt_whole.proofs.talks.begun.Goals.{then-row-boot+in_ok-begun_with+in_ok-push, else-row-boot}
 use Rattle.mt_whole.proofs.talks.begun.Goals as goal

@@ -1,5 +1,5 @@
 use Rattle.std.proofs.Common.{◌++◌, List, drop}
-use Rattle.mt_runs.specs.Whole.{begun_in}
+use Rattle.mt_interactions.specs.mt_runs.Whole.{begun_in}
 use Rattle.mt_whole.specs.declared.talks.SessionTalk as code
 use Rattle.mt_whole.specs.Talks.{AreTalks}
 use Rattle.mt_whole.proofs.talks.begun.Given as goal

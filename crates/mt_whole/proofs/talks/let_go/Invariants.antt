@@ -1,5 +1,5 @@
 use Rattle.std.proofs.Common.{List}
-use Rattle.mt_runs.specs.Whole.{SessionTalk as Told}
+use Rattle.mt_interactions.specs.mt_runs.Whole.{SessionTalk as Told}
 use Rattle.mt_whole.specs.Talks.{AreTalks}
 use Rattle.mt_whole.proofs.Listed.{first_without}
 use Rattle.mt_whole.proofs.talks.let_go.Given as goal

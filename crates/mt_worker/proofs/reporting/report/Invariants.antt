@@ -1,5 +1,5 @@
 use Rattle.std.proofs.Common.{◌≡◌}
-use Rattle.mt_shared.specs.Shared.{IsPassOf}
+use Rattle.mt_layer.specs.mt_shared.Shared.{IsPassOf}
 use Rattle.mt_worker.specs.Works.{TickedThrough}
 use Rattle.mt_turn.specs.History.{IsOutsideAgain}
 use Rattle.mt_worker.proofs.Works.{ok}

@@ -1,6 +1,6 @@
 use Rattle.std.proofs.Common.{refl, subst, sym}
 use Rattle.mt_model.specs.declared.texts.recording.Event.TheVariants as events
-use Rattle.mt_runs.specs.Course.{stepped}
+use Rattle.mt_play.specs.mt_runs.Course.{stepped}
 use Rattle.mt_play.specs.Plays.{IsPlaying}
 use Rattle.mt_play.specs.declared.playing.Playing.{Playing}
 use Rattle.mt_compare.proofs.Reopening.{reopens}

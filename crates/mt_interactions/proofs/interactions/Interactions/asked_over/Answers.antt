@@ -2,8 +2,8 @@ use Rattle.std.proofs.Common.{◌≡◌, List, None, Some, ap, refl, subst, sym,
 use Rattle.mt_model.specs.declared.node.action.Action.TheVariants.{Ask}
 use Rattle.mt_model.specs.declared.node.action.PlainDeadline.{PlainDeadline}
 use Rattle.mt_model.specs.declared.tables.access.Actor.{Actor}
-use Rattle.mt_machine.specs.Step.{asker}
-use Rattle.mt_ledger.specs.Behind.{acts}
+use Rattle.mt_node.specs.mt_machine.Step.{asker}
+use Rattle.mt_runs.specs.mt_ledger.Behind.{acts}
 use Rattle.mt_runs.specs.Datagrams.{actor_on}
 use Rattle.mt_node.specs.Plan.{IsPlan}
 use Rattle.mt_interactions.specs.Configured.{ConfiguredInteractions, given_to}

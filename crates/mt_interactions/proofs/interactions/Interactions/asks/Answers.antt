@@ -1,6 +1,6 @@
 use Rattle.std.proofs.Common.{ap, is_none, subst, sym, ◌∙◌}
 use Rattle.mt_model.specs.declared.node.action.Action.TheVariants.{Ask}
-use Rattle.mt_ledger.specs.Behind.{Activity, acts}
+use Rattle.mt_runs.specs.mt_ledger.Behind.{Activity, acts}
 use Rattle.mt_runs.specs.Datagrams.{actor_on}
 use Rattle.mt_runs.specs.Whole.{fabric_live}
 use Rattle.mt_interactions.specs.Configured.{ConfiguredInteractions, given_to}

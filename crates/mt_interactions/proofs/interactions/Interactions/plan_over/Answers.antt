@@ -1,8 +1,8 @@
 use Rattle.std.proofs.Common.{Result, subst, sym}
 use Rattle.mt_im.specs.declared.fault.ImFault.{ImFault}
 use Rattle.mt_model.specs.declared.messages.message.Request.{Request}
-use Rattle.mt_machine.specs.Lines.{action_of}
-use Rattle.mt_ledger.specs.Behind.{acts}
+use Rattle.mt_node.specs.mt_machine.Lines.{action_of}
+use Rattle.mt_runs.specs.mt_ledger.Behind.{acts}
 use Rattle.mt_runs.specs.Datagrams.{actor_on}
 use Rattle.mt_interactions.specs.Configured.{ConfiguredInteractions, given_to}
 use Rattle.mt_interactions.specs.Plan.{IsDone}

@@ -1,5 +1,5 @@
 use Rattle.std.proofs.Common.{sym, ◌∙◌}
-use Rattle.mt_ledger.specs.Reporting.{due_now}
+use Rattle.mt_runs.specs.mt_ledger.Reporting.{due_now}
 use Rattle.mt_interactions.specs.Configured.{ConfiguredInteractions}
 use Rattle.mt_interactions.proofs.Due.{not_plainly, over_none, over_session, plainly}
 use Rattle.mt_interactions.proofs.interactions.Interactions.plan_report.Goals as goal

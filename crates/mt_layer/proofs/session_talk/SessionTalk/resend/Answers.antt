@@ -1,6 +1,6 @@
 use Rattle.std.proofs.Common.{◌≡◌, ℕ, ◌∙◌, true, [], Option, Some, None, ap, is_some, not, refl, subst, sym}
 use Rattle.mt_talk.specs.Talks.{Talk, after_drop, after_resend, resent_in}
-use Rattle.mt_runs.specs.Datagrams.{all_sent}
+use Rattle.mt_shared.specs.mt_runs.Datagrams.{all_sent}
 use Rattle.mt_layer.specs.Keeping.{IsKeptOf}
 use Rattle.mt_layer.specs.Saying.{if_live, unless_closed}
 use Rattle.mt_layer.proofs.session_talk.SessionTalk.resend.Goals as goal

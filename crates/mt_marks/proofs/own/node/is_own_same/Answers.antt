@@ -1,5 +1,5 @@
 use Rattle.std.proofs.Common.{refl, ap}
-use Rattle.mt_machine.specs.Isolation.{Own, own}
+use Rattle.mt_runs.specs.mt_machine.Isolation.{Own, own}
 use Rattle.mt_marks.proofs.Owning.{all_same}
 use Rattle.mt_marks.proofs.own.node.is_own_same.Goals as goal
 

@@ -1,5 +1,5 @@
 use Rattle.std.proofs.Common.{refl, sym, ap, ◌∙◌, filter}
-use Rattle.mt_machine.specs.Isolation.{owns}
+use Rattle.mt_runs.specs.mt_machine.Isolation.{owns}
 use Rattle.mt_marks.proofs.Owning.{at_each, past_last, past_next}
 use Rattle.mt_marks.proofs.own.rows.are_rows_same.Goals as goal
 

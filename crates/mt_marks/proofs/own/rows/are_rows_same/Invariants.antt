@@ -1,5 +1,5 @@
 use Rattle.std.proofs.Common.{◌≡◌, drop, filter}
-use Rattle.mt_machine.specs.Isolation.{owns}
+use Rattle.mt_runs.specs.mt_machine.Isolation.{owns}
 use Rattle.mt_marks.specs.Placed.{standing}
 use Rattle.mt_marks.proofs.own.rows.are_rows_same.Given as goal
 

@@ -1,6 +1,6 @@
 use Rattle.std.proofs.Common.{ap, ◌∙◌}
-use Rattle.mt_machine.specs.State.{State}
-use Rattle.mt_runs.specs.Lines.{fabric_of}
+use Rattle.mt_whole.specs.mt_machine.State.{State}
+use Rattle.mt_whole.specs.mt_runs.Lines.{fabric_of}
 use Rattle.mt_play.proofs.playing.Playing.acts_for.Goals as goal
 
 pub returns : goal.returns

@@ -1,5 +1,5 @@
 use Rattle.std.proofs.Common.{ap, ◌∙◌}
-use Rattle.mt_machine.specs.State.{State}
+use Rattle.mt_whole.specs.mt_machine.State.{State}
 use Rattle.mt_play.proofs.playing.Playing.armed.Goals as goal
 
 pub returns : goal.returns

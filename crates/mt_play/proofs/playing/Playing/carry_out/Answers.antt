@@ -1,6 +1,6 @@
 use Rattle.std.proofs.Common.{◌≡◌, ◌∙◌, Option, ap, subst, sym}
 use Rattle.mt_model.specs.declared.texts.recording.Event.TheVariants as events
-use Rattle.mt_runs.specs.Course.{course, goes, stops, survives}
+use Rattle.mt_whole.specs.mt_runs.Course.{course, goes, stops, survives}
 use Rattle.mt_whole.specs.declared.outcome.WholeOutcome.{WholeOutcome}
 use Rattle.mt_play.specs.Courses.{IsTold, coming, course_in, stop_in}
 use Rattle.mt_play.specs.Plays.{Brings, GoesTo, ReopensTo, StepsTo}

@@ -1,10 +1,10 @@
 use Rattle.std.proofs.Common.{◌≡◌, ◌≤◌, ◌^◌, ◌∙◌, Option, ap, refl, subst, sym}
 use Rattle.std.specs.Prelude.{IfSome}
-use Rattle.mt_lasting.specs.Contents.{durable}
-use Rattle.mt_machine.specs.State.{IsValid}
-use Rattle.mt_interactions.specs.Configured as configured
-use Rattle.mt_interactions.specs.Configured.{ConfiguredInteractions}
-use Rattle.mt_interactions.specs.Plan.{applied_ledger, applied_state}
+use Rattle.mt_whole.specs.mt_lasting.Contents.{durable}
+use Rattle.mt_whole.specs.mt_machine.State.{IsValid}
+use Rattle.mt_whole.specs.mt_interactions.Configured as configured
+use Rattle.mt_whole.specs.mt_interactions.Configured.{ConfiguredInteractions}
+use Rattle.mt_whole.specs.mt_interactions.Plan.{applied_ledger, applied_state}
 use Rattle.mt_whole.specs.Plan.{IsPlanned}
 use Rattle.mt_whole.specs.Talks.{IsWholeOf}
 use Rattle.mt_whole.specs.declared.outcome.WholeOutcome.{WholeOutcome}

@@ -1,5 +1,5 @@
 use Rattle.std.proofs.Common.{ap, ◌∙◌}
-use Rattle.mt_machine.specs.State.{State, is_member}
+use Rattle.mt_whole.specs.mt_machine.State.{State, is_member}
 use Rattle.mt_play.proofs.playing.Playing.has.Goals as goal
 
 pub returns : goal.returns

@@ -1,6 +1,6 @@
 use Rattle.std.proofs.Common.{ap, ◌∙◌}
-use Rattle.mt_machine.specs.State.{State}
-use Rattle.mt_runs.specs.Whole.{fabric_live}
+use Rattle.mt_whole.specs.mt_machine.State.{State}
+use Rattle.mt_whole.specs.mt_runs.Whole.{fabric_live}
 use Rattle.mt_play.proofs.playing.Playing.live.Goals as goal
 
 pub returns : goal.returns

@@ -5,11 +5,11 @@ use Rattle.mt_keeping.specs.Laws.{MayCommit}
 use Rattle.mt_keeping.specs.Recovered.{RecoversFrom}
 use Rattle.mt_keeping.specs.States.{told_map}
 use Rattle.mt_outside.specs.MemoryDisk.{contents_of}
-use Rattle.mt_runs.specs.Course.{survives}
+use Rattle.mt_whole.specs.mt_runs.Course.{survives}
 use Rattle.mt_whole.specs.Plan.{IsPlanned}
 use Rattle.mt_whole.specs.declared.outcome.WholeOutcome.{WholeOutcome}
-use Rattle.mt_interactions.specs.Plan.{applied_ledger, applied_state}
-use Rattle.mt_lasting.specs.Contents.{durable}
+use Rattle.mt_whole.specs.mt_interactions.Plan.{applied_ledger, applied_state}
+use Rattle.mt_whole.specs.mt_lasting.Contents.{durable}
 use Rattle.mt_play.specs.Courses.{stop_in}
 use Rattle.mt_play.specs.Journal.{Rests}
 use Rattle.mt_play.specs.Plays.{IsAtRest, StopsAt, ceiling_in, left_ceiling, left_node, node_of}

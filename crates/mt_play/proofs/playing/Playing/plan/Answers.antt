@@ -1,9 +1,9 @@
 use Rattle.std.proofs.Common.{◌≡◌, ◌∙◌, Bool, Option, ap, subst}
 use Rattle.std.specs.Prelude.{IfSome}
-use Rattle.mt_ledger.specs.Ledger.{Ledger}
-use Rattle.mt_machine.specs.Environment.{Environment}
-use Rattle.mt_machine.specs.State.{State}
-use Rattle.mt_runs.specs.Course.{Stop}
+use Rattle.mt_whole.specs.mt_ledger.Ledger.{Ledger}
+use Rattle.mt_whole.specs.mt_machine.Environment.{Environment}
+use Rattle.mt_whole.specs.mt_machine.State.{State}
+use Rattle.mt_whole.specs.mt_runs.Course.{Stop}
 use Rattle.mt_whole.specs.Plan.{IsPlan, IsPlanned, given_to}
 use Rattle.mt_play.specs.Courses.{coming, course_by, course_in}
 use Rattle.mt_play.specs.Plays.{has_change}

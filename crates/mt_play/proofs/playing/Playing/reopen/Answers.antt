@@ -2,7 +2,7 @@ use Rattle.std.proofs.Common.{List, Option, ℕ, ap, refl, subst, unwrap_or}
 use Rattle.mt_durable.specs.declared.durable.Entry.{Entry}
 use Rattle.mt_model.specs.texts.Contents as configs
 use Rattle.mt_outside.specs.MemoryDisk.{contents_of}
-use Rattle.mt_regained.specs.Reopening.{reopened_node}
+use Rattle.mt_whole.specs.mt_regained.Reopening.{reopened_node}
 use Rattle.mt_whole.specs.Plan.{whole_from}
 use Rattle.mt_whole.specs.Talks.{IsWholeOf}
 use Rattle.mt_play.proofs.Reopening.{begins_with, given_again, may_boot}

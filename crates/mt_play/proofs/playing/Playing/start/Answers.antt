@@ -1,8 +1,8 @@
 use Rattle.std.proofs.Common.{◌≡◌, ◌∙◌, List, Some, ℕ, ap, refl, subst}
 use Rattle.mt_durable.specs.declared.durable.Entry.{Entry}
 use Rattle.mt_opcreds.specs.Judged.{judged_by}
-use Rattle.mt_machine.specs.Opened as machine
-use Rattle.mt_regained.specs.Begun.{ceiling_in, next_boot}
+use Rattle.mt_whole.specs.mt_machine.Opened as machine
+use Rattle.mt_whole.specs.mt_regained.Begun.{ceiling_in, next_boot}
 use Rattle.mt_whole.specs.Plan.{whole_from}
 use Rattle.mt_whole.specs.Talks.{IsWholeOf}
 use Rattle.mt_play.proofs.Reopening.{may_boot_new}

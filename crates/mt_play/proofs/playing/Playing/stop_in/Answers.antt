@@ -1,8 +1,8 @@
 use Rattle.std.proofs.Common.{◌≡◌, ◌∙◌, List, ap, subst}
 use Rattle.mt_model.specs.declared.texts.config.SessionRow.{SessionRow}
 use Rattle.mt_model.specs.texts.Contents.{contents_of}
-use Rattle.mt_machine.specs.Environment.{given_by}
-use Rattle.mt_regained.specs.Reopening.{reopened_node}
+use Rattle.mt_whole.specs.mt_machine.Environment.{given_by}
+use Rattle.mt_whole.specs.mt_regained.Reopening.{reopened_node}
 use Rattle.mt_whole.specs.Plan.{whole_from}
 use Rattle.mt_whole.specs.Talks.{IsWholeOf}
 use Rattle.mt_play.specs.Courses.{coming}

@@ -1,8 +1,8 @@
 use Rattle.std.proofs.Common.{◌≡◌, ℕ, ◌+◌, ◌-◌, ◌^◌, min, ap, map, sym, ◌∙◌}
-use Rattle.mt_machine.specs.State.{State}
-use Rattle.mt_runs.specs.Course.{Going}
-use Rattle.mt_runs.specs.Whole.{begun_in}
-use Rattle.mt_marks.specs.Remembered.{remembered}
+use Rattle.mt_whole.specs.mt_machine.State.{State}
+use Rattle.mt_whole.specs.mt_runs.Course.{Going}
+use Rattle.mt_whole.specs.mt_runs.Whole.{begun_in}
+use Rattle.mt_whole.specs.mt_marks.Remembered.{remembered}
 use Rattle.mt_play.proofs.Begins.{next_is, reopens, surviving_boot}
 use Rattle.mt_play.proofs.remembering.Remembering.begin_again.Goals as goal
 

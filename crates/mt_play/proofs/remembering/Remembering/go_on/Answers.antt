@@ -1,14 +1,14 @@
 use Rattle.std.proofs.Common.{◌≡◌, ap, map, subst, sym, ◌∙◌}
 use Rattle.std.specs.Prelude.{IfSome}
 use Rattle.std.proofs.lemmas.Result.{IfOk-weaker}
-use Rattle.mt_machine.specs.Environment.{Environment}
-use Rattle.mt_machine.specs.State.{State}
-use Rattle.mt_ledger.specs.Ledger.{Ledger}
-use Rattle.mt_runs.specs.Course.{stepped}
-use Rattle.mt_runs.specs.Lines.{talks_behind}
-use Rattle.mt_runs.specs.Whole.{Whole}
-use Rattle.mt_marks.specs.Noted.{noted_if}
-use Rattle.mt_marks.specs.Remembered.{remembered}
+use Rattle.mt_whole.specs.mt_machine.Environment.{Environment}
+use Rattle.mt_whole.specs.mt_machine.State.{State}
+use Rattle.mt_whole.specs.mt_ledger.Ledger.{Ledger}
+use Rattle.mt_whole.specs.mt_runs.Course.{stepped}
+use Rattle.mt_whole.specs.mt_runs.Lines.{talks_behind}
+use Rattle.mt_whole.specs.mt_runs.Whole.{Whole}
+use Rattle.mt_whole.specs.mt_marks.Noted.{noted_if}
+use Rattle.mt_whole.specs.mt_marks.Remembered.{remembered}
 use Rattle.mt_whole.specs.Plan.{IsPlanned}
 use Rattle.mt_play.specs.Plays.{StepsTo}
 use Rattle.mt_play.specs.Remembers.{RemembersTo}

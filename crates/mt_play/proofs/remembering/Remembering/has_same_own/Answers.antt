@@ -1,8 +1,8 @@
 use Rattle.std.proofs.Common.{◌≡◌, List, ap, sym, ◌∙◌, filter, map}
 use Rattle.mt_model.specs.declared.node.state.NodeSession.{NodeSession}
 use Rattle.mt_subs.specs.Leaving.{is_live_as}
-use Rattle.mt_marks.specs.Remembered.{remembered, told_among}
-use Rattle.mt_runs.specs.Isolation.{own_part}
+use Rattle.mt_whole.specs.mt_marks.Remembered.{remembered, told_among}
+use Rattle.mt_whole.specs.mt_runs.Isolation.{own_part}
 use Rattle.mt_play.proofs.Owning.{live, own_told}
 use Rattle.mt_play.proofs.remembering.Remembering.has_same_own.Goals as goal
 

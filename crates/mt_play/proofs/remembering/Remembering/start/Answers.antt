@@ -1,9 +1,9 @@
 use Rattle.std.proofs.Common.{map, ◌∙◌}
 use Rattle.mt_model.specs.texts.Contents.{contents_of}
-use Rattle.mt_machine.specs.Environment.{given_by}
-use Rattle.mt_runs.specs.Course.{going_on}
-use Rattle.mt_runs.specs.Whole.{begun_in, opened}
-use Rattle.mt_marks.specs.Remembered.{remembered}
+use Rattle.mt_whole.specs.mt_machine.Environment.{given_by}
+use Rattle.mt_whole.specs.mt_runs.Course.{going_on}
+use Rattle.mt_whole.specs.mt_runs.Whole.{begun_in, opened}
+use Rattle.mt_whole.specs.mt_marks.Remembered.{remembered}
 use Rattle.mt_play.proofs.remembering.Remembering.start.Goals as goal
 
 pub returns-clause-remembers : goal.returns-clause-remembers

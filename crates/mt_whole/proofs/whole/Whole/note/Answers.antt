@@ -1,5 +1,5 @@
 use Rattle.std.proofs.Common.{◌≡◌, Option, IfOk, map, sym, subst}
-use Rattle.mt_runs.specs.Lines.{talks_behind}
+use Rattle.mt_interactions.specs.mt_runs.Lines.{talks_behind}
 use Rattle.mt_model.specs.declared.texts.recording.Event.{Event}
 use Rattle.mt_marks.specs.Noted.{noted_if}
 use Rattle.mt_marks.specs.Remembered.{remembered}

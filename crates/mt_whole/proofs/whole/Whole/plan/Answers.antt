@@ -1,10 +1,10 @@
 use Rattle.std.proofs.Common.{◌≡◌, sym, subst}
 use Rattle.mt_im.specs.Reading.{request_in}
-use Rattle.mt_machine.specs.Lines.{line_actor}
-use Rattle.mt_machine.specs.State.{State}
+use Rattle.mt_interactions.specs.mt_machine.Lines.{line_actor}
+use Rattle.mt_interactions.specs.mt_machine.State.{State}
 use Rattle.mt_model.specs.declared.texts.recording.Event.{Event}
-use Rattle.mt_ledger.specs.Ledger.{Ledger}
-use Rattle.mt_runs.specs.Lines.{sent_asked}
+use Rattle.mt_interactions.specs.mt_ledger.Ledger.{Ledger}
+use Rattle.mt_interactions.specs.mt_runs.Lines.{sent_asked}
 use Rattle.mt_interactions.specs.Plan.{IsLine, IsTick}
 use Rattle.mt_whole.specs.Plan.{IsPlan, given_to}
 use Rattle.mt_whole.proofs.Planned.{asked_as_planned, tick_as_planned}

@@ -1,7 +1,7 @@
 use Rattle.std.proofs.Common.{◌≡◌, ap, subst, ℕ, List}
 use Rattle.mt_model.specs.declared.node.state.NodeState.{NodeState}
 use Rattle.mt_model.specs.declared.texts.config.SessionRow.{SessionRow}
-use Rattle.mt_runs.specs.Whole.{begun_in}
+use Rattle.mt_interactions.specs.mt_runs.Whole.{begun_in}
 use Rattle.mt_whole.specs.Talks.{AreTalks}
 use Rattle.mt_whole.proofs.Listed.{rows_stand}
 use Rattle.mt_whole.proofs.Starting.{stands_from}

@@ -1,5 +1,5 @@
 use Rattle.std.proofs.Common.{◌≡◌, List, ℕ}
-use Rattle.mt_shared.specs.Shared.{IsPassOf}
+use Rattle.mt_layer.specs.mt_shared.Shared.{IsPassOf}
 use Rattle.mt_worker.specs.Accounts.{Accounts}
 use Rattle.mt_worker.specs.Due.{AreRising, DoesAll}
 use Rattle.mt_worker.specs.Gots.{Got}

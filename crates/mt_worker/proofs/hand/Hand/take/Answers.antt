@@ -1,5 +1,5 @@
 use Rattle.std.proofs.Common.{◌≡◌, None, rules}
-use Rattle.mt_runs.specs.Datagrams.{session_named}
+use Rattle.mt_layer.specs.mt_runs.Datagrams.{session_named}
 use Rattle.mt_worker.proofs.Sweeps.{take_nobody}
 use Rattle.mt_worker.proofs.hand.Hand.take.Goals as goal
 
