@@ -6,10 +6,10 @@ use Rattle.mt_model.specs.declared.texts.recording.Event.{Event}
 use Rattle.mt_play.specs.mt_machine.Environment.{Environment}
 use Rattle.mt_play.specs.mt_runs.Course.{Going}
 use Rattle.mt_play.specs.mt_runs.Marks.{Mark}
-use Rattle.mt_play.specs.mt_marks.declared.difference.Part.{Part}
-use Rattle.mt_play.specs.mt_marks.declared.difference.Part.TheVariants as parts
-use Rattle.mt_play.specs.mt_marks.differences.Difference.{Difference, difference_from, differs, or_further, part_between}
-use Rattle.mt_play.specs.mt_marks.differences.Marked.{marked_at}
+use Rattle.mt_play.specs.mt_marks.Part.{Part}
+use Rattle.mt_play.specs.mt_marks.TheVariants as parts
+use Rattle.mt_play.specs.mt_marks.Difference.{Difference, difference_from, differs, or_further, part_between}
+use Rattle.mt_play.specs.mt_marks.Marked.{marked_at}
 use Rattle.mt_play.specs.Remembers.{IsRemembering}
 use Rattle.mt_compare.specs.Sides.{GoesTo, left_of, line_in, mark_in}
 use Rattle.mt_compare.specs.declared.side.Side.{Side}

@@ -9,7 +9,7 @@ use Rattle.mt_play.specs.mt_runs.Isolation.{own_part}
 use Rattle.mt_play.specs.mt_runs.Lines.{fabric_of}
 use Rattle.mt_play.specs.mt_runs.Whole.{Whole}
 use Rattle.mt_play.specs.mt_runs.Marks.{Mark, born, gone, is_in, is_of}
-use Rattle.mt_play.specs.mt_marks.differences.Marked.{all_at, if_changed, marked_behind}
+use Rattle.mt_play.specs.mt_marks.Marked.{all_at, if_changed, marked_behind}
 use Rattle.mt_play.specs.Courses.{IsGoing, course_in}
 use Rattle.mt_play.specs.declared.course.Course as code
 use Rattle.mt_play.specs.declared.course.Course.TheVariants as codes

@@ -7,7 +7,7 @@ use Rattle.mt_play.specs.mt_machine.Environment.{Environment}
 use Rattle.mt_play.specs.mt_runs.Course.{Going, course, stepped}
 use Rattle.mt_play.specs.mt_runs.Isolation.{public_part}
 use Rattle.mt_play.specs.mt_runs.Marks.{Mark, gone, if_seen, is_seen, seen}
-use Rattle.mt_play.specs.mt_marks.differences.Marked.{Marked, all_at, marked, marked_at, marked_behind}
+use Rattle.mt_play.specs.mt_marks.Marked.{Marked, all_at, marked, marked_at, marked_behind}
 use Rattle.mt_play.specs.Remembers.{IsRemembering}
 use Rattle.mt_compare.specs.Sides.{GoesTo, HasLooked, HasPassed, Looks, if_lost_at, left, left_of, line_in, mark_in, unseen}
 use Rattle.mt_play.specs.declared.remembering.Remembering.{Remembering}

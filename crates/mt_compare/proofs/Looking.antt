@@ -7,7 +7,7 @@ use Rattle.mt_play.specs.mt_runs.Isolation.{public_part}
 use Rattle.mt_play.specs.mt_runs.Whole.{Whole}
 use Rattle.mt_play.specs.mt_runs.Marks.{Mark, is_seen, seen}
 use Rattle.mt_play.specs.mt_marks.Seen.{seen_in}
-use Rattle.mt_play.specs.mt_marks.declared.mark.Mark as code
+use Rattle.mt_play.specs.mt_marks.Mark as code
 use Rattle.mt_play.specs.mt_whole.Seeing.{mark_of}
 
 some_same : (m n : Mark) → Some m ≡ Some n → m ≡ n

@@ -9,15 +9,15 @@ use Rattle.mt_play.specs.mt_runs.Isolation.{OwnPart, PublicPart}
 use Rattle.mt_play.specs.mt_runs.Marks.{Unanswered, reopened, seen}
 use Rattle.mt_play.specs.mt_marks.Parts.{IsSame, place_of}
 use Rattle.mt_play.specs.mt_marks.Seen.{descriptor_in, public_in, unanswered_in}
-use Rattle.mt_play.specs.mt_marks.declared.difference.Part.{Part}
-use Rattle.mt_play.specs.mt_marks.declared.difference.Part.TheVariants as parts
-use Rattle.mt_play.specs.mt_marks.declared.mark.Descriptor.{Descriptor}
-use Rattle.mt_play.specs.mt_marks.declared.mark.Mark.{Mark}
-use Rattle.mt_play.specs.mt_marks.declared.mark.Unanswered as code
-use Rattle.mt_play.specs.mt_marks.differences.Codes.{are_same, of_own, of_unanswered}
-use Rattle.mt_play.specs.mt_marks.differences.Difference.{born_part, reopened_part}
-use Rattle.mt_play.specs.mt_marks.differences.Laws.{OwnPartsDiffer, PartsComeInOrder, SameMarksHaveNoPart}
-use Rattle.mt_play.specs.mt_marks.differences.Parts.{IsSameSeen, seen_part}
+use Rattle.mt_play.specs.mt_marks.Part.{Part}
+use Rattle.mt_play.specs.mt_marks.TheVariants as parts
+use Rattle.mt_play.specs.mt_marks.Descriptor.{Descriptor}
+use Rattle.mt_play.specs.mt_marks.Mark.{Mark}
+use Rattle.mt_play.specs.mt_marks.Unanswered as code
+use Rattle.mt_play.specs.mt_marks.Codes.{are_same, of_own, of_unanswered}
+use Rattle.mt_play.specs.mt_marks.Difference.{born_part, reopened_part}
+use Rattle.mt_play.specs.mt_marks.Laws.{OwnPartsDiffer, PartsComeInOrder, SameMarksHaveNoPart}
+use Rattle.mt_play.specs.mt_marks.DifferencesParts.{IsSameSeen, seen_part}
 
 -- A descriptor says all that one as data does.
 

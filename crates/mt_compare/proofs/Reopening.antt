@@ -12,9 +12,9 @@ use Rattle.mt_play.specs.mt_runs.Lines.{fabric_of}
 use Rattle.mt_play.specs.mt_runs.Whole.{Whole}
 use Rattle.mt_play.specs.mt_runs.Marks.{Mark, Unanswered, gone, if_lost, is_of, left_unanswered, reopened, seen}
 use Rattle.mt_play.specs.mt_marks.Seen.{reopened_in, seen_in, unanswered_in}
-use Rattle.mt_play.specs.mt_marks.declared.mark.Mark as code_mark
-use Rattle.mt_play.specs.mt_marks.declared.mark.Unanswered as code_left
-use Rattle.mt_play.specs.mt_marks.differences.Marked.{Marked, all_at, marked_at, marked_behind}
+use Rattle.mt_play.specs.mt_marks.Mark as code_mark
+use Rattle.mt_play.specs.mt_marks.Unanswered as code_left
+use Rattle.mt_play.specs.mt_marks.Marked.{Marked, all_at, marked_at, marked_behind}
 use Rattle.mt_play.specs.Courses.{course_in}
 use Rattle.mt_play.specs.declared.course.ComingStop.{ComingStop}
 use Rattle.mt_play.specs.declared.course.Course as code

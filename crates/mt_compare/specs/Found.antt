@@ -1,6 +1,6 @@
 -- For which difference one that the code has stands.
 use Rattle.std.specs.Option.{option_map}
-use Rattle.mt_play.specs.mt_marks.differences.Difference.{Difference}
+use Rattle.mt_play.specs.mt_marks.Difference.{Difference}
 use Rattle.mt_compare.specs.Sides.{line_in}
 use Rattle.mt_compare.specs.declared.comparing.Difference as code
 

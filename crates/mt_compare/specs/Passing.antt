@@ -4,7 +4,7 @@ use Rattle.mt_model.specs.declared.texts.recording.Event.{Event}
 use Rattle.mt_play.specs.mt_runs.Isolation.{own_part}
 use Rattle.mt_play.specs.mt_runs.Whole.{Whole}
 use Rattle.mt_play.specs.mt_runs.Marks.{Mark, born, gone}
-use Rattle.mt_play.specs.mt_marks.declared.mark.Unanswered.{Unanswered}
+use Rattle.mt_play.specs.mt_marks.Unanswered.{Unanswered}
 use Rattle.mt_compare.specs.declared.passing.Passed.{Passed}
 use Rattle.mt_compare.specs.declared.passing.Passed.TheVariants as passes
 

@@ -10,7 +10,7 @@ use Rattle.mt_play.specs.mt_runs.Course.{Going, course, stepped}
 use Rattle.mt_play.specs.mt_runs.Isolation.{own_part, public_part}
 use Rattle.mt_play.specs.mt_runs.Marks.{Mark, born, gone, is_seen, seen}
 use Rattle.mt_play.specs.mt_marks.Seen.{reopened_in, seen_in}
-use Rattle.mt_play.specs.mt_marks.differences.Marked.{Marked, all_at, marked, marked_behind}
+use Rattle.mt_play.specs.mt_marks.Marked.{Marked, all_at, marked, marked_behind}
 use Rattle.mt_play.specs.Remembers.{IsRemembering}
 use Rattle.mt_play.specs.declared.course.ComingStop.{ComingStop}
 use Rattle.mt_play.specs.declared.course.Course as code

@@ -4,7 +4,7 @@ use Rattle.std.specs.Fmt.{decimal}
 use Rattle.mt_files.specs.Event.{event_line}
 use Rattle.mt_model.specs.declared.texts.recording.Event.{Event}
 use Rattle.mt_play.specs.mt_marks.Parts.{word_of}
-use Rattle.mt_play.specs.mt_marks.differences.Difference.{Difference}
+use Rattle.mt_play.specs.mt_marks.Difference.{Difference}
 
 -- the line at which a mark stands, or that there is none
 abbrev pub line_at : Option Event → List ℕ

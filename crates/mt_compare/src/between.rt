@@ -7,8 +7,8 @@ ghost use Rattle.mt_play.specs.mt_machine.Environment.{Environment};
 ghost use Rattle.mt_play.specs.mt_runs.Course.{Going};
 ghost use Rattle.mt_play.specs.mt_runs.Isolation.{own_part};
 ghost use Rattle.mt_play.specs.mt_marks.Seen.{public_in, unanswered_in};
-ghost use Rattle.mt_play.specs.mt_marks.differences.Difference.{born_part, part_between as part_of_marks, reopened_part};
-ghost use Rattle.mt_play.specs.mt_marks.differences.Parts.{seen_part};
+ghost use Rattle.mt_play.specs.mt_marks.Difference.{born_part, part_between as part_of_marks, reopened_part};
+ghost use Rattle.mt_play.specs.mt_marks.DifferencesParts.{seen_part};
 ghost use Rattle.mt_play.specs.Remembers.{IsRemembering};
 ghost use Rattle.mt_compare.specs.Sides.{mark_in};
 

@@ -4,7 +4,7 @@ use Rattle.mt_model.specs.declared.texts.config.SessionRow.{SessionRow}
 use Rattle.mt_queue.specs.Ends.{Taken}
 use Rattle.mt_owners.specs.mt_shared.Shared.{IsPassOf, NodePass, SharedView}
 use Rattle.mt_owners.specs.mt_worker.Due.{AreRising, IsServed, id_of}
-use Rattle.mt_owners.specs.mt_worker.declared.working.Done.{Done}
+use Rattle.mt_owners.specs.mt_worker.Done.{Done}
 use Rattle.mt_crew.specs.declared.member.Member.{Member}
 use Rattle.mt_crew.specs.declared.member.Post.{Post}
 use Rattle.mt_crew.specs.declared.member.Post.TheVariants.{Waits, Left, Serves}

@@ -4,7 +4,7 @@ ghost use Rattle.std.specs.Prelude.{◌≡◌, ◌<◌, ◌≤◌, None, Some, l
 ghost use Rattle.mt_owners.specs.mt_shared.Acts.{IsHalted};
 ghost use Rattle.mt_owners.specs.mt_shared.Book.{stop_in};
 ghost use Rattle.mt_owners.specs.mt_shared.Replay.{map_of, replay};
-ghost use Rattle.mt_owners.specs.mt_shared.declared.entry.Stop.{Stop as AnyStop};
+ghost use Rattle.mt_owners.specs.mt_shared.Stop.{Stop as AnyStop};
 ghost use Rattle.mt_turn.specs.Known.{first_pass};
 ghost use Rattle.mt_crew.specs.Ready.{AreReady};
 

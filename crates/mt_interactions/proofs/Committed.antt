@@ -5,7 +5,7 @@ use Rattle.mt_durable.specs.Reading.{Says}
 use Rattle.mt_model.specs.declared.node.state.NodeState.{NodeState}
 use Rattle.mt_node.specs.mt_lasting.Changes.{bytes_to_commit, change_between, raised}
 use Rattle.mt_node.specs.mt_lasting.Laws.{ActionsKeepTheBoot, ChangesLeadOn, CommittedBytesSayIt, NothingToCommit, RaisedCeilingsComeFirst}
-use Rattle.mt_runs.specs.mt_ledger.history.History.{History, recorded_all, without_left}
+use Rattle.mt_runs.specs.mt_ledger.History.{History, recorded_all, without_left}
 use Rattle.mt_node.specs.mt_machine.State.{State}
 use Rattle.mt_node.specs.Plan as nodes
 use Rattle.mt_node.specs.Plan.{applied}

@@ -9,7 +9,7 @@ use Rattle.mt_model.specs.declared.messages.message.Reply.{Reply}
 use Rattle.mt_model.specs.declared.texts.recording.Sent.{Sent}
 use Rattle.mt_im_out.specs.Chunks.{chunks_of}
 use Rattle.mt_node.specs.mt_machine.Lines.{sent_as}
-use Rattle.mt_runs.specs.mt_ledger.history.History.{History}
+use Rattle.mt_runs.specs.mt_ledger.History.{History}
 use Rattle.mt_runs.specs.mt_ledger.Behind.{reports, subs_done}
 use Rattle.mt_runs.specs.mt_ledger.Ledger.{Ledger}
 use Rattle.mt_runs.specs.mt_ledger.Reporting.{Due, behind_report, due_events, due_kept, due_now, due_report, has_unreported, with_places}

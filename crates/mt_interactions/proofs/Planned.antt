@@ -36,9 +36,9 @@ use Rattle.mt_runs.specs.mt_ledger.Asking.{full_reply, line_response, line_wish,
 use Rattle.mt_runs.specs.mt_ledger.Behind.{Activity, acts, action_in, ledger_behind, state_done, subs_done}
 use Rattle.mt_runs.specs.mt_ledger.Ledger.{Ledger}
 use Rattle.mt_runs.specs.mt_ledger.Subscribing.{behind_wish_if_any, wish_asked, wish_in, wish_in_time}
-use Rattle.mt_runs.specs.mt_ledger.history.Asking.{events_for, with_events}
-use Rattle.mt_runs.specs.mt_ledger.history.Behind.{history_behind}
-use Rattle.mt_runs.specs.mt_ledger.history.History.{History, recorded_all, without_left}
+use Rattle.mt_runs.specs.mt_ledger.HistoryAsking.{events_for, with_events}
+use Rattle.mt_runs.specs.mt_ledger.HistoryBehind.{history_behind}
+use Rattle.mt_runs.specs.mt_ledger.History.{History, recorded_all, without_left}
 use Rattle.mt_runs.specs.Lines.{sent_asked, sent_line}
 use Rattle.mt_node.specs.mt_machine.Telling.{told_between}
 use Rattle.mt_model.specs.declared.node.action.Action.{Action}

@@ -7,7 +7,7 @@ use Rattle.mt_model.specs.declared.node.action.NodeStep.{NodeStep}
 use Rattle.mt_model.specs.declared.node.action.NodeStep.TheVariants.{SetRow, SetEntries, PutNetwork, RemoveNetwork, ConnectNetwork, MoveNetwork, Arm, Renew, Expire, Complete, AddRoot, Csr, AddFabric, UpdateFabric, RemoveFabric, Label, Emit}
 use Rattle.mt_model.specs.declared.rows.place.Place.{Place}
 use Rattle.mt_events.specs.declared.numbers.Numbers.{Numbers}
-use Rattle.mt_runs.specs.mt_ledger.history.History.{History, begun_at, recorded, recorded_all, without_left}
+use Rattle.mt_runs.specs.mt_ledger.History.{History, begun_at, recorded, recorded_all, without_left}
 use Rattle.mt_interactions.specs.Recording.{StartsMayRecord, is_of_a_fabric, last_ceiling, may_record, numbers_after, numbers_behind}
 
 pub of_a_fabric : (place : Place) (priority fabric : ℕ) (value : Value) → is_of_a_fabric (Emit place priority fabric value) ≡ true → fabric ≤ 16

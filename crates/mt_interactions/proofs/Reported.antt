@@ -8,7 +8,7 @@ use Rattle.mt_model.specs.declared.tables.access.AclEntry.{AclEntry}
 use Rattle.mt_model.specs.declared.tables.access.Actor.{Actor}
 use Rattle.mt_events.specs.Reading.{asking, is_told}
 use Rattle.mt_events.specs.Telling.{answered, events_for, fitting}
-use Rattle.mt_runs.specs.mt_ledger.history.Asking.{with_events}
+use Rattle.mt_runs.specs.mt_ledger.HistoryAsking.{with_events}
 
 and_false : (b : Bool) → (b && false) ≡ false
 and_false true = refl

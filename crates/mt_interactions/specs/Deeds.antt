@@ -14,7 +14,7 @@ use Rattle.mt_subs.specs.declared.subscription.Kept.{Kept}
 use Rattle.mt_node.specs.mt_machine.Environment.{Environment}
 use Rattle.mt_node.specs.mt_machine.Step.{closed_between}
 use Rattle.mt_runs.specs.mt_ledger.Behind.{Activity, acts, confirms, ends, reports, state_done}
-use Rattle.mt_runs.specs.mt_ledger.history.History.{History}
+use Rattle.mt_runs.specs.mt_ledger.History.{History}
 use Rattle.mt_runs.specs.mt_ledger.Ledger.{Ledger}
 use Rattle.mt_runs.specs.mt_ledger.Reporting.{Due, due_now, due_report}
 use Rattle.mt_runs.specs.mt_ledger.Subscribing.{confirm_reply}

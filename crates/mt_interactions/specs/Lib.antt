@@ -1,9 +1,3 @@
-pub use Rattle.mt_node.specs.mt_lasting as mt_lasting
-pub use Rattle.mt_runs.specs.mt_ledger as mt_ledger
-pub use Rattle.mt_node.specs.mt_machine as mt_machine
-pub use Rattle.mt_node.specs as mt_node
-pub use Rattle.mt_node.specs.mt_regained as mt_regained
-pub use Rattle.mt_runs.specs as mt_runs
 pub mod Committing
 pub mod Configured
 pub mod Deeds
@@ -12,3 +6,9 @@ pub mod Recording
 pub mod Replying
 pub mod Reporting
 pub mod Subscribing
+pub mod mt_lasting
+pub mod mt_ledger
+pub mod mt_machine
+pub mod mt_node
+pub mod mt_regained
+pub mod mt_runs

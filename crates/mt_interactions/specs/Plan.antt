@@ -17,8 +17,8 @@ use Rattle.mt_node.specs.mt_machine.Isolation.{is_deadline_in}
 use Rattle.mt_node.specs.mt_machine.Lines.{behind_action, next_for, next_tick, without}
 use Rattle.mt_node.specs.mt_machine.State.{State}
 use Rattle.mt_node.specs.mt_machine.Step.{after_action}
-use Rattle.mt_runs.specs.mt_ledger.history.Behind.{history_behind}
-use Rattle.mt_runs.specs.mt_ledger.history.History.{History, recorded_all, without_left}
+use Rattle.mt_runs.specs.mt_ledger.HistoryBehind.{history_behind}
+use Rattle.mt_runs.specs.mt_ledger.History.{History, recorded_all, without_left}
 use Rattle.mt_runs.specs.mt_ledger.Behind.{Activity, acts, action_in, ledger_behind}
 use Rattle.mt_runs.specs.mt_ledger.Ledger.{Ledger}
 use Rattle.mt_runs.specs.Lines.{action_asked}

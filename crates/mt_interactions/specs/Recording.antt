@@ -6,7 +6,7 @@ use Rattle.mt_model.specs.declared.node.action.NodeStep.{NodeStep}
 use Rattle.mt_model.specs.declared.node.action.NodeStep.TheVariants.{Emit}
 use Rattle.mt_events.specs.Numbers.{taken}
 use Rattle.mt_events.specs.declared.numbers.Numbers.{Numbers}
-use Rattle.mt_runs.specs.mt_ledger.history.History.{History, begun_at}
+use Rattle.mt_runs.specs.mt_ledger.History.{History, begun_at}
 
 -- it is told to all, or to a fabric that there may be
 abbrev pub is_of_a_fabric : NodeStep → Bool

@@ -9,7 +9,7 @@ use Rattle.mt_model.specs.declared.texts.recording.Sent.{Sent}
 use Rattle.mt_node.specs.mt_machine.Lines.{is_refused, sent_as}
 use Rattle.mt_node.specs.mt_machine.State.{State}
 use Rattle.mt_node.specs.mt_machine.Step.{refusal}
-use Rattle.mt_runs.specs.mt_ledger.history.Asking.{events_asked, with_events}
+use Rattle.mt_runs.specs.mt_ledger.HistoryAsking.{events_asked, with_events}
 use Rattle.mt_runs.specs.mt_ledger.Ledger.{Ledger}
 
 -- a reply of the node, and the events that the request asks for, or the refusal of a time for which there is no room

@@ -6,7 +6,7 @@ use Rattle.mt_model.specs.declared.messages.message.Reply.{Reply}
 use Rattle.mt_model.specs.declared.node.state.NodeState.{NodeState}
 use Rattle.mt_model.specs.declared.texts.recording.Sent.{Sent}
 use Rattle.mt_node.specs.mt_machine.Lines.{sent_as}
-use Rattle.mt_runs.specs.mt_ledger.history.History.{History}
+use Rattle.mt_runs.specs.mt_ledger.History.{History}
 use Rattle.mt_runs.specs.mt_ledger.Reporting.{Due, due_report}
 use Rattle.mt_interactions.specs.declared.reports.DueReport as code
 

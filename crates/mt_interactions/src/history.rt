@@ -5,7 +5,7 @@ ghost use Rattle.std.specs.List.{list_all, list_any};
 ghost use Rattle.mt_events.specs.Reading.{asking, is_told};
 ghost use Rattle.mt_events.specs.Rings.{AreRings};
 ghost use Rattle.mt_events.specs.Telling.{answered, events_for, told};
-ghost use Rattle.mt_runs.specs.mt_ledger.history.History.{begun_at, happened, recorded, recorded_all, start_up, without_left};
+ghost use Rattle.mt_runs.specs.mt_ledger.History.{begun_at, happened, recorded, recorded_all, start_up, without_left};
 ghost use Rattle.mt_tlv.specs.declared.value.Tag.TheVariants.{Context};
 ghost use Rattle.mt_tlv.specs.declared.value.Value.TheVariants as kinds;
 ghost use Rattle.mt_tlv.specs.Tree.{uint, none, more};
@@ -52,7 +52,7 @@ impl Drop for History {
 }
 
 impl Model for History {
-    ghost use Rattle.mt_runs.specs.mt_ledger.history.History as histories;
+    ghost use Rattle.mt_runs.specs.mt_ledger.History as histories;
     ghost use Rattle.mt_tlv.specs.contracts.value.Value as values;
     ghost use Rattle.std.specs.Coded.{codes};
 

@@ -3,7 +3,7 @@
 ghost use Rattle.std.specs.Prelude.{◌≡◌, ◌≤◌, IfOk, length, unwrap_or};
 ghost use Rattle.mt_events.specs.Reading.{asking};
 ghost use Rattle.mt_events.specs.Telling.{answered};
-ghost use Rattle.mt_runs.specs.mt_ledger.history.Asking.{events_asked, with_events};
+ghost use Rattle.mt_runs.specs.mt_ledger.HistoryAsking.{events_asked, with_events};
 ghost use Rattle.mt_im.specs.Limits.{IsWithinLimits};
 
 use crate::interactions::Interactions;

@@ -7,7 +7,7 @@ ghost use Rattle.mt_model.specs.declared.messages.message.Payload.{Payload};
 ghost use Rattle.mt_runs.specs.Datagrams.{actor_on, dated, deadline_set, payloads_confirmed, payloads_over, reply_over};
 ghost use Rattle.mt_subs.specs.Subscriptions.{kept_at};
 ghost use Rattle.mt_runs.specs.Whole.{fabric_over};
-ghost use Rattle.mt_runs.specs.mt_ledger.history.Asking.{events_asked, with_events};
+ghost use Rattle.mt_runs.specs.mt_ledger.HistoryAsking.{events_asked, with_events};
 ghost use Rattle.mt_runs.specs.mt_ledger.Asking.{with_wish};
 ghost use Rattle.mt_runs.specs.mt_ledger.Behind.{acts, confirms, ends};
 ghost use Rattle.mt_runs.specs.mt_ledger.Subscribing.{behind_wish_if_any, confirm_reply, wish_in_time};

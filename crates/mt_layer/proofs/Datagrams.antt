@@ -19,7 +19,7 @@ use Rattle.mt_shared.specs.mt_runs.Lines.{activity_named, sent_named, with_next}
 use Rattle.mt_shared.specs.mt_runs.Whole.{SessionTalk, Whole, fabric_live, fabric_over, is_live, let_go, talk_of, with_talk}
 use Rattle.mt_shared.specs.mt_interactions.Configured.{ConfiguredInteractions}
 use Rattle.mt_shared.specs.mt_interactions.Deeds.{activity_at}
-use Rattle.mt_shared.specs.mt_interactions.declared.deeds.Deed.{Deed}
+use Rattle.mt_shared.specs.mt_interactions.Deed.{Deed}
 use Rattle.mt_shared.specs.Replay as shared
 use Rattle.mt_shared.specs.Replay.{given_in}
 use Rattle.mt_shared.specs.declared.entry.Answer as answers

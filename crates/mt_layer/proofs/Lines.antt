@@ -12,7 +12,7 @@ use Rattle.mt_shared.specs.mt_ledger.Ledger.{Ledger}
 use Rattle.mt_shared.specs.mt_runs.Isolation.{IsValidWhole}
 use Rattle.mt_shared.specs.mt_runs.Whole.{SessionTalk, Whole, begun, is_live, is_talk_of, let_go}
 use Rattle.mt_shared.specs.mt_interactions.Configured.{ConfiguredInteractions}
-use Rattle.mt_shared.specs.mt_interactions.declared.deeds.Deed.TheVariants as deeds
+use Rattle.mt_shared.specs.mt_interactions.TheVariants as deeds
 use Rattle.mt_shared.specs.Replay.{given_in}
 use Rattle.mt_layer.specs.Agreeing.{Serves}
 use Rattle.mt_layer.specs.Laws.{BegunTalksServe, TicksAreLines}

@@ -20,8 +20,8 @@ use Rattle.mt_shared.specs.mt_runs.Lines.{reported_over, reported_talk, sent_due
 use Rattle.mt_shared.specs.mt_runs.Whole.{SessionTalk, Whole, let_go, with_talk}
 use Rattle.mt_shared.specs.mt_interactions.Configured.{ConfiguredInteractions}
 use Rattle.mt_shared.specs.mt_interactions.Deeds.{reply_due}
-use Rattle.mt_shared.specs.mt_interactions.declared.deeds.Deed.{Deed}
-use Rattle.mt_shared.specs.mt_interactions.declared.deeds.Deed.TheVariants as deeds
+use Rattle.mt_shared.specs.mt_interactions.Deed.{Deed}
+use Rattle.mt_shared.specs.mt_interactions.TheVariants as deeds
 use Rattle.mt_shared.specs.Replay as shared
 use Rattle.mt_shared.specs.Replay.{given_in}
 use Rattle.mt_shared.specs.declared.entry.Answer as answers

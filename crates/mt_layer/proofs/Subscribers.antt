@@ -16,7 +16,7 @@ use Rattle.mt_subs.specs.Subscriptions.{is_named as is_subscription, kept_at}
 use Rattle.mt_subs.specs.declared.subscription.Kept.{Kept}
 use Rattle.mt_subs.specs.declared.subscription.Subscription.{Subscription}
 use Rattle.mt_shared.specs.mt_machine.Step.{live_actor}
-use Rattle.mt_shared.specs.mt_ledger.history.History.{History}
+use Rattle.mt_shared.specs.mt_ledger.History.{History}
 use Rattle.mt_shared.specs.mt_ledger.Ledger.{IsLedger, Ledger}
 use Rattle.mt_shared.specs.mt_ledger.Reporting.{Due, due_kept, due_now, has_unreported, with_places}
 use Rattle.mt_shared.specs.mt_runs.Isolation.{have_one_id}

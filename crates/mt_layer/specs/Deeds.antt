@@ -7,8 +7,8 @@ use Rattle.mt_model.specs.declared.messages.message.Request.{Request}
 use Rattle.mt_model.specs.declared.texts.config.SessionRow.{SessionRow}
 use Rattle.mt_talk.specs.Hearing.{Said, answers, asks, confirms, ends, nothing, said}
 use Rattle.mt_talk.specs.Talks.{Talk}
-use Rattle.mt_shared.specs.mt_interactions.declared.deeds.Deed.{Deed}
-use Rattle.mt_shared.specs.mt_interactions.declared.deeds.Deed.TheVariants.{Ask, Confirm, Ends, Nothing}
+use Rattle.mt_shared.specs.mt_interactions.Deed.{Deed}
+use Rattle.mt_shared.specs.mt_interactions.TheVariants.{Ask, Confirm, Ends, Nothing}
 
 -- what is no request asks nothing
 abbrev pub deed_asked : ℕ → Option ℕ → Result Request ImFault → Deed

@@ -19,7 +19,7 @@ use Rattle.mt_shared.specs.mt_runs.Isolation.{IsValidWhole, have_one_id}
 use Rattle.mt_shared.specs.mt_runs.Whole.{SessionTalk, Whole, begun, has_closed, is_live, talk_of}
 use Rattle.mt_shared.specs.mt_interactions.Configured.{ConfiguredInteractions}
 use Rattle.mt_shared.specs.mt_interactions.Deeds.{activity_at, replied}
-use Rattle.mt_shared.specs.mt_interactions.declared.deeds.Deed.TheVariants.{Expire, Report}
+use Rattle.mt_shared.specs.mt_interactions.TheVariants.{Expire, Report}
 use Rattle.mt_shared.specs.Replay as shared
 use Rattle.mt_layer.specs.Agreeing.{Agrees, AreAlike, Serves, has_ended}
 use Rattle.mt_layer.specs.Answering.{answered_with}

@@ -7,7 +7,7 @@ use Rattle.mt_talk.specs.Talks.{Talk}
 use Rattle.mt_shared.specs.mt_runs.Lines.{next, sent}
 use Rattle.mt_shared.specs.mt_runs.Whole.{SessionTalk, Whole}
 use Rattle.mt_shared.specs.mt_interactions.Configured.{ConfiguredInteractions}
-use Rattle.mt_shared.specs.mt_interactions.declared.deeds.Deed.{Deed}
+use Rattle.mt_shared.specs.mt_interactions.Deed.{Deed}
 use Rattle.mt_shared.specs.Replay.{behind_deed, given_in}
 use Rattle.mt_layer.specs.Agreeing.{Serves}
 

@@ -13,9 +13,9 @@ use Rattle.mt_worker.specs.mt_runs.Whole.{SessionTalk, begun, is_talk_of}
 use Rattle.mt_worker.specs.mt_interactions.Configured.{ConfiguredInteractions}
 use Rattle.mt_worker.specs.mt_shared.Book.{lines_in}
 use Rattle.mt_worker.specs.mt_shared.Replay.{answer_at, behind_deed, given_in, next, replay, told}
-use Rattle.mt_worker.specs.mt_shared.declared.entry.Call.{Call}
-use Rattle.mt_worker.specs.mt_shared.declared.entry.Entry.{Entry}
-use Rattle.mt_worker.specs.mt_shared.declared.entry.Stop.{Stop}
+use Rattle.mt_worker.specs.mt_shared.Call.{Call}
+use Rattle.mt_worker.specs.mt_shared.Entry.{Entry}
+use Rattle.mt_worker.specs.mt_shared.Stop.{Stop}
 use Rattle.mt_worker.specs.mt_layer.Laws.{BegunTalksServe}
 use Rattle.mt_worker.specs.mt_layer.Lines.{next_with, whole_of}
 use Rattle.mt_worker.specs.Accounts.{Account, Accounts, all_sent, begun_account, behind}

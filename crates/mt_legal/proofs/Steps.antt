@@ -18,11 +18,11 @@ use Rattle.mt_worker.specs.mt_runs.Lines.{is_stop}
 use Rattle.mt_worker.specs.mt_runs.Isolation.{IsValidWhole}
 use Rattle.mt_worker.specs.mt_runs.Whole.{SessionTalk, Whole}
 use Rattle.mt_worker.specs.mt_interactions.Configured.{ConfiguredInteractions}
-use Rattle.mt_worker.specs.mt_interactions.declared.deeds.Deed.{Deed}
-use Rattle.mt_worker.specs.mt_interactions.declared.deeds.Deed.TheVariants as deeds
+use Rattle.mt_worker.specs.mt_interactions.Deed.{Deed}
+use Rattle.mt_worker.specs.mt_interactions.TheVariants as deeds
 use Rattle.mt_worker.specs.mt_shared.Replay.{answer_to, behind_deed, given_in}
-use Rattle.mt_worker.specs.mt_shared.declared.entry.Answer.{Answer}
-use Rattle.mt_worker.specs.mt_shared.declared.entry.Call.{Call}
+use Rattle.mt_worker.specs.mt_shared.Answer.{Answer}
+use Rattle.mt_worker.specs.mt_shared.Call.{Call}
 use Rattle.mt_worker.specs.mt_layer.Deeds.{deed_again, deed_ended, deed_asked, deed_heard, deed_said, said_as_live}
 use Rattle.mt_worker.specs.mt_layer.Laws.{DatagramsAreLines, ReportsAreLines, ResendsAreLines, TicksAreLines}
 use Rattle.mt_worker.specs.mt_layer.Lines.{IsLine, IsNobodysLine, next_with, whole_of}

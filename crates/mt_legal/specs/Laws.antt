@@ -8,7 +8,7 @@ use Rattle.mt_worker.specs.mt_runs.Isolation.{IsValidWhole}
 use Rattle.mt_worker.specs.mt_runs.Messages as runs
 use Rattle.mt_worker.specs.mt_shared.Book.{lines_in}
 use Rattle.mt_worker.specs.mt_shared.Replay.{given_in, replay, told}
-use Rattle.mt_worker.specs.mt_shared.declared.entry.Entry.{Entry}
+use Rattle.mt_worker.specs.mt_shared.Entry.{Entry}
 use Rattle.mt_worker.specs.Accounts.{Accounts, all_sent}
 use Rattle.mt_worker.specs.Due.{HaveBegun}
 use Rattle.mt_worker.specs.Gots.{Each, Got}

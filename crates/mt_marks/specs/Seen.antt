@@ -9,8 +9,8 @@ use Rattle.mt_model.specs.declared.tables.fabric.Fabric.{Fabric}
 use Rattle.mt_model.specs.declared.texts.recording.Event.{Event}
 use Rattle.mt_runs.specs.mt_machine.Isolation.{PublicView, owns, public_view}
 use Rattle.mt_runs.specs.mt_machine.Isolation as machine
-use Rattle.mt_runs.specs.mt_ledger.history.History.{History}
-use Rattle.mt_runs.specs.mt_ledger.history.Isolation.{Recent, recent}
+use Rattle.mt_runs.specs.mt_ledger.History.{History}
+use Rattle.mt_runs.specs.mt_ledger.HistoryIsolation.{Recent, recent}
 use Rattle.mt_runs.specs.Isolation.{PublicPart}
 use Rattle.mt_runs.specs.Marks.{Mark, Unanswered, reopened, seen}
 use Rattle.mt_marks.specs.declared.mark.Descriptor.{Descriptor}

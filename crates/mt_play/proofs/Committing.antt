@@ -23,7 +23,7 @@ use Rattle.mt_store.specs.Leading.{map_left}
 use Rattle.mt_whole.specs.mt_node.Plan.{applied}
 use Rattle.mt_whole.specs.mt_interactions.Committing.{CommitsLeadOn, LeadsOn}
 use Rattle.mt_whole.specs.mt_interactions.Plan.{IsPlanned, applied_history}
-use Rattle.mt_whole.specs.mt_interactions.declared.outcome.InteractionOutcome.{InteractionOutcome}
+use Rattle.mt_whole.specs.mt_interactions.InteractionOutcome.{InteractionOutcome}
 use Rattle.mt_keeping.specs.Laws.{MayCommit, StatesMayBeCommitted}
 use Rattle.mt_keeping.specs.States.{KeepingState, told_map}
 use Rattle.mt_play.specs.Courses.{stop_in}

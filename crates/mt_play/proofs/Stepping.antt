@@ -10,7 +10,7 @@ use Rattle.mt_whole.specs.mt_runs.Lines.{is_stop, next, talks_behind}
 use Rattle.mt_whole.specs.mt_runs.Whole.{SessionTalk, Whole, without_ended}
 use Rattle.mt_whole.specs.mt_marks.Noted.{noted_if}
 use Rattle.mt_whole.specs.mt_marks.Remembered.{ToldTalk, remembered, told_without_ended}
-use Rattle.mt_whole.specs.mt_marks.declared.shown.Note.{Note}
+use Rattle.mt_whole.specs.mt_marks.Note.{Note}
 use Rattle.mt_whole.specs.Laws.{TalksLetGoWhatCloses}
 use Rattle.mt_whole.specs.Plan.{IsPlan, IsPlanned}
 use Rattle.mt_whole.specs.declared.outcome.WholeOutcome.{WholeOutcome}

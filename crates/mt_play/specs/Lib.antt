@@ -1,8 +1,8 @@
-pub use Rattle.mt_whole.specs.mt_machine as mt_machine
-pub use Rattle.mt_whole.specs.mt_marks as mt_marks
-pub use Rattle.mt_whole.specs.mt_runs as mt_runs
-pub use Rattle.mt_whole.specs as mt_whole
 pub mod Courses
 pub mod Journal
 pub mod Plays
 pub mod Remembers
+pub mod mt_machine
+pub mod mt_marks
+pub mod mt_runs
+pub mod mt_whole

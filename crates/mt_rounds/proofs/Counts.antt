@@ -8,7 +8,7 @@ use Rattle.mt_queue.specs.declared.job.Job.{Job}
 use Rattle.mt_queue.specs.declared.job.Job.TheVariants.{End, Take, Wake}
 use Rattle.mt_receiver.specs.Rounds.{datagram_count, is_for, jobs_for, take_jobs, take_named, wake_count, wake_jobs, wakes, woken_behind}
 use Rattle.mt_worker.specs.mt_runs.Datagrams.{session_named}
-use Rattle.mt_worker.specs.mt_shared.declared.entry.Call.{Call}
+use Rattle.mt_worker.specs.mt_shared.Call.{Call}
 use Rattle.mt_worker.specs.Accounts.{Account, account_behind, account_over}
 use Rattle.mt_worker.specs.Due.{Hears, IsNone, IsOf, Reports, Then, TicksAll, Wakes, call_heard, call_tick, last_three}
 use Rattle.mt_worker.specs.Gots.{Got}

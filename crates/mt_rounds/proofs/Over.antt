@@ -5,8 +5,8 @@ use native.Mathlib.Decide.{ℕ_discrete}
 use Rattle.std.proofs.lemmas.List.Elements.{filter-append}
 use Rattle.mt_outside.specs.declared.network.Peer.{Peer}
 use Rattle.mt_worker.specs.mt_shared.Replay.{unless_stopped}
-use Rattle.mt_worker.specs.mt_shared.declared.entry.Call.{Call}
-use Rattle.mt_worker.specs.mt_shared.declared.entry.Stop.{Stop}
+use Rattle.mt_worker.specs.mt_shared.Call.{Call}
+use Rattle.mt_worker.specs.mt_shared.Stop.{Stop}
 use Rattle.mt_worker.specs.Accounts.{Account, Accounts, account_behind, account_over, all_behind, behind}
 use Rattle.mt_worker.specs.Due.{Hears, IsNone, IsOf, Reports, Then, Wakes, call_heard, last_three}
 use Rattle.mt_worker.specs.Gots.{Got, Told}

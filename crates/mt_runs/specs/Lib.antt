@@ -1,5 +1,3 @@
-pub use Rattle.mt_ledger.specs as mt_ledger
-pub use Rattle.mt_machine.specs as mt_machine
 pub mod Course
 pub mod Datagrams
 pub mod Expiries
@@ -15,3 +13,5 @@ pub mod Replies
 pub mod Restarts
 pub mod Retold
 pub mod Whole
+pub mod mt_ledger
+pub mod mt_machine

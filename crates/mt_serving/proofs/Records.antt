@@ -7,8 +7,8 @@ use Rattle.mt_model.specs.declared.texts.recording.Event.{Event}
 use Rattle.mt_outside.specs.Laws.{StreamLaws}
 use Rattle.mt_outside.specs.Stream.{Took, TookLess, one_more}
 use Rattle.mt_starting.specs.mt_shared.Book.{lines_in, onto_lines}
-use Rattle.mt_starting.specs.mt_shared.declared.entry.Entry.{Entry}
-use Rattle.mt_starting.specs.mt_shared.declared.entry.Stop.{Stop}
+use Rattle.mt_starting.specs.mt_shared.Entry.{Entry}
+use Rattle.mt_starting.specs.mt_shared.Stop.{Stop}
 use Rattle.mt_serving.specs.Record.{TookFront, Writes, event_lines}
 use Rattle.mt_serving.specs.declared.recording.RecordFault.{RecordFault}
 use Rattle.mt_serving.specs.declared.recording.RecordFault.TheVariants.{Memory, Write}

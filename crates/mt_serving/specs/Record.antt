@@ -6,7 +6,7 @@ use Rattle.mt_files.specs.Recording.{recording_text}
 use Rattle.mt_model.specs.declared.texts.recording.Event.{Event}
 use Rattle.mt_outside.specs.Stream.{RoseByOne, Took, TookLess}
 use Rattle.mt_starting.specs.mt_shared.Book.{lines_in}
-use Rattle.mt_starting.specs.mt_shared.declared.entry.Entry.{Entry}
+use Rattle.mt_starting.specs.mt_shared.Entry.{Entry}
 use Rattle.mt_serving.specs.declared.recording.RecordFault.{RecordFault}
 use Rattle.mt_serving.specs.declared.recording.RecordFault.TheVariants.{Memory, Write}
 

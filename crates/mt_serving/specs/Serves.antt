@@ -4,7 +4,7 @@ use Rattle.mt_starting.specs.mt_interactions.Configured.{ConfiguredInteractions}
 use Rattle.mt_model.specs.declared.texts.config.Config.{Config}
 use Rattle.mt_outside.specs.Stream.{Took}
 use Rattle.mt_starting.specs.mt_shared.Book.{is_timed}
-use Rattle.mt_starting.specs.mt_shared.declared.entry.Entry.{Entry}
+use Rattle.mt_starting.specs.mt_shared.Entry.{Entry}
 use Rattle.mt_starting.specs.Starts.{IsStartedOn}
 use Rattle.mt_serving.specs.Record.{record_of}
 

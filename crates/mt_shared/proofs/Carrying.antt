@@ -29,8 +29,8 @@ use Rattle.mt_interactions.specs.contracts.interactions.Interactions as interact
 use Rattle.mt_interactions.specs.contracts.interactions.Interactions.TheInside as interactions_inside
 use Rattle.mt_model.specs.contracts.node.state.NodeState as state
 use Rattle.mt_model.specs.contracts.rows.stored.StoredRows as stored
-use Rattle.mt_interactions.specs.mt_node.contracts.node.Node as node
-use Rattle.mt_interactions.specs.mt_node.contracts.node.Node.TheInside as node_inside
+use Rattle.mt_node.specs.contracts.node.Node as node
+use Rattle.mt_node.specs.contracts.node.Node.TheInside as node_inside
 use Rattle.mt_shared.specs.contracts.entry.Call as call
 use Rattle.mt_shared.specs.contracts.entry.Entry as entry
 use Rattle.mt_shared.specs.contracts.entry.Stop as stop

@@ -10,7 +10,7 @@ use Rattle.mt_interactions.specs.mt_lasting.Laws.{MapsAreMaps}
 use Rattle.mt_interactions.specs.mt_ledger.Ledger.{Ledger}
 use Rattle.mt_interactions.specs.mt_machine.State.{State}
 use Rattle.mt_model.specs.declared.node.state.NodeState.{NodeState}
-use Rattle.mt_interactions.specs.mt_node.Plan.{applied}
+use Rattle.mt_node.specs.Plan.{applied}
 use Rattle.mt_interactions.specs.Committing.{CommitsLeadOn, LeadsOn}
 use Rattle.mt_interactions.specs.Plan.{IsPlanned, applied_history}
 use Rattle.mt_interactions.specs.declared.outcome.InteractionOutcome.{InteractionOutcome}

@@ -9,7 +9,7 @@ ghost use Rattle.mt_interactions.specs.contracts.deeds.Deed as deed;
 ghost use Rattle.mt_interactions.specs.contracts.interactions.Interactions as interactions;
 ghost use Rattle.mt_model.specs.contracts.node.state.NodeState as state;
 ghost use Rattle.mt_model.specs.contracts.rows.stored.StoredRows as stored;
-ghost use Rattle.mt_interactions.specs.mt_node.contracts.node.Node as node;
+ghost use Rattle.mt_node.specs.contracts.node.Node as node;
 ghost use Rattle.mt_shared.specs.contracts.entry.Entry as entry;
 ghost use Rattle.mt_shared.specs.contracts.shared.SharedNode as shared;
 

@@ -13,8 +13,8 @@ use Rattle.mt_model.specs.declared.texts.recording.To.TheVariants.{Session, Plai
 use Rattle.mt_outside.specs.declared.network.Peer.{Peer}
 use Rattle.mt_worker.specs.mt_runs.Datagrams as runs
 use Rattle.mt_worker.specs.mt_shared.Replay.{unless_stopped}
-use Rattle.mt_worker.specs.mt_shared.declared.entry.Answer.{Answer}
-use Rattle.mt_worker.specs.mt_shared.declared.entry.Stop.{Stop}
+use Rattle.mt_worker.specs.mt_shared.Answer.{Answer}
+use Rattle.mt_worker.specs.mt_shared.Stop.{Stop}
 use Rattle.mt_worker.specs.Accounts.{Account, Accounts, account_behind, all_sent, behind, sent_by, sent_in, standing_behind, talk_in}
 use Rattle.mt_worker.specs.Gots.{Each, Got, Told}
 use Rattle.mt_worker.specs.Made.{AreTicks, IsTick}

@@ -18,7 +18,7 @@ use Rattle.mt_subs.specs.Subscriptions.{IsSubs, added, next_id}
 use Rattle.mt_subs.specs.declared.subscription.SubState.{SubState}
 use Rattle.mt_shared.specs.mt_machine.Environment.{Environment}
 use Rattle.mt_shared.specs.mt_machine.Step.{asked_reply, live_actor, refusal, session_actor}
-use Rattle.mt_shared.specs.mt_ledger.history.Asking.{events_for, with_events}
+use Rattle.mt_shared.specs.mt_ledger.HistoryAsking.{events_for, with_events}
 use Rattle.mt_shared.specs.mt_ledger.Asking.{with_wish}
 use Rattle.mt_shared.specs.mt_ledger.Behind.{acts, subs_done}
 use Rattle.mt_shared.specs.mt_ledger.Ledger.{Ledger}

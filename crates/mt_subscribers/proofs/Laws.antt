@@ -2,8 +2,8 @@
 use Rattle.std.proofs.Common.{◌≡◌, ℕ, ◌<◌, if◌then◌else◌, Bool, true, false, Option, Some, None, refl, sym, ap, subst, ◌∙◌}
 use Rattle.mt_shared.specs.mt_interactions.Configured.{ConfiguredInteractions}
 use Rattle.mt_shared.specs.mt_interactions.Deeds.{activity_at, confirmed_for, done_for, replied}
-use Rattle.mt_shared.specs.mt_interactions.declared.deeds.Deed.{Deed}
-use Rattle.mt_shared.specs.mt_interactions.declared.deeds.Deed.TheVariants.{Ask, Confirm, Ends, Report, Expire, Nothing}
+use Rattle.mt_shared.specs.mt_interactions.Deed.{Deed}
+use Rattle.mt_shared.specs.mt_interactions.TheVariants.{Ask, Confirm, Ends, Report, Expire, Nothing}
 use Rattle.mt_shared.specs.mt_ledger.Behind.{Activity, acts, state_done, subs_done}
 use Rattle.mt_shared.specs.mt_ledger.Ledger.{IsLedger, Ledger}
 use Rattle.mt_shared.specs.mt_ledger.Subscribing.{confirm_reply}

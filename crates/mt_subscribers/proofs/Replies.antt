@@ -21,7 +21,7 @@ use Rattle.mt_shared.specs.mt_machine.Commands.{command_effect}
 use Rattle.mt_shared.specs.mt_machine.Environment.{Environment}
 use Rattle.mt_shared.specs.mt_machine.Observation.{observation}
 use Rattle.mt_shared.specs.mt_machine.Step.{asked_reply, at_time, invoke_reply, is_late, is_untimely, read_reply, reply_to, report_of, unless_suppressed, write_reply}
-use Rattle.mt_shared.specs.mt_ledger.history.Asking.{with_events}
+use Rattle.mt_shared.specs.mt_ledger.HistoryAsking.{with_events}
 use Rattle.mt_subscribers.proofs.Commands.{command_tells, subscription_of}
 
 abbrev Silent : Reply → Type 0

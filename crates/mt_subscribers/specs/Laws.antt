@@ -1,7 +1,7 @@
 -- Laws of subscriptions and the sessions over which they are told.
 use Rattle.std.specs.Prelude.{◌≡◌, ◌<◌, ℕ, Bool, List, Some}
 use Rattle.mt_shared.specs.mt_interactions.Configured.{ConfiguredInteractions}
-use Rattle.mt_shared.specs.mt_interactions.declared.deeds.Deed.{Deed}
+use Rattle.mt_shared.specs.mt_interactions.Deed.{Deed}
 use Rattle.mt_shared.specs.mt_ledger.Ledger.{IsLedger}
 use Rattle.mt_shared.specs.mt_machine.State.{IsValid}
 use Rattle.mt_model.specs.declared.messages.message.Item.{Item}

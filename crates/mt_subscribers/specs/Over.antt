@@ -1,7 +1,7 @@
 -- Over which session a subscription is told.
 use Rattle.std.specs.Prelude.{◌≡◌, ℕ, nat_lt, true, Some}
-use Rattle.mt_shared.specs.mt_interactions.declared.deeds.Deed.{Deed}
-use Rattle.mt_shared.specs.mt_interactions.declared.deeds.Deed.TheVariants.{Ask, Confirm, Ends, Report, Expire, Nothing}
+use Rattle.mt_shared.specs.mt_interactions.Deed.{Deed}
+use Rattle.mt_shared.specs.mt_interactions.TheVariants.{Ask, Confirm, Ends, Report, Expire, Nothing}
 use Rattle.mt_subs.specs.Subscriptions.{kept_at, next_id}
 use Rattle.mt_subs.specs.declared.subscription.Kept.{Kept}
 use Rattle.mt_subs.specs.declared.subscription.SubState.{SubState}

@@ -5,9 +5,9 @@ use Rattle.mt_files.specs.Recording.{recording_of}
 use Rattle.mt_model.specs.declared.texts.config.Config.{Config}
 use Rattle.mt_model.specs.declared.texts.recording.Event.{Event}
 use Rattle.mt_model.specs.texts.Contents.{Contents, contents_of}
-use Rattle.mt_compare.specs.mt_marks.differences.Difference.{Difference, difference}
-use Rattle.mt_compare.specs.mt_marks.differences.Laws.{DifferencesAreFirst, EqualMarksDoNotDiffer}
-use Rattle.mt_compare.specs.mt_marks.differences.Marked.{marked}
+use Rattle.mt_compare.specs.mt_marks.Difference.{Difference, difference}
+use Rattle.mt_compare.specs.mt_marks.Laws.{DifferencesAreFirst, EqualMarksDoNotDiffer}
+use Rattle.mt_compare.specs.mt_marks.Marked.{marked}
 use Rattle.mt_endings.specs.Endings.{Recordings, configured, of_files, recorded_both, with_recordings}
 use Rattle.mt_top.specs.Asked.{compared, compared_by, told_difference}
 use Rattle.mt_top.specs.Begun.{Begun, begun_with}

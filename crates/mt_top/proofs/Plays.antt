@@ -9,7 +9,7 @@ use Rattle.mt_files.specs.Lines.{ended}
 use Rattle.mt_files.specs.Output.{output_text, sent_line}
 use Rattle.mt_compare.specs.mt_runs.Messages.{run}
 use Rattle.mt_top.specs.Begun.{Begun, Plays, behind, sent_by}
-use Rattle.mt_compare.specs.mt_play.declared.playing.Playing.{Playing}
+use Rattle.mt_compare.specs.mt_play.Playing.{Playing}
 
 -- what is sent for events
 abbrev pub sent_of : Begun → List Event → List Sent

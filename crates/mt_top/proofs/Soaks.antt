@@ -11,7 +11,7 @@ use Rattle.mt_soak.specs.Generated as generated
 use Rattle.mt_soak.specs.Summary.{IsTallyOf}
 use Rattle.mt_soak.specs.declared.tally.Tally.{Tally}
 use Rattle.mt_top.specs.Begun.{Begun, behind, Plays, sent_by, Tells}
-use Rattle.mt_compare.specs.mt_play.declared.playing.Playing.{Playing}
+use Rattle.mt_compare.specs.mt_play.Playing.{Playing}
 use Rattle.mt_top.proofs.Plays.{sent_of}
 
 -- What was told so far of all events, for which node the code stands, and what is left: so many events from a state on.

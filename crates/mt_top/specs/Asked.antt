@@ -10,7 +10,7 @@ use Rattle.mt_soak.specs.Summary.{summary_lines}
 use Rattle.mt_words.specs.Words.{asked}
 use Rattle.mt_words.specs.declared.asked.Asked.{Asked}
 use Rattle.mt_words.specs.declared.asked.Asked.TheVariants.{Ask, Compare, Replay, Settle, Show, Soak}
-use Rattle.mt_compare.specs.mt_marks.differences.Difference.{Difference, difference}
+use Rattle.mt_compare.specs.mt_marks.Difference.{Difference, difference}
 use Rattle.mt_compare.specs.Text.{comparison_lines}
 use Rattle.mt_asking.specs.Asked.{asking, showing}
 use Rattle.mt_settle.specs.Settled.{settled}

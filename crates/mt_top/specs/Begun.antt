@@ -11,7 +11,7 @@ use Rattle.mt_compare.specs.mt_runs.Course.{Going, going_on, stepped}
 use Rattle.mt_compare.specs.mt_runs.Messages.{sent_on_way}
 use Rattle.mt_compare.specs.mt_runs.Whole.{whole_with}
 use Rattle.mt_compare.specs.mt_play.Plays.{IsPlaying}
-use Rattle.mt_compare.specs.mt_play.declared.playing.Playing.{Playing}
+use Rattle.mt_compare.specs.mt_play.Playing.{Playing}
 use Rattle.mt_soak.specs.Summary.{IsTallyOf}
 use Rattle.mt_soak.specs.declared.tally.Tally.{Tally}
 

@@ -6,9 +6,9 @@ use Rattle.mt_model.specs.declared.texts.config.Config.{Config}
 use Rattle.mt_model.specs.declared.texts.recording.Event.{Event}
 use Rattle.mt_model.specs.texts.Contents.{contents_of}
 use Rattle.mt_compare.specs.mt_runs.Marks.{marks}
-use Rattle.mt_compare.specs.mt_marks.differences.Difference.{Difference}
-use Rattle.mt_compare.specs.mt_marks.differences.Laws.{IsFirst}
-use Rattle.mt_compare.specs.mt_marks.differences.Marked.{marked}
+use Rattle.mt_compare.specs.mt_marks.Difference.{Difference}
+use Rattle.mt_compare.specs.mt_marks.Laws.{IsFirst}
+use Rattle.mt_compare.specs.mt_marks.Marked.{marked}
 use Rattle.mt_compare.specs.Text.{comparison_lines}
 use Rattle.mt_endings.specs.Endings.{Ending, Recordings, of_files}
 use Rattle.mt_endings.specs.declared.fault.Fault.TheVariants.{Differ}

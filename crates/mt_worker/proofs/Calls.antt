@@ -9,9 +9,9 @@ use Rattle.mt_model.specs.declared.texts.recording.Sent.{Sent}
 use Rattle.mt_outside.specs.declared.network.Peer.{Peer}
 use Rattle.mt_layer.specs.mt_runs.Datagrams.{Answer}
 use Rattle.mt_layer.specs.mt_shared.Replay.{unless_stopped}
-use Rattle.mt_layer.specs.mt_shared.declared.entry.Call.{Call}
-use Rattle.mt_layer.specs.mt_shared.declared.entry.Stamped.{Stamped}
-use Rattle.mt_layer.specs.mt_shared.declared.entry.Stop.{Stop}
+use Rattle.mt_layer.specs.mt_shared.Call.{Call}
+use Rattle.mt_layer.specs.mt_shared.Stamped.{Stamped}
+use Rattle.mt_layer.specs.mt_shared.Stop.{Stop}
 use Rattle.mt_talk.specs.Talks.{Talk}
 use Rattle.mt_worker.specs.Accounts.{Account, account_behind, account_over, ends_of, gained, sent_over, standing_behind, still_standing, talk_in}
 use Rattle.mt_worker.specs.Due.{Hears, Reports, Resends, Wakes, call_again, call_heard, call_report, last_three}

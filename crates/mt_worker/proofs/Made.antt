@@ -6,8 +6,8 @@ use Rattle.std.proofs.lemmas.List.Elements.{Contains-append_right}
 use Rattle.mt_outside.specs.declared.network.Peer.{Peer}
 use Rattle.mt_layer.specs.mt_runs.Datagrams.{session_named}
 use Rattle.mt_layer.specs.mt_shared.Replay.{unless_stopped}
-use Rattle.mt_layer.specs.mt_shared.declared.entry.Call.{Call}
-use Rattle.mt_layer.specs.mt_shared.declared.entry.Stop.{Stop}
+use Rattle.mt_layer.specs.mt_shared.Call.{Call}
+use Rattle.mt_layer.specs.mt_shared.Stop.{Stop}
 use Rattle.mt_worker.specs.Accounts.{Account, Accounts, account_behind, account_over, all_behind, behind, standing_behind, talk_in}
 use Rattle.mt_worker.specs.Due.{call_again, call_heard, call_report, call_tick}
 use Rattle.mt_worker.specs.Gots.{Got, Told}

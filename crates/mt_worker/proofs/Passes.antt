@@ -6,12 +6,12 @@ use Rattle.mt_layer.specs.mt_interactions.Configured.{ConfiguredInteractions}
 use Rattle.mt_layer.specs.mt_shared.Book.{failed, is_full, stop_in, time_for}
 use Rattle.mt_layer.specs.mt_shared.Replay.{answer_at, next, no_answer, replay, told}
 use Rattle.mt_layer.specs.mt_shared.Shared.{IsAnswered, IsRefused, NodePass}
-use Rattle.mt_layer.specs.mt_shared.declared.entry.ActFault.{ActFault}
-use Rattle.mt_layer.specs.mt_shared.declared.entry.ActFault.TheVariants.{Stopped, RecordFull, Memory}
-use Rattle.mt_layer.specs.mt_shared.declared.entry.Call.{Call}
-use Rattle.mt_layer.specs.mt_shared.declared.entry.Entry.{Entry}
-use Rattle.mt_layer.specs.mt_shared.declared.entry.Stamped.{Stamped}
-use Rattle.mt_layer.specs.mt_shared.declared.entry.Stop.{Stop}
+use Rattle.mt_layer.specs.mt_shared.ActFault.{ActFault}
+use Rattle.mt_layer.specs.mt_shared.TheVariants.{Stopped, RecordFull, Memory}
+use Rattle.mt_layer.specs.mt_shared.Call.{Call}
+use Rattle.mt_layer.specs.mt_shared.Entry.{Entry}
+use Rattle.mt_layer.specs.mt_shared.Stamped.{Stamped}
+use Rattle.mt_layer.specs.mt_shared.Stop.{Stop}
 use Rattle.mt_turn.specs.History.{IsOutsideAgain}
 use Rattle.mt_turn.specs.Known.{places_after}
 use Rattle.mt_worker.specs.Faults.{IsCause, IsDenied, fault_of}

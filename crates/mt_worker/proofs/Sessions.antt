@@ -3,8 +3,8 @@ use Rattle.std.proofs.Common.{◌≡◌, ◌≢◌, ◌∙◌, refl, sym, ap, su
 use Rattle.std.specs.Prelude.{◌==◌, ◌||◌, ◌<◌, is_some, if◌then◌else◌}
 use Rattle.mt_model.specs.declared.texts.recording.Sent.{Sent}
 use Rattle.mt_layer.specs.mt_shared.Replay.{unless_stopped}
-use Rattle.mt_layer.specs.mt_shared.declared.entry.Call.{Call}
-use Rattle.mt_layer.specs.mt_shared.declared.entry.Stop.{Stop}
+use Rattle.mt_layer.specs.mt_shared.Call.{Call}
+use Rattle.mt_layer.specs.mt_shared.Stop.{Stop}
 use Rattle.mt_worker.specs.Accounts.{Account, Accounts, account_behind, account_over, all_behind, all_sent, behind, sent_by, sent_in, sent_over, standing_behind, talk_in}
 use Rattle.mt_worker.specs.Due.{is_in}
 use Rattle.mt_worker.specs.Gots.{Each, Got, Told}

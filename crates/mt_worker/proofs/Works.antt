@@ -7,8 +7,8 @@ use Rattle.mt_outside.specs.Stream.{HasCause}
 use mathlib.Core.List.{IsPrefix}
 use Rattle.mt_queue.specs.declared.job.Job.TheVariants.{Wake}
 use Rattle.mt_layer.specs.mt_shared.Shared.{IsAnswered, NodePass}
-use Rattle.mt_layer.specs.mt_shared.declared.entry.Call.{Call}
-use Rattle.mt_layer.specs.mt_shared.declared.entry.Stamped.{Stamped}
+use Rattle.mt_layer.specs.mt_shared.Call.{Call}
+use Rattle.mt_layer.specs.mt_shared.Stamped.{Stamped}
 use Rattle.mt_turn.specs.History.{IsOutsideAgain}
 use Rattle.mt_worker.specs.Accounts.{Account, account_over, sent_over}
 use Rattle.mt_worker.specs.Due.{Ticks, call_tick}

@@ -3,8 +3,8 @@ use Rattle.std.specs.Prelude.{◌≤◌, ℕ, ◌==◌, ◌&&◌, nat_le, Bool, 
 use Rattle.std.specs.List.{list_any}
 use Rattle.mt_exchange.specs.declared.lists.EndTime.{EndTime}
 use Rattle.mt_layer.specs.mt_interactions.Deeds.{has_come}
-use Rattle.mt_layer.specs.mt_interactions.declared.deeds.Deed.{Deed}
-use Rattle.mt_layer.specs.mt_interactions.declared.deeds.Deed.TheVariants.{Ends}
+use Rattle.mt_layer.specs.mt_interactions.Deed.{Deed}
+use Rattle.mt_layer.specs.mt_interactions.TheVariants.{Ends}
 use Rattle.mt_layer.specs.Saying.{sent_again, sent_heard, sent_report, talk_again, talk_heard, talk_report}
 use Rattle.mt_model.specs.declared.limits.TheConstants.{LAST_FABRIC}
 use Rattle.mt_model.specs.declared.messages.message.Reply.{Reply}
@@ -14,7 +14,7 @@ use Rattle.mt_model.specs.declared.texts.recording.Event.{Event}
 use Rattle.mt_model.specs.declared.texts.recording.Event.TheVariants.{Datagram, Report, Resend}
 use Rattle.mt_model.specs.declared.texts.recording.Sent.{Sent}
 use Rattle.mt_layer.specs.mt_shared.Replay.{unless_stopped}
-use Rattle.mt_layer.specs.mt_shared.declared.entry.Answer.{Answer}
+use Rattle.mt_layer.specs.mt_shared.Answer.{Answer}
 use Rattle.mt_talk.specs.Talks.{Talk, begun_talk}
 use Rattle.mt_worker.specs.Gots.{Got, Told}
 use Rattle.mt_worker.specs.declared.seat.Subscription.{Subscription}

@@ -1,7 +1,7 @@
 -- Which calls a worker makes for the jobs that it takes, and the reporter.
 use Rattle.std.specs.Prelude.{◌≡◌, ◌≢◌, ◌<◌, ℕ, ◌-◌, ◌==◌, Bool, List, [], ◌∷◌, ◌++◌, Option, Some, None, MatchBool, drop, length, ⊤}
 use Rattle.std.specs.List.{list_any}
-use Rattle.mt_layer.specs.mt_interactions.declared.deeds.Deed.TheVariants as deeds
+use Rattle.mt_layer.specs.mt_interactions.TheVariants as deeds
 use Rattle.mt_layer.specs.Deeds.{deed_again, deed_heard}
 use Rattle.mt_model.specs.declared.tables.access.Auth.TheVariants.{Group}
 use Rattle.mt_model.specs.declared.texts.config.SessionRow.{SessionRow}
@@ -10,7 +10,7 @@ use Rattle.mt_outside.specs.declared.network.Peer.{Peer}
 use Rattle.mt_queue.specs.declared.job.Job.{Job}
 use Rattle.mt_queue.specs.declared.job.Job.TheVariants.{Take, Wake, End}
 use Rattle.mt_layer.specs.mt_runs.Datagrams.{session_named}
-use Rattle.mt_layer.specs.mt_shared.declared.entry.Call.{Call}
+use Rattle.mt_layer.specs.mt_shared.Call.{Call}
 use Rattle.mt_worker.specs.Accounts.{Account, Accounts, account_behind, all_behind, begun_account}
 use Rattle.mt_worker.specs.Gots.{Each, Got}
 use Rattle.mt_worker.specs.declared.seat.Subscription.{Subscription}

@@ -4,11 +4,11 @@ use Rattle.mt_files.specs.Form.{HasForm}
 use Rattle.mt_outside.specs.Stream.{one_more}
 use Rattle.mt_layer.specs.mt_shared.Book.{is_full, stop_in}
 use Rattle.mt_layer.specs.mt_shared.Shared.{IsRefused, NodePass}
-use Rattle.mt_layer.specs.mt_shared.declared.entry.ActFault.{ActFault}
-use Rattle.mt_layer.specs.mt_shared.declared.entry.ActFault.TheVariants as acts
-use Rattle.mt_layer.specs.mt_shared.declared.entry.Call.{Call}
-use Rattle.mt_layer.specs.mt_shared.declared.entry.Entry.{Entry}
-use Rattle.mt_layer.specs.mt_shared.declared.entry.Stop.{Stop}
+use Rattle.mt_layer.specs.mt_shared.ActFault.{ActFault}
+use Rattle.mt_layer.specs.mt_shared.TheVariants as acts
+use Rattle.mt_layer.specs.mt_shared.Call.{Call}
+use Rattle.mt_layer.specs.mt_shared.Entry.{Entry}
+use Rattle.mt_layer.specs.mt_shared.Stop.{Stop}
 use Rattle.mt_worker.specs.declared.fault.WorkFault.{WorkFault}
 use Rattle.mt_worker.specs.declared.fault.WorkFault.TheVariants.{Memory, Stopped, Link, Full}
 

@@ -4,8 +4,8 @@ use mathlib.Core.List.{IsPrefix}
 use Rattle.mt_layer.specs.mt_interactions.Configured.{ConfiguredInteractions}
 use Rattle.mt_layer.specs.mt_shared.Replay.{told}
 use Rattle.mt_layer.specs.mt_shared.Shared.{NodePass}
-use Rattle.mt_layer.specs.mt_shared.declared.entry.Answer.{Answer}
-use Rattle.mt_layer.specs.mt_shared.declared.entry.Entry.{Entry}
+use Rattle.mt_layer.specs.mt_shared.Answer.{Answer}
+use Rattle.mt_layer.specs.mt_shared.Entry.{Entry}
 use Rattle.mt_turn.specs.History.{IsOutsideAgain}
 
 -- each of these

@@ -1,8 +1,3 @@
-pub use Rattle.mt_layer.specs.mt_interactions as mt_interactions
-pub use Rattle.mt_layer.specs as mt_layer
-pub use Rattle.mt_layer.specs.mt_machine as mt_machine
-pub use Rattle.mt_layer.specs.mt_runs as mt_runs
-pub use Rattle.mt_layer.specs.mt_shared as mt_shared
 pub mod Accounts
 pub mod Due
 pub mod Faults
@@ -11,3 +6,8 @@ pub mod Gots
 pub mod Made
 pub mod Seats
 pub mod Works
+pub mod mt_interactions
+pub mod mt_layer
+pub mod mt_machine
+pub mod mt_runs
+pub mod mt_shared

@@ -3,7 +3,7 @@ use Rattle.std.specs.Prelude.{◌≡◌, ℕ, true, List, [], ◌∷◌, Some, C
 use Rattle.mt_model.specs.declared.texts.recording.Event.{Event}
 use Rattle.mt_model.specs.declared.texts.recording.Event.TheVariants as events
 use Rattle.mt_layer.specs.mt_runs.Datagrams.{session_named}
-use Rattle.mt_layer.specs.mt_shared.declared.entry.Call.{Call}
+use Rattle.mt_layer.specs.mt_shared.Call.{Call}
 use Rattle.mt_worker.specs.Accounts.{Account, Accounts, account_behind, behind}
 use Rattle.mt_worker.specs.Due.{call_again, call_heard, call_report, call_tick, is_in}
 use Rattle.mt_worker.specs.Gots.{Each, Got}

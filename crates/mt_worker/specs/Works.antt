@@ -7,8 +7,8 @@ use Rattle.mt_outside.specs.declared.network.Parcel.{Parcel}
 use Rattle.mt_queue.specs.declared.job.Job.{Job}
 use Rattle.mt_layer.specs.mt_shared.Book.{done}
 use Rattle.mt_layer.specs.mt_shared.Shared.{NodePass}
-use Rattle.mt_layer.specs.mt_shared.declared.entry.Call.{Call}
-use Rattle.mt_layer.specs.mt_shared.declared.entry.Stamped.{Stamped}
+use Rattle.mt_layer.specs.mt_shared.Call.{Call}
+use Rattle.mt_layer.specs.mt_shared.Stamped.{Stamped}
 use Rattle.mt_worker.specs.Accounts.{Account, Accounts, account_over, all_behind, all_sent, sent_over}
 use Rattle.mt_worker.specs.Due.{DoesAll, Ticks, TicksAll, id_of, is_in}
 use Rattle.mt_worker.specs.Faults.{Counts, IsCause, status_of}

@@ -2,7 +2,7 @@ use Rattle.std.proofs.Common.{◌≡◌, sym, subst}
 use Rattle.std.specs.Prelude.{IfOk}
 use Rattle.mt_play.specs.mt_runs.Isolation.{own_part}
 use Rattle.mt_play.specs.mt_runs.Marks.{born}
-use Rattle.mt_play.specs.mt_marks.differences.Difference.{part_between}
+use Rattle.mt_play.specs.mt_marks.Difference.{part_between}
 use Rattle.mt_compare.specs.Sides.{mark_in}
 use Rattle.mt_compare.specs.declared.side.Here.{Here}
 use Rattle.mt_compare.proofs.between.part_between.Goals as goal

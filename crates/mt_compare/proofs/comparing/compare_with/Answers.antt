@@ -5,8 +5,8 @@ use Rattle.mt_model.specs.texts.Contents.{contents_of}
 use Rattle.mt_play.specs.mt_machine.Environment.{given_by}
 use Rattle.mt_play.specs.mt_runs.Course.{going_on}
 use Rattle.mt_play.specs.mt_runs.Whole.{opened}
-use Rattle.mt_play.specs.mt_marks.differences.Difference.{difference_from}
-use Rattle.mt_play.specs.mt_marks.differences.Marked.{Marked}
+use Rattle.mt_play.specs.mt_marks.Difference.{difference_from}
+use Rattle.mt_play.specs.mt_marks.Marked.{Marked}
 use Rattle.mt_compare.specs.Found.{difference_in}
 use Rattle.mt_compare.specs.Sides.{if_lost_at, left, left_of}
 use Rattle.mt_compare.proofs.comparing.compare_with.Goals as goal

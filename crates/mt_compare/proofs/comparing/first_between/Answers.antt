@@ -1,6 +1,6 @@
 use Rattle.std.proofs.Common.{◌≡◌, Some, None, sym, ap, ◌∙◌, Option, subst}
-use Rattle.mt_play.specs.mt_marks.differences.Difference as written
-use Rattle.mt_play.specs.mt_marks.differences.Difference.{part_between}
+use Rattle.mt_play.specs.mt_marks.Difference as written
+use Rattle.mt_play.specs.mt_marks.Difference.{part_between}
 use Rattle.mt_compare.specs.Found.{difference_in}
 use Rattle.mt_compare.specs.Sides.{GoesOn, mark_in}
 use Rattle.mt_compare.specs.declared.comparing.Difference.{Difference}

@@ -2,7 +2,7 @@ use Rattle.std.proofs.Common.{Some, ap, sym, subst, List, ◌∙◌}
 use Rattle.std.proofs.lemmas.List.Elements.{All-pop, All-same}
 use Rattle.mt_owners.specs.mt_shared.Acts.{IsHalted}
 use Rattle.mt_owners.specs.mt_shared.Book.{stop_in}
-use Rattle.mt_owners.specs.mt_shared.declared.entry.Entry.{Entry}
+use Rattle.mt_owners.specs.mt_shared.Entry.{Entry}
 use Rattle.mt_crew.specs.Members.{MayHave}
 use Rattle.mt_crew.specs.Ready.{IsFresh}
 use Rattle.mt_crew.proofs.running.run.Goals as goal

@@ -2,7 +2,7 @@ use Rattle.std.proofs.Common.{◌≡◌, ap, List, [], length, rules, sym, ◌++
 use Rattle.std.proofs.lemmas.List.{nil_from_length}
 use Rattle.mt_events.specs.Reading.{asking}
 use Rattle.mt_events.specs.Telling.{answered}
-use Rattle.mt_runs.specs.mt_ledger.history.Asking.{with_events}
+use Rattle.mt_runs.specs.mt_ledger.HistoryAsking.{with_events}
 use Rattle.mt_model.specs.declared.messages.message.Item.{Item}
 use Rattle.mt_model.specs.declared.messages.message.Path.{Path}
 use Rattle.mt_model.specs.declared.messages.message.Reply.TheVariants as replies

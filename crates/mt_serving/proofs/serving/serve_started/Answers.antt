@@ -1,6 +1,6 @@
 use Rattle.std.proofs.Common.{arith, ◌≡◌, subst, sym, true, List}
 use Rattle.mt_starting.specs.mt_shared.Book.{is_timed}
-use Rattle.mt_starting.specs.mt_shared.declared.entry.Entry.{Entry}
+use Rattle.mt_starting.specs.mt_shared.Entry.{Entry}
 use Rattle.mt_serving.proofs.serving.serve_started.Goals as goal
 
 pub returns-clause-told : goal.returns-clause-told

@@ -2,7 +2,7 @@ use Rattle.std.proofs.Common.{Option, ◌∷◌, ap, refl, subst, sym, ◌∙◌
 use Rattle.mt_play.specs.mt_runs.Course.{stepped}
 use Rattle.mt_play.specs.mt_runs.Isolation.{own_part}
 use Rattle.mt_play.specs.mt_runs.Marks.{born, gone}
-use Rattle.mt_play.specs.mt_marks.differences.Marked.{marked_at}
+use Rattle.mt_play.specs.mt_marks.Marked.{marked_at}
 use Rattle.mt_play.specs.Plays.{IsPlaying}
 use Rattle.mt_play.specs.declared.playing.Playing.{Playing}
 use Rattle.mt_compare.specs.Sides.{if_lost_at}

@@ -1,6 +1,6 @@
 use Rattle.std.proofs.Common.{◌≡◌, ◌∙◌, ap, subst, sym, true}
 use Rattle.mt_events.specs.declared.numbers.Numbers.{Numbers}
-use Rattle.mt_runs.specs.mt_ledger.history.History.{History, without_left}
+use Rattle.mt_runs.specs.mt_ledger.History.{History, without_left}
 use Rattle.mt_interactions.specs.Recording.{may_record, numbers_after}
 use Rattle.mt_interactions.proofs.Recorded.{have_numbers, numbers_left, numbers_told}
 use Rattle.mt_interactions.proofs.history.History.ceiling_behind.Goals as goal

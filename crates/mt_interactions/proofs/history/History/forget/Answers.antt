@@ -1,6 +1,6 @@
 use Rattle.std.proofs.Common.{List, Some, subst, sym}
 use Rattle.mt_model.specs.declared.messages.message.Happened.{Happened}
-use Rattle.mt_runs.specs.mt_ledger.history.History.{IsHistory}
+use Rattle.mt_runs.specs.mt_ledger.History.{IsHistory}
 use Rattle.mt_interactions.proofs.history.History.forget.Goals as goal
 
 pub invariant_of-self : goal.invariant_of-self

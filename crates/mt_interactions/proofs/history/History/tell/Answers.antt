@@ -2,7 +2,7 @@ use Rattle.std.proofs.Common.{◌≡◌, ℕ, ap, subst, sym, true, ◌∙◌}
 use Rattle.mt_model.specs.declared.messages.message.Happened.{Happened}
 use Rattle.mt_model.specs.declared.node.action.NodeStep.{NodeStep}
 use Rattle.mt_events.specs.Rings.{pushed}
-use Rattle.mt_runs.specs.mt_ledger.history.History.{History, IsHistory, happened}
+use Rattle.mt_runs.specs.mt_ledger.History.{History, IsHistory, happened}
 use Rattle.mt_interactions.specs.Recording.{is_of_a_fabric}
 use Rattle.mt_interactions.proofs.Recorded.{of_a_fabric}
 use Rattle.mt_interactions.proofs.history.History.tell.Goals as goal

@@ -1,7 +1,7 @@
 use Rattle.std.proofs.Common.{◌≡◌, ◌+◌, ◌*◌, ◌^◌, ◌≤◌, length, true}
 use Rattle.std.specs.List.{list_all}
 use Rattle.std.specs.Vec.Iter.{into_iter_items, into_iter_len}
-use Rattle.mt_runs.specs.mt_ledger.history.History.{recorded_all}
+use Rattle.mt_runs.specs.mt_ledger.History.{recorded_all}
 use Rattle.mt_interactions.specs.Recording.{is_of_a_fabric}
 use Rattle.mt_interactions.proofs.history.History.tell_all.Given as goal
 

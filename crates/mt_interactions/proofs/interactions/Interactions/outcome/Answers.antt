@@ -1,6 +1,6 @@
 use Rattle.std.proofs.Common.{◌≡◌, ◌∙◌, ◌++◌, ap, sym}
 use Rattle.mt_node.specs.mt_lasting.Changes.{bytes_to_commit, raised}
-use Rattle.mt_runs.specs.mt_ledger.history.History.{History, recorded_all, without_left}
+use Rattle.mt_runs.specs.mt_ledger.History.{History, recorded_all, without_left}
 use Rattle.mt_interactions.specs.Configured.{ConfiguredInteractions}
 use Rattle.mt_interactions.specs.Recording.{may_record}
 use Rattle.mt_interactions.proofs.Committed.{told_between}

@@ -1,4 +1,4 @@
-use Rattle.mt_shared.specs.mt_interactions.declared.deeds.Deed.TheVariants.{Ends}
+use Rattle.mt_shared.specs.mt_interactions.TheVariants.{Ends}
 use Rattle.mt_layer.proofs.session_talk.SessionTalk.ends.Goals as goal
 
 pub returns-clause-deed : goal.returns-clause-deed

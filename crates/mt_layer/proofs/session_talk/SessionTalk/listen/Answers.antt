@@ -1,7 +1,7 @@
 use Rattle.std.proofs.Common.{◌≡◌, ℕ, ◌∙◌, true, Option, Result, Ok, Err, IfOk, OnOk, ap}
 use Rattle.mt_model.specs.declared.messages.message.Reply.{Reply}
 use Rattle.mt_talk.specs.Hearing.{Said, said, said_by}
-use Rattle.mt_shared.specs.mt_interactions.declared.deeds.Deed.{Deed}
+use Rattle.mt_shared.specs.mt_interactions.Deed.{Deed}
 use Rattle.mt_layer.specs.Answering.{answer_by, answered_with}
 use Rattle.mt_layer.specs.Deeds.{deed_heard, deed_said}
 use Rattle.mt_layer.specs.Keeping.{IsKeptOf}

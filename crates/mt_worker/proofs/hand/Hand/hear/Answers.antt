@@ -6,7 +6,7 @@ use Rattle.mt_worker.specs.Works.{WentOver, got_by}
 use Rattle.mt_worker.specs.declared.fault.WorkFault.TheVariants.{Memory}
 use Rattle.mt_layer.specs.Answering.{answer_by}
 use Rattle.mt_layer.specs.Saying.{heard_as_live}
-use Rattle.mt_layer.specs.mt_shared.declared.entry.Call.{Call}
+use Rattle.mt_layer.specs.mt_shared.Call.{Call}
 use Rattle.mt_worker.proofs.Calls.{heard_got, heard_sent, heard_stands, hears}
 use Rattle.mt_worker.proofs.Made.{heard_made}
 use Rattle.mt_worker.proofs.Works.{went_denied, went_nowhere, went_sent, went_unsaid}

@@ -4,7 +4,7 @@ use Rattle.mt_worker.specs.Due.{Resends, call_again}
 use Rattle.mt_worker.specs.Gots.{Goes, Got}
 use Rattle.mt_worker.specs.Works.{WentOver, got_by}
 use Rattle.mt_worker.specs.declared.fault.WorkFault.TheVariants.{Memory}
-use Rattle.mt_layer.specs.mt_shared.declared.entry.Call.{Call}
+use Rattle.mt_layer.specs.mt_shared.Call.{Call}
 use Rattle.mt_worker.proofs.Calls.{again_got, again_sent, again_stands, resends}
 use Rattle.mt_worker.proofs.Made.{again_made}
 use Rattle.mt_worker.proofs.Works.{went_denied, went_nowhere, went_sent, went_unsaid}

@@ -1,0 +1,3 @@
+-- What this crate passes on of mt_worker to those above it.
+pub use Rattle.mt_worker.specs.Due
+pub use Rattle.mt_worker.specs.declared.working.Done

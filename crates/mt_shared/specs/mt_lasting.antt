@@ -1,0 +1,2 @@
+-- What this crate passes on of mt_lasting to those above it.
+pub use Rattle.mt_interactions.specs.mt_lasting.Contents

@@ -1,0 +1,9 @@
+-- What this crate passes on of mt_shared to those above it.
+pub use Rattle.mt_layer.specs.mt_shared.Acts
+pub use Rattle.mt_layer.specs.mt_shared.Book
+pub use Rattle.mt_layer.specs.mt_shared.Replay
+pub use Rattle.mt_layer.specs.mt_shared.Shared
+pub use Rattle.mt_layer.specs.mt_shared.Answer
+pub use Rattle.mt_layer.specs.mt_shared.Call
+pub use Rattle.mt_layer.specs.mt_shared.Entry
+pub use Rattle.mt_layer.specs.mt_shared.Stop
