@@ -6,21 +6,21 @@ use Rattle.mt_files.specs.Event.{at_time}
 use Rattle.mt_model.specs.declared.limits.TheConstants.{LAST_TIME}
 use Rattle.mt_model.specs.declared.texts.config.SessionRow.{SessionRow}
 use Rattle.mt_opcreds.specs.Laws.{KeepsRules}
-use Rattle.mt_worker.specs.mt_runs.Course.{Going, going_on}
-use Rattle.mt_worker.specs.mt_runs.Isolation.{IsValidWhole}
-use Rattle.mt_worker.specs.mt_runs.Messages as runs
-use Rattle.mt_worker.specs.mt_runs.Whole.{SessionTalk, begun, is_talk_of}
-use Rattle.mt_worker.specs.mt_interactions.Configured.{ConfiguredInteractions}
-use Rattle.mt_worker.specs.mt_shared.Book.{lines_in}
-use Rattle.mt_worker.specs.mt_shared.Replay.{answer_at, behind_deed, given_in, next, replay, told}
-use Rattle.mt_worker.specs.mt_shared.Call.{Call}
-use Rattle.mt_worker.specs.mt_shared.Entry.{Entry}
-use Rattle.mt_worker.specs.mt_shared.Stop.{Stop}
-use Rattle.mt_worker.specs.mt_layer.Laws.{BegunTalksServe}
-use Rattle.mt_worker.specs.mt_layer.Lines.{next_with, whole_of}
-use Rattle.mt_worker.specs.Accounts.{Account, Accounts, all_sent, begun_account, behind}
-use Rattle.mt_worker.specs.Due.{HaveBegun, id_of, is_in}
-use Rattle.mt_worker.specs.Gots.{Got, Told}
+use Rattle.mt_shares.specs.mt_runs.Course.{Going, going_on}
+use Rattle.mt_shares.specs.mt_runs.Isolation.{IsValidWhole}
+use Rattle.mt_shares.specs.mt_runs.Messages as runs
+use Rattle.mt_shares.specs.mt_runs.Whole.{SessionTalk, begun, is_talk_of}
+use Rattle.mt_shares.specs.mt_interactions.Configured.{ConfiguredInteractions}
+use Rattle.mt_shares.specs.mt_shared.Book.{lines_in}
+use Rattle.mt_shares.specs.mt_shared.Replay.{answer_at, behind_deed, given_in, next, replay, told}
+use Rattle.mt_shares.specs.mt_shared.Call.{Call}
+use Rattle.mt_shares.specs.mt_shared.Entry.{Entry}
+use Rattle.mt_shares.specs.mt_shared.Stop.{Stop}
+use Rattle.mt_shares.specs.mt_layer.Laws.{BegunTalksServe}
+use Rattle.mt_shares.specs.mt_layer.Lines.{next_with, whole_of}
+use Rattle.mt_shares.specs.mt_worker.Accounts.{Account, Accounts, all_sent, begun_account, behind}
+use Rattle.mt_shares.specs.mt_worker.Due.{HaveBegun, id_of, is_in}
+use Rattle.mt_shares.specs.mt_worker.Gots.{Got, Told}
 use Rattle.mt_legal.specs.Laws.{AreInTime, IsServable, IsWholeBook}
 use Rattle.mt_legal.specs.Lines.{AreLines, IsLine, begun_whole, ids_of_boot, rows_of_boot, told_of}
 use Rattle.mt_legal.proofs.Going.{behind_line, run_line}

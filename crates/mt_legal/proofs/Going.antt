@@ -3,11 +3,11 @@ use Rattle.std.proofs.Common.{◌≡◌, ◌∙◌, refl, ap, Bool, true, false,
 use Rattle.mt_model.specs.declared.texts.config.SessionRow.{SessionRow}
 use Rattle.mt_model.specs.declared.texts.recording.Event.{Event}
 use Rattle.mt_model.specs.declared.texts.recording.Event.TheVariants as events
-use Rattle.mt_worker.specs.mt_machine.Environment.{Environment}
-use Rattle.mt_worker.specs.mt_runs.Course.{Going, behind_course, changes_what_lasts, course, course_of_line, goes, going_on, stepped}
-use Rattle.mt_worker.specs.mt_runs.Lines.{is_stop, next, sent}
-use Rattle.mt_worker.specs.mt_runs.Messages as runs
-use Rattle.mt_worker.specs.mt_runs.Whole.{Whole}
+use Rattle.mt_shares.specs.mt_machine.Environment.{Environment}
+use Rattle.mt_shares.specs.mt_runs.Course.{Going, behind_course, changes_what_lasts, course, course_of_line, goes, going_on, stepped}
+use Rattle.mt_shares.specs.mt_runs.Lines.{is_stop, next, sent}
+use Rattle.mt_shares.specs.mt_runs.Messages as runs
+use Rattle.mt_shares.specs.mt_runs.Whole.{Whole}
 
 goes_on : (changes : Bool) → course_of_line changes None ≡ goes None
 goes_on true = refl

@@ -3,16 +3,16 @@ use Rattle.std.proofs.Common.{◌≡◌, ◌≢◌, ◌∙◌, sym, subst, inl, 
 use Rattle.std.proofs.lemmas.Bool.{cases_Bool, eqb-true}
 use Rattle.mt_model.specs.declared.texts.config.SessionRow.{SessionRow}
 use Rattle.mt_talk.specs.Talks.{Talk}
-use Rattle.mt_worker.specs.mt_runs.Isolation.{IsValidWhole}
-use Rattle.mt_worker.specs.mt_runs.Whole.{SessionTalk, Whole}
-use Rattle.mt_worker.specs.mt_interactions.Configured.{ConfiguredInteractions}
-use Rattle.mt_worker.specs.mt_layer.Agreeing.{Serves}
-use Rattle.mt_worker.specs.mt_layer.Lines.{whole_of}
+use Rattle.mt_shares.specs.mt_runs.Isolation.{IsValidWhole}
+use Rattle.mt_shares.specs.mt_runs.Whole.{SessionTalk, Whole}
+use Rattle.mt_shares.specs.mt_interactions.Configured.{ConfiguredInteractions}
+use Rattle.mt_shares.specs.mt_layer.Agreeing.{Serves}
+use Rattle.mt_shares.specs.mt_layer.Lines.{whole_of}
 use Rattle.mt_subscribers.specs.Over.{IsOver}
-use Rattle.mt_worker.specs.Accounts.{Account, Accounts, account_behind, behind}
-use Rattle.mt_worker.specs.Due.{is_in}
-use Rattle.mt_worker.specs.Gots.{Each, Got}
-use Rattle.mt_worker.specs.declared.seat.Subscription.{Subscription}
+use Rattle.mt_shares.specs.mt_worker.Accounts.{Account, Accounts, account_behind, behind}
+use Rattle.mt_shares.specs.mt_worker.Due.{is_in}
+use Rattle.mt_shares.specs.mt_worker.Gots.{Each, Got}
+use Rattle.mt_shares.specs.mt_worker.Subscription.{Subscription}
 use Rattle.mt_legal.proofs.Told.{IsTold, told_on}
 
 -- The account of this session: its talk serves, and its subscriptions are told over the session.

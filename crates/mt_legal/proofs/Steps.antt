@@ -11,28 +11,28 @@ use Rattle.mt_opcreds.specs.Laws.{KeepsRules}
 use Rattle.mt_outside.specs.declared.network.Peer.{Peer}
 use Rattle.mt_talk.specs.Hearing.{Said, answers, asks, confirms, ends, nothing}
 use Rattle.mt_talk.specs.Talks.{Talk}
-use Rattle.mt_worker.specs.mt_runs.Datagrams.{session_named}
-use Rattle.mt_worker.specs.mt_runs.LineLaws.{WholeStaysValid}
-use Rattle.mt_worker.specs.mt_runs.Lines as lines
-use Rattle.mt_worker.specs.mt_runs.Lines.{is_stop}
-use Rattle.mt_worker.specs.mt_runs.Isolation.{IsValidWhole}
-use Rattle.mt_worker.specs.mt_runs.Whole.{SessionTalk, Whole}
-use Rattle.mt_worker.specs.mt_interactions.Configured.{ConfiguredInteractions}
-use Rattle.mt_worker.specs.mt_interactions.Deed.{Deed}
-use Rattle.mt_worker.specs.mt_interactions.TheVariants as deeds
-use Rattle.mt_worker.specs.mt_shared.Replay.{answer_to, behind_deed, given_in}
-use Rattle.mt_worker.specs.mt_shared.Answer.{Answer}
-use Rattle.mt_worker.specs.mt_shared.Call.{Call}
-use Rattle.mt_worker.specs.mt_layer.Deeds.{deed_again, deed_ended, deed_asked, deed_heard, deed_said, said_as_live}
-use Rattle.mt_worker.specs.mt_layer.Laws.{DatagramsAreLines, ReportsAreLines, ResendsAreLines, TicksAreLines}
-use Rattle.mt_worker.specs.mt_layer.Lines.{IsLine, IsNobodysLine, next_with, whole_of}
+use Rattle.mt_shares.specs.mt_runs.Datagrams.{session_named}
+use Rattle.mt_shares.specs.mt_runs.LineLaws.{WholeStaysValid}
+use Rattle.mt_shares.specs.mt_runs.Lines as lines
+use Rattle.mt_shares.specs.mt_runs.Lines.{is_stop}
+use Rattle.mt_shares.specs.mt_runs.Isolation.{IsValidWhole}
+use Rattle.mt_shares.specs.mt_runs.Whole.{SessionTalk, Whole}
+use Rattle.mt_shares.specs.mt_interactions.Configured.{ConfiguredInteractions}
+use Rattle.mt_shares.specs.mt_interactions.Deed.{Deed}
+use Rattle.mt_shares.specs.mt_interactions.TheVariants as deeds
+use Rattle.mt_shares.specs.mt_shared.Replay.{answer_to, behind_deed, given_in}
+use Rattle.mt_shares.specs.mt_shared.Answer.{Answer}
+use Rattle.mt_shares.specs.mt_shared.Call.{Call}
+use Rattle.mt_shares.specs.mt_layer.Deeds.{deed_again, deed_ended, deed_asked, deed_heard, deed_said, said_as_live}
+use Rattle.mt_shares.specs.mt_layer.Laws.{DatagramsAreLines, ReportsAreLines, ResendsAreLines, TicksAreLines}
+use Rattle.mt_shares.specs.mt_layer.Lines.{IsLine, IsNobodysLine, next_with, whole_of}
 use Rattle.mt_subscribers.specs.Laws.{SubscriptionsAreGained, SubscriptionsStay}
 use Rattle.mt_subscribers.specs.Over.{IsDoneOver, IsOver}
-use Rattle.mt_worker.specs.Accounts.{Account, Accounts, behind, ends_of, sent_by, sent_in, standing_behind, talk_in}
-use Rattle.mt_worker.specs.Due.{call_again, call_heard, call_report, call_tick, is_in}
-use Rattle.mt_worker.specs.Gots.{Each, Got}
-use Rattle.mt_worker.specs.Made.{Makes, subscription_named}
-use Rattle.mt_worker.specs.declared.seat.Subscription.{Subscription}
+use Rattle.mt_shares.specs.mt_worker.Accounts.{Account, Accounts, behind, ends_of, sent_by, sent_in, standing_behind, talk_in}
+use Rattle.mt_shares.specs.mt_worker.Due.{call_again, call_heard, call_report, call_tick, is_in}
+use Rattle.mt_shares.specs.mt_worker.Gots.{Each, Got}
+use Rattle.mt_shares.specs.mt_worker.Made.{Makes, subscription_named}
+use Rattle.mt_shares.specs.mt_worker.Subscription.{Subscription}
 use Rattle.mt_legal.specs.Lines.{IsLine as IsEntry}
 use Rattle.mt_legal.proofs.Standing.{Stands, StandsFor, all_stand, one_stands, stands_anew, unmoved}
 use Rattle.mt_legal.proofs.Told.{IsTold, each_there, told_heard, told_on, told_still}

@@ -8,9 +8,9 @@ use Rattle.mt_model.specs.declared.messages.message.Reply.{Reply}
 use Rattle.mt_model.specs.declared.messages.message.Reply.TheVariants as replies
 use Rattle.mt_subs.specs.declared.subscription.SubState.{SubState}
 use Rattle.mt_subscribers.specs.Over.{IsOver}
-use Rattle.mt_worker.specs.Accounts.{gained, gained_by, stands_unless, still_standing}
-use Rattle.mt_worker.specs.Gots.{Each}
-use Rattle.mt_worker.specs.declared.seat.Subscription.{Subscription}
+use Rattle.mt_shares.specs.mt_worker.Accounts.{gained, gained_by, stands_unless, still_standing}
+use Rattle.mt_shares.specs.mt_worker.Gots.{Each}
+use Rattle.mt_shares.specs.mt_worker.Subscription.{Subscription}
 
 -- WHAT HOLDS OF EACH of a list
 

@@ -1,17 +1,17 @@
 -- THE BOOK IS A RUN.
 use Rattle.std.specs.Prelude.{◌≡◌, ◌≤◌, List, map}
-use Rattle.mt_worker.specs.mt_interactions.Configured.{ConfiguredInteractions}
+use Rattle.mt_shares.specs.mt_interactions.Configured.{ConfiguredInteractions}
 use Rattle.mt_model.specs.declared.limits.TheConstants.{LAST_TIME}
 use Rattle.mt_opcreds.specs.Laws.{KeepsRules}
-use Rattle.mt_worker.specs.mt_runs.Course.{going_on}
-use Rattle.mt_worker.specs.mt_runs.Isolation.{IsValidWhole}
-use Rattle.mt_worker.specs.mt_runs.Messages as runs
-use Rattle.mt_worker.specs.mt_shared.Book.{lines_in}
-use Rattle.mt_worker.specs.mt_shared.Replay.{given_in, replay, told}
-use Rattle.mt_worker.specs.mt_shared.Entry.{Entry}
-use Rattle.mt_worker.specs.Accounts.{Accounts, all_sent}
-use Rattle.mt_worker.specs.Due.{HaveBegun}
-use Rattle.mt_worker.specs.Gots.{Each, Got}
+use Rattle.mt_shares.specs.mt_runs.Course.{going_on}
+use Rattle.mt_shares.specs.mt_runs.Isolation.{IsValidWhole}
+use Rattle.mt_shares.specs.mt_runs.Messages as runs
+use Rattle.mt_shares.specs.mt_shared.Book.{lines_in}
+use Rattle.mt_shares.specs.mt_shared.Replay.{given_in, replay, told}
+use Rattle.mt_shares.specs.mt_shared.Entry.{Entry}
+use Rattle.mt_shares.specs.mt_worker.Accounts.{Accounts, all_sent}
+use Rattle.mt_shares.specs.mt_worker.Due.{HaveBegun}
+use Rattle.mt_shares.specs.mt_worker.Gots.{Each, Got}
 use Rattle.mt_legal.specs.Lines.{AreLines, begun_whole, ids_of_boot, rows_of_boot, told_of}
 
 -- A node that was started and serves: its configuration's verdicts keep their rules, and its whole is valid.

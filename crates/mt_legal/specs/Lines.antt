@@ -1,13 +1,13 @@
 -- Of which lines a book consists, and the whole with which its run begins.
 use Rattle.std.specs.Prelude.{◌≡◌, ◌⊎◌, ℕ, true, List, [], ◌∷◌, filter, map, ⊤}
-use Rattle.mt_worker.specs.mt_interactions.Configured.{ConfiguredInteractions}
-use Rattle.mt_worker.specs.mt_layer.Lines.{whole_of}
+use Rattle.mt_shares.specs.mt_interactions.Configured.{ConfiguredInteractions}
+use Rattle.mt_shares.specs.mt_layer.Lines.{whole_of}
 use Rattle.mt_model.specs.declared.texts.config.SessionRow.{SessionRow}
-use Rattle.mt_worker.specs.mt_runs.Whole.{Whole, begun_in, is_of_boot}
-use Rattle.mt_worker.specs.Accounts.{Accounts, behind}
-use Rattle.mt_worker.specs.Due.{id_of, is_in}
-use Rattle.mt_worker.specs.Gots.{Got, Told}
-use Rattle.mt_worker.specs.Made.{IsMade, IsTick}
+use Rattle.mt_shares.specs.mt_runs.Whole.{Whole, begun_in, is_of_boot}
+use Rattle.mt_shares.specs.mt_worker.Accounts.{Accounts, behind}
+use Rattle.mt_shares.specs.mt_worker.Due.{id_of, is_in}
+use Rattle.mt_shares.specs.mt_worker.Gots.{Got, Told}
+use Rattle.mt_shares.specs.mt_worker.Made.{IsMade, IsTick}
 
 -- THE WHOLE WITH WHICH IT BEGINS: nothing has been said over the sessions of its boot.
 

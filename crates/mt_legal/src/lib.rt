@@ -4,11 +4,11 @@
 
 ghost use Rattle.mt_legal.specs.Laws.{BooksAreRuns, BooksEndAsRuns, LedgersEndAsRuns};
 
-use mt_subscribers::{subscriptions_are_gained, subscriptions_stay};
-use mt_worker::mt_layer::{
+use mt_shares::mt_layer::{
     begun_talks_serve, datagrams_are_lines, reports_are_lines, resends_are_lines, ticks_are_lines,
 };
-use mt_worker::mt_runs::wholes_are_valid;
+use mt_shares::mt_runs::wholes_are_valid;
+use mt_subscribers::{subscriptions_are_gained, subscriptions_stay};
 
 /// The written run sends over the lines of a book what the workers of its sessions send by the answers that the book tells, in its order;
 /// and it ends with the state and the ledger to which the book replays.

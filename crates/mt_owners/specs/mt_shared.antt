@@ -3,5 +3,6 @@ pub use Rattle.mt_worker.specs.mt_shared.Acts
 pub use Rattle.mt_worker.specs.mt_shared.Book
 pub use Rattle.mt_worker.specs.mt_shared.Replay
 pub use Rattle.mt_worker.specs.mt_shared.Shared
+pub use Rattle.mt_worker.specs.mt_shared.Call
 pub use Rattle.mt_worker.specs.mt_shared.Entry
 pub use Rattle.mt_worker.specs.mt_shared.Stop

@@ -6,13 +6,13 @@ use Rattle.mt_outside.specs.declared.network.Arrival.TheVariants.{Datagram, Quie
 use Rattle.mt_outside.specs.declared.network.Peer.{Peer}
 use Rattle.mt_queue.specs.declared.job.Job.{Job}
 use Rattle.mt_queue.specs.declared.job.Job.TheVariants.{End, Take, Wake}
-use Rattle.mt_receiver.specs.Rounds.{datagram_count, is_for, jobs_for, take_jobs, take_named, wake_count, wake_jobs, wakes, woken_behind}
-use Rattle.mt_worker.specs.mt_runs.Datagrams.{session_named}
-use Rattle.mt_worker.specs.mt_shared.Call.{Call}
-use Rattle.mt_worker.specs.Accounts.{Account, account_behind, account_over}
-use Rattle.mt_worker.specs.Due.{Hears, IsNone, IsOf, Reports, Then, TicksAll, Wakes, call_heard, call_tick, last_three}
-use Rattle.mt_worker.specs.Gots.{Got}
-use Rattle.mt_worker.specs.declared.seat.Subscription.{Subscription}
+use Rattle.mt_owners.specs.mt_receiver.Rounds.{datagram_count, is_for, jobs_for, take_jobs, take_named, wake_count, wake_jobs, wakes, woken_behind}
+use Rattle.mt_owners.specs.mt_runs.Datagrams.{session_named}
+use Rattle.mt_owners.specs.mt_shared.Call.{Call}
+use Rattle.mt_owners.specs.mt_worker.Accounts.{Account, account_behind, account_over}
+use Rattle.mt_owners.specs.mt_worker.Due.{Hears, IsNone, IsOf, Reports, Then, TicksAll, Wakes, call_heard, call_tick, last_three}
+use Rattle.mt_owners.specs.mt_worker.Gots.{Got}
+use Rattle.mt_owners.specs.mt_worker.Subscription.{Subscription}
 use Rattle.mt_rounds.specs.Following.{Answers, HearsIf, WakesIf, names_it}
 use Rattle.mt_rounds.specs.Laws.{LinesAreFew, TicksAreWakes}
 use Rattle.mt_rounds.proofs.Parts.{TicksBoth, both_none, in_rounds, ticks_both, ticks_one}

@@ -5,11 +5,11 @@ use Rattle.mt_outside.specs.Network.{time_of}
 use Rattle.mt_outside.specs.declared.network.Arrival.{Arrival}
 use Rattle.mt_outside.specs.declared.network.Arrival.TheVariants.{Datagram, Quiet}
 use Rattle.mt_queue.specs.declared.job.Job.TheVariants.{End}
-use Rattle.mt_receiver.specs.Rounds.{jobs_for, take_jobs, wakes, woken_behind}
-use Rattle.mt_worker.specs.mt_runs.Datagrams.{session_named}
-use Rattle.mt_worker.specs.Accounts.{Account, Accounts, account_over, all_behind}
-use Rattle.mt_worker.specs.Due.{AreRising, DoesAll, Sweeps, is_in}
-use Rattle.mt_worker.specs.Gots.{Got}
+use Rattle.mt_owners.specs.mt_receiver.Rounds.{jobs_for, take_jobs, wakes, woken_behind}
+use Rattle.mt_owners.specs.mt_runs.Datagrams.{session_named}
+use Rattle.mt_owners.specs.mt_worker.Accounts.{Account, Accounts, account_over, all_behind}
+use Rattle.mt_owners.specs.mt_worker.Due.{AreRising, DoesAll, Sweeps, is_in}
+use Rattle.mt_owners.specs.mt_worker.Gots.{Got}
 use Rattle.mt_rounds.specs.Following.{Answers, Follows, HearsIf, WakesIf}
 use Rattle.mt_rounds.specs.Laws.{AreOfWorker, AreTheirOwn, SessionsFollow, is_over}
 use Rattle.mt_rounds.proofs.Over.{account_both, account_of, own_all}

@@ -4,14 +4,14 @@ use mathlib.Core.Logic.{dite}
 use native.Mathlib.Decide.{ℕ_discrete}
 use Rattle.std.proofs.lemmas.List.Elements.{filter-append}
 use Rattle.mt_outside.specs.declared.network.Peer.{Peer}
-use Rattle.mt_worker.specs.mt_shared.Replay.{unless_stopped}
-use Rattle.mt_worker.specs.mt_shared.Call.{Call}
-use Rattle.mt_worker.specs.mt_shared.Stop.{Stop}
-use Rattle.mt_worker.specs.Accounts.{Account, Accounts, account_behind, account_over, all_behind, behind}
-use Rattle.mt_worker.specs.Due.{Hears, IsNone, IsOf, Reports, Then, Wakes, call_heard, last_three}
-use Rattle.mt_worker.specs.Gots.{Got, Told}
-use Rattle.mt_worker.specs.Works.{AreOverOne}
-use Rattle.mt_worker.specs.declared.seat.Subscription.{Subscription}
+use Rattle.mt_owners.specs.mt_shared.Replay.{unless_stopped}
+use Rattle.mt_owners.specs.mt_shared.Call.{Call}
+use Rattle.mt_owners.specs.mt_shared.Stop.{Stop}
+use Rattle.mt_owners.specs.mt_worker.Accounts.{Account, Accounts, account_behind, account_over, all_behind, behind}
+use Rattle.mt_owners.specs.mt_worker.Due.{Hears, IsNone, IsOf, Reports, Then, Wakes, call_heard, last_three}
+use Rattle.mt_owners.specs.mt_worker.Gots.{Got, Told}
+use Rattle.mt_owners.specs.mt_worker.Works.{AreOverOne}
+use Rattle.mt_owners.specs.mt_worker.Subscription.{Subscription}
 use Rattle.mt_rounds.specs.Laws.{AreTheirOwn, is_over}
 
 -- THOSE OVER ONE SESSION: all of what is over it, and none of what is over another.

@@ -4,11 +4,11 @@ use Rattle.mt_outside.specs.declared.network.Arrival.{Arrival}
 use Rattle.mt_outside.specs.declared.network.Peer.{Peer}
 use Rattle.mt_queue.specs.declared.job.Job.{Job}
 use Rattle.mt_queue.specs.declared.job.Job.TheVariants.{Take, Wake}
-use Rattle.mt_receiver.specs.Rounds.{is_for, jobs_for, take_jobs, take_named, wake_jobs, woken_behind}
-use Rattle.mt_worker.specs.mt_runs.Datagrams.{session_named}
-use Rattle.mt_worker.specs.Accounts.{Accounts, all_behind}
-use Rattle.mt_worker.specs.Due.{Does, DoesAll, Hears, Sweeps, Takes, Ticks, TicksAll, is_in}
-use Rattle.mt_worker.specs.Gots.{Got}
+use Rattle.mt_owners.specs.mt_receiver.Rounds.{is_for, jobs_for, take_jobs, take_named, wake_jobs, woken_behind}
+use Rattle.mt_owners.specs.mt_runs.Datagrams.{session_named}
+use Rattle.mt_owners.specs.mt_worker.Accounts.{Accounts, all_behind}
+use Rattle.mt_owners.specs.mt_worker.Due.{Does, DoesAll, Hears, Sweeps, Takes, Ticks, TicksAll, is_in}
+use Rattle.mt_owners.specs.mt_worker.Gots.{Got}
 use Rattle.mt_rounds.specs.Laws.{AreOfWorker}
 use Rattle.mt_rounds.proofs.Over.{accounts_both}
 

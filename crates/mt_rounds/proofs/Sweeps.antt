@@ -3,10 +3,10 @@ use Rattle.std.proofs.Common.{◌≡◌, ◌≢◌, ◌∙◌, refl, sym, ap, su
 use mathlib.Core.Logic.{dite}
 use native.Mathlib.Decide.{ℕ_discrete}
 use Rattle.mt_outside.specs.declared.network.Peer.{Peer}
-use Rattle.mt_worker.specs.Accounts.{Account, Accounts, account_over, all_behind}
-use Rattle.mt_worker.specs.Due.{AreRising, Hears, Sweeps, Takes, Wakes, is_in}
-use Rattle.mt_worker.specs.Gots.{Each, Got}
-use Rattle.mt_worker.specs.Works.{AreOverOne}
+use Rattle.mt_owners.specs.mt_worker.Accounts.{Account, Accounts, account_over, all_behind}
+use Rattle.mt_owners.specs.mt_worker.Due.{AreRising, Hears, Sweeps, Takes, Wakes, is_in}
+use Rattle.mt_owners.specs.mt_worker.Gots.{Each, Got}
+use Rattle.mt_owners.specs.mt_worker.Works.{AreOverOne}
 use Rattle.mt_rounds.specs.Following.{names_it}
 use Rattle.mt_rounds.specs.Laws.{AreTheirOwn, is_over}
 use Rattle.mt_rounds.proofs.Over.{account_of, all_over, both_over, hears_its, none_over, own_all, wakes_its}

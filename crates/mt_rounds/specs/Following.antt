@@ -3,11 +3,11 @@ use Rattle.std.specs.Prelude.{◌≡◌, ℕ, ◌==◌, Bool, true, false, Match
 use Rattle.mt_outside.specs.Network.{time_of}
 use Rattle.mt_outside.specs.declared.network.Arrival.{Arrival}
 use Rattle.mt_outside.specs.declared.network.Arrival.TheVariants.{Datagram, Quiet}
-use Rattle.mt_receiver.specs.Rounds.{wakes, woken_behind}
-use Rattle.mt_worker.specs.mt_runs.Datagrams.{session_named}
-use Rattle.mt_worker.specs.Accounts.{Account, account_over}
-use Rattle.mt_worker.specs.Due.{Hears, Wakes}
-use Rattle.mt_worker.specs.Gots.{Got}
+use Rattle.mt_owners.specs.mt_receiver.Rounds.{wakes, woken_behind}
+use Rattle.mt_owners.specs.mt_runs.Datagrams.{session_named}
+use Rattle.mt_owners.specs.mt_worker.Accounts.{Account, account_over}
+use Rattle.mt_owners.specs.mt_worker.Due.{Hears, Wakes}
+use Rattle.mt_owners.specs.mt_worker.Gots.{Got}
 
 -- At a wake a session's lines are a resend step, and then a report step to each of the last three subscriptions that stand behind it.
 abbrev pub WakesIf : Bool → Account → ℕ → List Got → Type 0

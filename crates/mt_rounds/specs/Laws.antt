@@ -2,10 +2,10 @@
 use Rattle.std.specs.Prelude.{◌≡◌, ◌≤◌, ◌+◌, ◌*◌, ◌==◌, ℕ, Bool, true, List, [], ◌∷◌, ◌++◌, filter, length}
 use Rattle.mt_outside.specs.declared.network.Arrival.{Arrival}
 use Rattle.mt_queue.specs.declared.job.Job.TheVariants.{End}
-use Rattle.mt_receiver.specs.Rounds.{datagram_count, is_for, jobs_for, wake_count}
-use Rattle.mt_worker.specs.Accounts.{Account, Accounts}
-use Rattle.mt_worker.specs.Due.{AreRising, DoesAll, TicksAll, is_in}
-use Rattle.mt_worker.specs.Gots.{Got}
+use Rattle.mt_owners.specs.mt_receiver.Rounds.{datagram_count, is_for, jobs_for, wake_count}
+use Rattle.mt_owners.specs.mt_worker.Accounts.{Account, Accounts}
+use Rattle.mt_owners.specs.mt_worker.Due.{AreRising, DoesAll, TicksAll, is_in}
+use Rattle.mt_owners.specs.mt_worker.Gots.{Got}
 use Rattle.mt_rounds.specs.Following.{Follows}
 
 -- the session over which it was made

@@ -1,3 +1,9 @@
 pub mod Laws
 pub mod Merging
 pub mod Threads
+pub mod mt_interactions
+pub mod mt_layer
+pub mod mt_machine
+pub mod mt_runs
+pub mod mt_shared
+pub mod mt_worker

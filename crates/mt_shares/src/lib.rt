@@ -26,3 +26,5 @@ pub fn merged_calls_are_made()
 pub fn workers_send_their_own()
     ensures { WorkersSendTheirOwn }
 {}
+
+pub use mt_worker::{mt_layer, mt_runs};

@@ -1,0 +1,7 @@
+-- What this crate passes on of mt_shared to those above it.
+pub use Rattle.mt_worker.specs.mt_shared.Book
+pub use Rattle.mt_worker.specs.mt_shared.Replay
+pub use Rattle.mt_worker.specs.mt_shared.Answer
+pub use Rattle.mt_worker.specs.mt_shared.Call
+pub use Rattle.mt_worker.specs.mt_shared.Entry
+pub use Rattle.mt_worker.specs.mt_shared.Stop

@@ -1,0 +1,6 @@
+-- What this crate passes on of mt_worker to those above it.
+pub use Rattle.mt_worker.specs.Accounts
+pub use Rattle.mt_worker.specs.Due
+pub use Rattle.mt_worker.specs.Gots
+pub use Rattle.mt_worker.specs.Made
+pub use Rattle.mt_worker.specs.declared.seat.Subscription
