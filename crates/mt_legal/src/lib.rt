@@ -4,6 +4,7 @@
 
 ghost use Rattle.mt_legal.specs.Laws.{BooksAreRuns, BooksEndAsRuns, LedgersEndAsRuns};
 
+pub use mt_shares;
 use mt_shares::mt_layer::{
     begun_talks_serve, datagrams_are_lines, reports_are_lines, resends_are_lines, ticks_are_lines,
 };

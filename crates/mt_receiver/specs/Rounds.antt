@@ -7,7 +7,7 @@ use Rattle.mt_outside.specs.declared.network.Arrival.TheVariants.{Datagram, Quie
 use Rattle.mt_outside.specs.declared.network.Peer.{Peer}
 use Rattle.mt_queue.specs.declared.job.Job.{Job}
 use Rattle.mt_queue.specs.declared.job.Job.TheVariants.{Take, Wake}
-use Rattle.mt_whole.specs.mt_runs.Datagrams.{session_named}
+use Rattle.mt_talk.specs.Naming.{session_named}
 
 -- WAKES. An answer whose time has more whole seconds than that of every earlier one brings a wake, and so does the first. The seconds count
 -- from 1, and 0 stands before all answers.

@@ -10,8 +10,8 @@ ghost use Rattle.mt_receiver.specs.Rounds.{take_jobs, take_named, wake_jobs, wok
 
 use mt_outside::Peer;
 use mt_queue::{Job, JobSender};
+use mt_talk::session_named;
 use mt_tlv::Bytes;
-use mt_whole::session_named;
 use std::alloc::{AllocError, Global};
 use std::sync::Wait;
 

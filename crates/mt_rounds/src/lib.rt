@@ -3,6 +3,8 @@
 
 ghost use Rattle.mt_rounds.specs.Laws.{LinesAreFew, SessionsFollow, TicksAreWakes};
 
+pub use mt_owners;
+
 /// Where a worker did what the jobs ask that the answers give it, the lines of each of its sessions follow the answers.
 pub fn sessions_follow()
     ensures { SessionsFollow }

@@ -1,8 +1,5 @@
 -- What a datagram comes to, and what is sent again.
-use Rattle.std.specs.Prelude.{ℕ, List, [], ◌∷◌, Option, Some, None, Result, Ok, Err, length, map, nat_le, replicate, if◌then◌else◌}
-use Rattle.mt_frame.specs.Reading.{message_at}
-use Rattle.mt_frame.specs.declared.fault.FrameFault.{FrameFault}
-use Rattle.mt_frame.specs.declared.header.MessageHeader.{MessageHeader}
+use Rattle.std.specs.Prelude.{ℕ, List, [], ◌∷◌, Option, Some, None, Result, Ok, Err, map, replicate, if◌then◌else◌}
 use Rattle.mt_im.specs.Reading.{request_in}
 use Rattle.mt_im.specs.declared.fault.ImFault.{ImFault}
 use Rattle.mt_im_out.specs.Chunks.{chunks_of}
@@ -22,6 +19,7 @@ use Rattle.mt_exchange.specs.declared.exchange.Key.{Key}
 use Rattle.mt_talk.specs.Hearing.{Said, after_datagram, answers, asks, confirms, ends, nothing, said}
 use Rattle.mt_subs.specs.Subscriptions.{kept_at}
 use Rattle.mt_subs.specs.declared.subscription.SubState.{SubState}
+pub use Rattle.mt_talk.specs.Naming.{session_in, session_named}
 use Rattle.mt_talk.specs.Talks.{Talk, after_answer, after_resend, answer_in, ended_in, resent_in, sent_by}
 use Rattle.mt_machine.specs.Environment.{Environment}
 use Rattle.mt_machine.specs.Lines.{action_of, fault_reply, later_by}
@@ -32,15 +30,6 @@ use Rattle.mt_ledger.specs.Behind as doings
 use Rattle.mt_ledger.specs.Ledger.{Ledger}
 use Rattle.mt_ledger.specs.Subscribing.{confirm_reply}
 use Rattle.mt_runs.specs.Whole.{SessionTalk, fabric_over, is_live}
-
--- Which session a datagram names in its message header. What has more than 65,535 bytes is no datagram, and names none.
-
-abbrev pub session_in : Result (MessageHeader × ℕ) FrameFault → Option ℕ
-session_in (Ok x) = Some x.0.session
-session_in (Err fault) = None
-
-abbrev pub session_named : List ℕ → Option ℕ
-session_named bytes = if nat_le (length bytes) 65535 then session_in (message_at bytes) else None
 
 -- What it says to the node, and the talk behind it.
 

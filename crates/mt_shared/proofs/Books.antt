@@ -1,11 +1,17 @@
 -- A book that is one entry longer: what it replays to, what is told there, its times and its stop.
 use Rattle.std.proofs.Common.{◌≡◌, ◌∙◌, refl, sym, ap, subst, ℕ, ◌+◌, max, Bool, true, false, cond, true≢false, List, [], ◌∷◌, ◌++◌, length, Option, Some, None, slice_get, arith, eq-eqb, length-append}
-use Rattle.std.specs.Prelude.{◌==◌, is_some}
+use Rattle.std.proofs.lemmas.Bool.{and_from, and_parts, le-leb, leb-true}
+use Rattle.std.specs.Prelude.{◌==◌, ◌≤◌, is_some, nat_le, unwrap_or}
+use Rattle.mt_files.specs.Form.{HasForm}
+use Rattle.mt_model.specs.declared.limits.TheConstants.{LAST_TIME}
+use Rattle.mt_model.specs.declared.texts.recording.Event.{Event}
+use Rattle.mt_model.specs.declared.texts.recording.Event.TheVariants as events
+use Rattle.mt_model.specs.texts.Events.{event_time}
 use Rattle.mt_outside.specs.Stream.{one_more}
 use Rattle.mt_interactions.specs.mt_machine.State.{State}
 use Rattle.mt_interactions.specs.mt_ledger.Ledger.{Ledger}
 use Rattle.mt_interactions.specs.Configured.{ConfiguredInteractions, behind}
-use Rattle.mt_shared.specs.Book.{asked, done, failed, first_of, is_timed, last_time, stop_in}
+use Rattle.mt_shared.specs.Book.{are_in_time, asked, done, failed, first_of, is_timed, last_time, stop_in}
 use Rattle.mt_shared.specs.Replay.{answer_at, next, replay, told}
 use Rattle.mt_shared.specs.declared.entry.Answer.{Answer}
 use Rattle.mt_shared.specs.declared.entry.Call.{Call}
@@ -30,6 +36,39 @@ timed_push before (e ∷ book) entry timed is =
     let Goal : Bool → Type 0 = λ b. cond b (is_timed e.ms book) false ≡ true → cond b (is_timed e.ms (book ++ entry ∷ [])) false ≡ true in
     let both : (b : Bool) → Goal b = elim [ true ↦ λ h. timed_push e.ms book entry h is | false ↦ λ h. h ] in
     both (e.ms == max (asked e.call) before) timed
+
+-- TIMES THAT A RECORDING CAN HAVE.
+
+-- the time that a caller told is one
+asked_in_time : (call : Call) → HasForm call.event → asked call ≤ LAST_TIME
+asked_in_time call form = by_event call.event form
+where
+  by_event : (event : Event) → HasForm event → unwrap_or (event_time event) 0 ≤ LAST_TIME
+  by_event (events.Ask ms fabric node cats opcode payload) form = form.time
+  by_event (events.Datagram ms from bytes) form = form.0
+  by_event (events.Tick ms) form = form
+  by_event (events.Report ms fabric subscription) form = form.0
+  by_event (events.Resend ms session) form = form.0
+  by_event (events.Stop calls fate) form = omega arith
+
+last_in_time : (before : ℕ) (book : List Entry) → before ≤ LAST_TIME → are_in_time book ≡ true → last_time before book ≤ LAST_TIME
+last_in_time before [] low are = low
+last_in_time before (e ∷ book) low are =
+    let both = and_parts (nat_le e.ms LAST_TIME) (are_in_time book) are in
+    last_in_time e.ms book (leb-true e.ms LAST_TIME both.0) both.1
+
+in_time_push : (book : List Entry) (entry : Entry) → are_in_time book ≡ true → entry.ms ≤ LAST_TIME → are_in_time (book ++ entry ∷ []) ≡ true
+in_time_push [] entry are low = and_from (nat_le entry.ms LAST_TIME) true (le-leb entry.ms LAST_TIME low) refl
+in_time_push (e ∷ book) entry are low =
+    let both = and_parts (nat_le e.ms LAST_TIME) (are_in_time book) are in
+    and_from (nat_le e.ms LAST_TIME) (are_in_time (book ++ entry ∷ [])) both.0 (in_time_push book entry both.1 low)
+
+pub still_in_time : (book longer : List Entry) (entry : Entry) → are_in_time book ≡ true → longer ≡ book ++ entry ∷ [] → HasForm entry.call.event → entry.ms ≡ max (asked entry.call) (last_time 0 book) → are_in_time longer ≡ true
+still_in_time book longer entry are is form time =
+    let low : asked entry.call ≤ LAST_TIME = asked_in_time entry.call form in
+    let last : last_time 0 book ≤ LAST_TIME = last_in_time 0 book (omega arith) are in
+    let fits : entry.ms ≤ LAST_TIME = omega arith in
+    ap are_in_time is ∙ in_time_push book entry are fits
 
 -- A deed that was done makes no stop.
 pub stop_in-done : (book : List Entry) (call : Call) (ms : ℕ) → stop_in (book ++ done call ms ∷ []) ≡ stop_in book

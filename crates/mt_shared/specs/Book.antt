@@ -1,8 +1,9 @@
 -- The entries of a book, their times, the stop that ends it, and the recording of its lines.
 use Rattle.std.specs.Prelude.{ℕ, ◌==◌, ◌||◌, nat_le, nat_lt, Bool, true, false, cond, List, [], ◌∷◌, ◌++◌, Option, Some, None, length, max, unwrap_or}
+use Rattle.std.specs.List.{list_all}
 use Rattle.mt_files.specs.Event.{at_time}
 use Rattle.mt_files.specs.Recording.{recording_text}
-use Rattle.mt_model.specs.declared.limits.TheConstants.{RECORDING_BYTES, RECORDING_LINES}
+use Rattle.mt_model.specs.declared.limits.TheConstants.{LAST_TIME, RECORDING_BYTES, RECORDING_LINES}
 use Rattle.mt_model.specs.declared.texts.recording.Event.{Event}
 use Rattle.mt_model.specs.texts.Events.{event_time}
 use Rattle.mt_shared.specs.declared.entry.Call.{Call}
@@ -46,6 +47,10 @@ time_for book call = max (asked call) (last_time 0 book)
 abbrev pub is_timed : ℕ → List Entry → Bool
 is_timed before [] = true
 is_timed before (entry ∷ entries) = cond (entry.ms == max (asked entry.call) before) (is_timed entry.ms entries) false
+
+-- Each entry was made at a time that a recording can have.
+abbrev pub are_in_time : List Entry → Bool
+are_in_time book = list_all (λ (entry : Entry). nat_le entry.ms LAST_TIME) book
 
 -- THE RECORDING. An entry is the line that was asked, at the time at which it was done. A stop is no line.
 

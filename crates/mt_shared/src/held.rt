@@ -10,7 +10,7 @@ ghost use Rattle.mt_model.specs.declared.limits.TheConstants.{RECORDING_BYTES};
 ghost use Rattle.mt_outside.specs.Stream.{one_more};
 ghost use Rattle.mt_interactions.specs.Deeds.{IsWithin};
 ghost use Rattle.mt_shared.specs.Acts.{AdmitsStates, HasEither, HasOneOf, HasVerdicts, IsEntered, Refuses};
-ghost use Rattle.mt_shared.specs.Book.{done, is_full, is_timed, last_time, lines_in, record_size, stop_in, time_for};
+ghost use Rattle.mt_shared.specs.Book.{are_in_time, done, is_full, is_timed, last_time, lines_in, record_size, stop_in, time_for};
 ghost use Rattle.mt_shared.specs.Replay.{map_of, replay};
 ghost use Rattle.mt_shared.specs.declared.entry.Stop.{Stop as AnyStop};
 
@@ -47,6 +47,7 @@ pub struct Held<K: Keeper> {
     stop: Option<Stop>,
     pub ghost replays: { replay origin.value book.items ≡ node },
     pub ghost timed: { is_timed 0 book.items ≡ true },
+    pub ghost in_time: { are_in_time book.items ≡ true },
     pub ghost short: { record_size book.items ≤ RECORDING_BYTES },
     ghost bytes_are: { record_size book.items ≡ bytes },
     ghost last_is: { last_time 0 book.items ≡ last },

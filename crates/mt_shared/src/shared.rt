@@ -8,7 +8,7 @@ ghost use Rattle.mt_turn.specs.Counts.{how_often};
 ghost use Rattle.mt_turn.specs.History.{IsOutsideAgain};
 ghost use Rattle.mt_turn.specs.Known.{first_pass, joined, part_given, part_kept};
 ghost use Rattle.mt_shared.specs.Acts.{AdmitsStates, HasVerdicts, IsHalted};
-ghost use Rattle.mt_shared.specs.Book.{stop_in};
+ghost use Rattle.mt_shared.specs.Book.{are_in_time, is_timed, stop_in};
 ghost use Rattle.mt_shared.specs.Replay.{map_of, replay};
 ghost use Rattle.mt_shared.specs.declared.entry.Stop.{Stop as AnyStop};
 ghost use Rattle.mt_shared.specs.Shared.{IsAnswered, IsPassOf, IsRefused};
@@ -146,6 +146,8 @@ impl<K: Keeper + Drop + Send, V: Verdicts + Drop> SharedNode<K, V> {
         ensures once { (k : ℕ) → k < length pass.seen → how_often k pass.places ≡ 1 }
         ensures no_other { (k : ℕ) → length pass.seen ≤ k → how_often k pass.places ≡ 0 }
         ensures origin { result.origin.value ≡ self.origin }
+        ensures in_time { are_in_time pass.seen ≡ true }
+        ensures timed { is_timed 0 pass.seen ≡ true }
         ensures node { result.node ≡ replay self.origin pass.seen }
         ensures kept { stop_in pass.seen ≡ None → K.map result.keeper ≡ Some (map_of result.node) }
         ensures halted { (stop : AnyStop) → stop_in pass.seen ≡ Some stop → IsHalted stop result.node pass.seen (K.map result.keeper) }

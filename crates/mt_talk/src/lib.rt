@@ -4,6 +4,7 @@
 //! - `talk`: a talk, how it begins and how it is copied;
 //! - `hearing`: what a datagram says;
 //! - `saying`: what the node says, and says again;
+//! - `naming`: which session a datagram names;
 //! - `refusing`: what the session would refuse;
 //! - `telling`: what the node would say;
 //! - `laws`: what is shown of a talk tells the rest.
@@ -11,6 +12,7 @@
 
 mod hearing;
 mod laws;
+mod naming;
 mod refusing;
 mod saying;
 mod talk;
@@ -22,4 +24,5 @@ pub use mt_exchange::{
     Datagrams, EndTime, EndTimes, Ends, Exchange, Exchanges, Key, Outgoing, Owed,
 };
 pub use mt_session::SealFault;
+pub use naming::session_named;
 pub use talk::Talk;

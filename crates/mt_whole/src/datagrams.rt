@@ -16,12 +16,12 @@ use crate::resends::quiet;
 use crate::sending::one_sent;
 use crate::talks::{SessionTalk, talk_of};
 use crate::whole::Whole;
-use mt_frame::{ProtocolHeader, read_message};
+use mt_frame::ProtocolHeader;
 use mt_interactions::{InteractionOutcome, asked};
 use mt_model::{ExactCopy, Payloads, SentList, Verdicts};
 use mt_outside::Peer;
 use mt_session::Opened;
-use mt_talk::{Heard, Key, Talk};
+use mt_talk::{Heard, Key, Talk, session_named};
 use mt_tlv::Bytes;
 use std::alloc::{AllocError, Global};
 
@@ -51,21 +51,6 @@ pub(crate) fn planned_datagram<V: Verdicts>(
     match talk_of(&whole.talks, id) {
         Some(talk) => planned_heard(whole, ms, from, bytes, talk, verdicts),
         None => quiet(whole, ms, verdicts),
-    }
-}
-
-/// The session that a datagram names in its message header, None where it has none: then it is too short, no header of a unicast
-/// session, or has more than 65,535 bytes. It is not opened.
-pub fn session_named(bytes: &[u8]) -> Option<u16>
-    ensures exact { result ≡ session_named bytes.now }
-    ensures short { result ≢ None → length bytes.now < 2 ^ 16 }
-{
-    if bytes.len() > u16::MAX as usize {
-        return None;
-    }
-    match read_message(bytes) {
-        Ok((header, _)) => Some(header.session),
-        Err(_) => None,
     }
 }
 

@@ -26,11 +26,11 @@ mod standing;
 mod talks;
 mod whole;
 
-pub use datagrams::session_named;
 pub use laws::{closed_sessions_are_those_that_end, own_parts_are_standings_and_talks};
 pub use mt_interactions;
 pub use mt_interactions::{mt_lasting, mt_machine, mt_regained, mt_runs};
 pub use mt_marks;
 pub use mt_marks::{Descriptor, Descriptors, Mark, Recent};
+pub use mt_talk::session_named;
 pub use outcome::WholeOutcome;
 pub use whole::Whole;

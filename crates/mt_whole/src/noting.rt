@@ -17,14 +17,14 @@ ghost use Rattle.mt_whole.specs.Noting.{IsNoteOf, IsShownBehind, listed, sent_if
 ghost use Rattle.mt_whole.specs.Plan.{answer_as, given_to};
 ghost use Rattle.mt_whole.specs.Talks.{IsTalkAt, IsWholeOf};
 
-use crate::datagrams::{Answering, answered, session_named};
+use crate::datagrams::{Answering, answered};
 use crate::talks::{SessionTalk, talk_of};
 use crate::whole::Whole;
 use mt_marks::{Arrived, Note, Shown, ShownList};
 use mt_model::{Event, ExactCopy, Payloads, Verdicts};
 use mt_outside::Peer;
 use mt_session::Opened;
-use mt_talk::{Outgoing, Talk};
+use mt_talk::{Outgoing, Talk, session_named};
 use mt_tlv::Bytes;
 use std::alloc::{AllocError, Global};
 

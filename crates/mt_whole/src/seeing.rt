@@ -15,7 +15,6 @@ ghost use Rattle.mt_interactions.specs.mt_runs.Marks.{is_seen, seen};
 ghost use Rattle.mt_whole.specs.Seeing.{mark_of, own_standing};
 ghost use Rattle.mt_whole.specs.Talks.{IsWholeOf};
 
-use crate::datagrams::session_named;
 use crate::standing::are_standings_same;
 use crate::whole::Whole;
 use mt_interactions::Interactions;
@@ -24,6 +23,7 @@ use mt_marks::{
 };
 use mt_model::{Event, NodeSession, NodeState};
 use mt_subs::Subs;
+use mt_talk::session_named;
 use std::alloc::AllocError;
 
 impl Whole {

@@ -23,8 +23,8 @@ use mt_layer::mt_shared::{Call, NodePass, Stamped};
 use mt_model::{Event, Verdicts};
 use mt_outside::{Gate, Outlet, Peer};
 use mt_queue::Job;
+use mt_talk::session_named;
 use mt_tlv::Bytes;
-use mt_whole::session_named;
 use std::sync::Wait;
 
 /// How many subscriptions of a session are reported to in a wake.

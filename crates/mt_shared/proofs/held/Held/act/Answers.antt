@@ -10,7 +10,7 @@ use Rattle.mt_shared.specs.Replay.{answer_of, behind_deed, map_of}
 use Rattle.mt_shared.specs.declared.entry.Answer.{Answer}
 use Rattle.mt_shared.specs.declared.entry.Entry.{Entry}
 use Rattle.mt_shared.specs.declared.entry.Stop.{Stop}
-use Rattle.mt_shared.proofs.Books.{now_last, now_risen, now_stopped, still_replays, still_timed, stop_in-done, stop_in-failed, stop_there, told_there}
+use Rattle.mt_shared.proofs.Books.{now_last, now_risen, now_stopped, still_in_time, still_replays, still_timed, stop_in-done, stop_in-failed, stop_there, told_there}
 use Rattle.mt_shared.proofs.Planned.{behind_is, has_verdicts}
 use Rattle.mt_shared.proofs.Rooms.{size-failed, still_short}
 use Rattle.mt_shared.proofs.held.Held.act.Goals as goal
@@ -56,6 +56,7 @@ invariant_of-self-2 g c =
     record {
       replays = still_replays self.origin.value self.node _ self.book.items _ entry self.replays longer step;
       timed = still_timed self.book.items _ entry self.timed longer room.ms;
+      in_time = still_in_time self.book.items _ entry self.in_time longer c.requires.form room.ms;
       short = still_short self.book.items _ call ms longer room.ms room.room.0;
       bytes_are = ap record_size longer ∙ sym room.bytes;
       last_is = now_last self.book.items _ entry longer;
@@ -86,6 +87,7 @@ invariant_of-self-in_default-commit_if_any g c =
     record {
       replays = still_replays self.origin.value self.node _ self.book.items _ entry self.replays longer refl;
       timed = still_timed self.book.items _ entry self.timed longer room.ms;
+      in_time = still_in_time self.book.items _ entry self.in_time longer c.requires.form room.ms;
       short = subst (λ (n : ℕ). n ≤ RECORDING_BYTES) (sym size) self.short;
       bytes_are = size ∙ self.bytes_are;
       last_is = now_last self.book.items _ entry longer;

@@ -1,0 +1,5 @@
+-- What this crate passes on of mt_shared to those above it.
+pub use Rattle.mt_owners.specs.mt_shared.Book
+pub use Rattle.mt_owners.specs.mt_shared.Entry
+pub use Rattle.mt_owners.specs.mt_shared.Replay
+pub use Rattle.mt_owners.specs.mt_shared.Shared
