@@ -1,0 +1,4 @@
+pub mod Following
+pub mod Running
+pub mod Telling
+pub mod Threads
