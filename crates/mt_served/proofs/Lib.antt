@@ -1,0 +1,3 @@
+pub mod Begun
+pub mod Gathering
+pub mod Sharing
