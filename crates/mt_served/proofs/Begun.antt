@@ -1,6 +1,6 @@
 -- The accounts with which all begins: over each session of a boot nothing has been said.
 use Rattle.std.proofs.Common.{◌≡◌, ◌≢◌, ◌∙◌, refl, sym, ap, ℕ, Bool, true, false, List, [], ◌∷◌, eq-eqb, ne_eqb}
-use Rattle.std.specs.Prelude.{◌==◌, ◌&&◌, filter, if◌then◌else◌, nat_le, not, length, ⊤}
+use Rattle.std.specs.Prelude.{◌==◌, ◌&&◌, if◌then◌else◌, nat_le, not, length, ⊤}
 use Rattle.std.specs.List.{list_all, list_any}
 use Rattle.std.proofs.lemmas.Bool.{and_from, and_parts, eqb-true, not-true, or_parts, true≢false}
 use Rattle.mt_legal.specs.mt_shares.Threads.{HaveTheirIds}
@@ -9,7 +9,7 @@ use Rattle.mt_model.specs.declared.tables.access.Auth.TheVariants.{Pase}
 use Rattle.mt_model.specs.declared.texts.config.SessionRow.{SessionRow}
 use Rattle.mt_model.specs.texts.Config.{are_sessions, have_one_session, is_session, none_alike}
 use Rattle.mt_rounds.specs.mt_owners.Rows.{rows_in}
-use Rattle.mt_rounds.specs.mt_worker.Accounts.{Account, Accounts, begun_account}
+use Rattle.mt_rounds.specs.mt_worker.Accounts.{Accounts, begun_account}
 use Rattle.mt_rounds.specs.mt_worker.Due.{HaveBegun}
 use Rattle.mt_rounds.specs.mt_worker.Gots.{Each}
 

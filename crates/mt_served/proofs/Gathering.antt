@@ -1,5 +1,5 @@
 -- What all threads got: the work of each, with these accounts as all began, and the lists of what they got, each at the number of its thread.
-use Rattle.std.proofs.Common.{◌≡◌, ◌∙◌, refl, sym, ap, subst, inl, inr, ℕ, zero, suc, ◌+◌, ◌<◌, ◌⊎◌, ⊎_elim, arith, length, length-append, List, [], ◌∷◌, ◌++◌, Option, get_or, map}
+use Rattle.std.proofs.Common.{◌≡◌, ◌∙◌, refl, sym, ap, subst, inl, inr, ℕ, zero, suc, ◌+◌, ◌<◌, ◌≤◌, ◌⊎◌, arith, length, length-append, List, [], ◌∷◌, ◌++◌, Option, get_or, map}
 use Rattle.std.specs.Prelude.{All, ⊤}
 use Rattle.std.proofs.lemmas.List.Elements.{All-head, All-tail}
 use mathlib.Core.List.{IsPrefix}
@@ -22,7 +22,7 @@ use Rattle.mt_served.specs.Crews.{DidItsWork, IsCrew, Service, begun_pass, numbe
 
 -- LISTS BY INDEX.
 
--- in a list with one item more an index is one of before, or the last
+-- in a list with one item more, what stands there stood there before, or is the last
 pub at_more : {A : Type 0} (xs : List A) (y : A) (j : ℕ) (x : A) → get_elem? (xs ++ y ∷ []) j ≡ options.some x → (get_elem? xs j ≡ options.some x) ⊎ ((j ≡ length xs) × (y ≡ x))
 at_more [] y zero x at = inr (refl, options.some-injective y x at)
 at_more [] y (suc j) x at = absurd (options.some-ne-none x (sym at))
@@ -38,10 +38,16 @@ at_front [] ys j less = absurd (omega (arith, less))
 at_front (x ∷ xs) ys zero less = refl
 at_front (x ∷ xs) ys (suc j) less = at_front xs ys j (omega (arith, less))
 
-pub at_none : {A : Type 0} (xs : List A) (j : ℕ) (x : A) → get_elem? xs j ≡ options.some x → j < length xs
-at_none [] j x at = absurd (options.some-ne-none x (sym at))
-at_none (y ∷ xs) zero x at = omega arith
-at_none (y ∷ xs) (suc j) x at = omega (arith, at_none xs j x at)
+-- an index at which something stands is below the length
+pub within : {A : Type 0} (xs : List A) (j : ℕ) (x : A) → get_elem? xs j ≡ options.some x → j < length xs
+within [] j x at = absurd (options.some-ne-none x (sym at))
+within (y ∷ xs) zero x at = omega arith
+within (y ∷ xs) (suc j) x at = omega (arith, within xs j x at)
+
+pub none_beyond : {A : Type 0} (xs : List A) (j : ℕ) → length xs ≤ j → get_elem? xs j ≡ options.none
+none_beyond [] j beyond = refl
+none_beyond (x ∷ xs) zero beyond = absurd (omega (arith, beyond))
+none_beyond (x ∷ xs) (suc j) beyond = none_beyond xs j (omega (arith, beyond))
 
 pub at_map : {A B : Type 0} (f : A → B) (xs : List A) (j : ℕ) (x : A) → get_elem? xs j ≡ options.some x → get_elem? (map f xs) j ≡ options.some (f x)
 at_map f [] j x at = absurd (options.some-ne-none x (sym at))
@@ -136,7 +142,7 @@ module _ {O : Type 0} (given : O → Option (List Parcel)) (faults : O → ℕ) 
         gots_are = it.gots_are;
         there = it.there;
         number_is = at_upto (length services) j it.service.number (ap (λ (numbers : List ℕ). get_elem? numbers j) (sym crew.numbers) ∙ numbered);
-        below = at_none services j it.service it.there;
+        below = within services j it.service it.there;
         rows = at_all (λ (service : Service O). AreRowsOf boot (length services) service.number sessions service.rows) services j it.service crew.rows it.there;
         heard = at_all (λ (service : Service O). IsPrefix service.left.pass.seen book) services j it.service crew.heard it.there;
       }
@@ -157,10 +163,15 @@ module _ {O : Type 0} (given : O → Option (List Parcel)) (faults : O → ℕ) 
       → get_elem? (lists_of services did clerk) (length services) ≡ options.some clerk.gots
   of_reporter services did clerk = ap (get_elem? (lists_of services did clerk)) (sym (length_gots services did)) ∙ at_last (gots_in services did) clerk.gots
 
-  -- there is no other
+  -- every list there is one of these
   pub of_whom : (services : List (Service O)) (did : DidAll services) {done : Done ⊤} (clerk : Reported (begun_pass lock origin) done) (j : ℕ) (xs : List Got)
       → get_elem? (lists_of services did clerk) j ≡ options.some xs → (get_elem? (gots_in services did) j ≡ options.some xs) ⊎ ((j ≡ length services) × (clerk.gots ≡ xs))
   of_whom services did clerk j xs at = elim (at_more (gots_in services did) clerk.gots j xs at) [
     | inl there ↦ inl there
     | inr last ↦ inr (last.0 ∙ length_gots services did, last.1)
   ]
+
+  -- there is no other
+  pub of_nobody : (services : List (Service O)) (did : DidAll services) {done : Done ⊤} (clerk : Reported (begun_pass lock origin) done) (j : ℕ) → length services < j
+      → get_elem? (lists_of services did clerk) j ≡ options.none
+  of_nobody services did clerk j beyond = none_beyond (lists_of services did clerk) j (omega (arith, beyond, length_gots services did, length-append (gots_in services did) (clerk.gots ∷ [])))

@@ -1,6 +1,6 @@
 -- What all threads got are shares of the one book: each has the calls over its own sessions, and each place of the book is of one of them.
-use Rattle.std.proofs.Common.{◌≡◌, ◌∙◌, refl, sym, ap, subst, inl, inr, ℕ, suc, ◌+◌, ◌<◌, arith, eq-eqb, ne_eqb, length, Bool, true, List, [], ◌∷◌, ◌++◌, Option, map}
-use Rattle.std.specs.Prelude.{◌==◌, ◌%◌, ◌||◌, All, if◌then◌else◌, ⊤}
+use Rattle.std.proofs.Common.{◌≡◌, ◌∙◌, refl, sym, ap, subst, inl, inr, ℕ, suc, ◌+◌, ◌<◌, arith, ne_eqb, length, Bool, true, List, [], ◌∷◌, ◌++◌, Option, map}
+use Rattle.std.specs.Prelude.{◌==◌, ◌%◌, All, if◌then◌else◌, ⊤}
 use Rattle.std.proofs.lemmas.Bool.{and_parts, eqb-true, or_cases, true≢false}
 use Rattle.std.proofs.lemmas.List.Elements.{All-head, All-tail}
 use mathlib.Core.Option as options
@@ -18,10 +18,10 @@ use Rattle.mt_rounds.specs.mt_shared.Entry.{Entry}
 use Rattle.mt_rounds.specs.mt_worker.Accounts.{Accounts}
 use Rattle.mt_rounds.specs.mt_worker.Done.{Done}
 use Rattle.mt_rounds.specs.mt_worker.Due.{IsServed, id_of, is_in}
-use Rattle.mt_rounds.specs.mt_worker.Gots.{Each, Got, Rise, place_of}
+use Rattle.mt_rounds.specs.mt_worker.Gots.{Got, Rise, place_of}
 use Rattle.mt_rounds.specs.mt_worker.Made.{AreTicks, IsTick}
-use Rattle.mt_rounds.specs.mt_worker.Works.{AreOver, Reported}
-use Rattle.mt_served.specs.Crews.{IsCrew, Service, begun_pass, times_got}
+use Rattle.mt_rounds.specs.mt_worker.Works.{AreOver}
+use Rattle.mt_served.specs.Crews.{IsCrew, Service, times_got}
 use Rattle.mt_served.proofs.Gathering.{At, DidAll, at_worker, gots_in, lists_of, of_whom}
 use Rattle.mt_turn.specs.Counts.{how_often, total}
 
@@ -64,10 +64,10 @@ over_own boot workers worker sessions rows (got ∷ gots) are over = (in_rows bo
 -- ALL LISTS
 
 module _ {O : Type 0} (given : O → Option (List Parcel)) (faults : O → ℕ) (lock : TableId) (origin : ConfiguredInteractions) (accounts : Accounts) where
-  abbrev Did : List (Service O) → Type 0
-  Did services = DidAll given faults lock origin accounts services
+  abbrev AllDid : List (Service O) → Type 0
+  AllDid services = DidAll given faults lock origin accounts services
 
-  abbrev gots_of : (services : List (Service O)) → Did services → List (List Got)
+  abbrev gots_of : (services : List (Service O)) → AllDid services → List (List Got)
   gots_of services did = gots_in given faults lock origin accounts services did
 
   -- each place is counted where it stands among those of a pass
@@ -75,7 +75,7 @@ module _ {O : Type 0} (given : O → Option (List Parcel)) (faults : O → ℕ) 
   abbrev times : ℕ → ℕ → List Got → ℕ
   times workers k gots = times_in place_of (thread_of workers) k gots
 
-  counted : (workers k : ℕ) (services : List (Service O)) (did : Did services) → total (times workers k) (gots_of services did) ≡ total (times_got k) services
+  counted : (workers k : ℕ) (services : List (Service O)) (did : AllDid services) → total (times workers k) (gots_of services did) ≡ total (times_got k) services
   counted workers k [] did = refl
   counted workers k (service ∷ services) did = ap (λ (n : ℕ). n + total (times workers k) (gots_of services did.1)) (ap (how_often k) (sym did.0.goes.places)) ∙ ap (λ (n : ℕ). times_got k service + n) (counted workers k services did.1)
 
@@ -83,7 +83,7 @@ module _ {O : Type 0} (given : O → Option (List Parcel)) (faults : O → ℕ) 
   with_last workers k [] last = omega arith
   with_last workers k (gots ∷ lists) last = omega (arith, with_last workers k lists last)
 
-  module _ (boot : ℕ) (sessions : List SessionRow) (book : List Entry) (services : List (Service O)) (clerk : Done ⊤) (did : Did services) (crew : IsCrew given faults lock origin boot sessions book services clerk) where
+  module _ (boot : ℕ) (sessions : List SessionRow) (book : List Entry) (services : List (Service O)) (clerk : Done ⊤) (did : AllDid services) (crew : IsCrew given faults lock origin boot sessions book services clerk) where
     abbrev all_lists : List (List Got)
     all_lists = lists_of given faults lock origin accounts services did crew.reported
 
