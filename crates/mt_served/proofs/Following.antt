@@ -1,5 +1,5 @@
 -- The lines of each session follow the answers of the intake, and there is a time step for each wake.
-use Rattle.std.proofs.Common.{◌≡◌, ◌≢◌, ◌∙◌, ℕ, ◌<◌, ◌%◌, ◌==◌, ◌&&◌, Bool, ◌||◌, true, false, true≢false, inl, inr, List, [], ◌∷◌, ◌++◌, All, filter, length, map, refl, sym, ap, subst, eq-eqb}
+use Rattle.std.proofs.Common.{◌≡◌, ◌≢◌, ◌∙◌, ℕ, ◌<◌, ◌%◌, ◌==◌, ◌&&◌, Bool, ◌||◌, true, true≢false, inl, inr, List, [], ◌∷◌, ◌++◌, All, filter, length, map, refl, sym, ap, subst, eq-eqb}
 use Rattle.std.proofs.lemmas.Bool.{cases_Bool, eqb-true}
 use Rattle.std.proofs.lemmas.List.Elements.{All-head, All-tail}
 use Rattle.mt_legal.specs.Lines.{ids_of_boot}
@@ -36,9 +36,9 @@ module _ (workers : ℕ) (some : 0 < workers) (origin : ConfiguredInteractions) 
   follows follow exact theirs id rows there mine did =
       let worker : ℕ = id % workers in
       let own : is_in (map id_of rows) id ≡ true =
-          exact origin.state.node.boot workers worker origin.config.sessions rows mine id ∙ ap (λ (b : Bool). b && (worker == worker)) there ∙ eq-eqb worker worker refl in
+      exact origin.state.node.boot workers worker origin.config.sessions rows mine id ∙ ap (λ (b : Bool). b && (worker == worker)) there ∙ eq-eqb worker worker refl in
       let its : Follows 0 (accounts id) arrivals (filter (is_over id) (calls_of workers worker all)) =
-          follow workers worker id 0 (ids_of_boot origin) (map id_of rows) accounts arrivals (calls_of workers worker all) mine.rising (exact origin.state.node.boot workers worker origin.config.sessions rows mine) theirs own did in
+      follow workers worker id 0 (ids_of_boot origin) (map id_of rows) accounts arrivals (calls_of workers worker all) mine.rising (exact origin.state.node.boot workers worker origin.config.sessions rows mine) theirs own did in
       subst (Follows 0 (accounts id) arrivals) (over_its workers some id (some_session rows id mine.served own) all) its
 
   pub ticks : TicksAreWakes → TicksAll (jobs_for workers workers (ids_of_boot origin) 0 arrivals ++ End ∷ []) (calls_of workers workers all) → length (filter (is_over 0) all) ≡ wake_count 0 arrivals

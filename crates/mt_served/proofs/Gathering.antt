@@ -1,5 +1,5 @@
 -- What all threads got: the work of each, with these accounts as all began, and the lists of what they got, each at the number of its thread.
-use Rattle.std.proofs.Common.{◌≡◌, ◌∙◌, refl, sym, ap, subst, inl, inr, ℕ, zero, suc, ◌+◌, ◌<◌, ◌≤◌, ◌⊎◌, arith, length, length-append, List, [], ◌∷◌, ◌++◌, Option, get_or, map}
+use Rattle.std.proofs.Common.{◌≡◌, ◌∙◌, refl, sym, ap, subst, inl, inr, ℕ, zero, suc, ◌<◌, ◌≤◌, ◌⊎◌, arith, length, length-append, List, [], ◌∷◌, ◌++◌, Option, get_or, map}
 use Rattle.std.specs.Prelude.{All, ⊤}
 use Rattle.std.proofs.lemmas.List.Elements.{All-head, All-tail}
 use mathlib.Core.List.{IsPrefix}

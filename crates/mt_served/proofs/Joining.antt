@@ -13,7 +13,6 @@ use Rattle.mt_legal.specs.mt_interactions.Configured.{ConfiguredInteractions}
 use Rattle.mt_legal.specs.mt_shares.Laws.{MergedCallsAreMade, SharesAreMerged, WorkersSendTheirOwn}
 use Rattle.mt_legal.specs.mt_shares.Merging.{Merged}
 use Rattle.mt_legal.specs.mt_shares.Threads.{calls_of, thread_of}
-use Rattle.mt_model.specs.declared.texts.config.SessionRow.{SessionRow}
 use Rattle.mt_model.specs.texts.Config.{are_sessions}
 use Rattle.mt_outside.specs.declared.network.Arrival.{Arrival}
 use Rattle.mt_outside.specs.declared.network.Parcel.{Parcel}
@@ -38,7 +37,7 @@ use Rattle.mt_served.specs.Laws.{CrewsServe}
 use Rattle.mt_served.specs.Served.{FollowsAnswers, SendsTheRun}
 use Rattle.mt_served.proofs.Begun.{all_begun, begun_accounts, their_ids}
 use Rattle.mt_served.proofs.Following.{DidThese, follows, ticks}
-use Rattle.mt_served.proofs.Gathering.{At, DidAll, at_all, at_none, at_worker, did_all, gots_in, length_gots, lists_of, of_reporter, of_worker}
+use Rattle.mt_served.proofs.Gathering.{At, DidAll, at_all, at_worker, did_all, gots_in, length_gots, lists_of, of_reporter, of_worker, within}
 use Rattle.mt_served.proofs.Running.{AreCalls, is_whole, over_boot, sends_the_run, went_well}
 use Rattle.mt_served.proofs.Sharing.{merged}
 use Rattle.mt_served.proofs.Telling.{all_are_told, all_told, told_longer}
@@ -132,7 +131,7 @@ module _ (laws : Laws) {O : Type 0} (given : O → Option (List Parcel)) (faults
     where
       each : (j : ℕ) (service : Service O) → get_elem? services j ≡ options.some service → SendsTheRun given origin workers book service
       each j service there =
-          let less = at_none services j service there in
+          let less = within services j service there in
           let a = worker_at j less in
           let same : a.service ≡ service = options.some-injective a.service service (sym a.there ∙ there) in
           subst (SendsTheRun given origin workers book) same

@@ -1,8 +1,7 @@
 -- The calls of all are a run, and each worker's outlet was given what that sends over its sessions.
-use Rattle.std.proofs.Common.{◌≡◌, ◌∙◌, ℕ, ◌<◌, ◌≤◌, nat_le, ◌==◌, Bool, true, List, [], ◌∷◌, Option, Result, Ok, Err, OnOk, filter, length, map, refl, sym, ap, subst, arith}
+use Rattle.std.proofs.Common.{◌≡◌, ◌∙◌, ℕ, ◌<◌, nat_le, ◌==◌, true, List, [], ◌∷◌, Option, Result, Ok, Err, OnOk, filter, map, sym, ap, subst, arith}
 use Rattle.std.specs.Prelude.{⊤}
 use Rattle.std.proofs.lemmas.Bool.{and_parts, leb-true}
-use Rattle.std.specs.List.{list_any}
 use Rattle.mt_legal.specs.Laws.{AreInTime, BooksAreRuns, IsServable, IsWholeBook}
 use Rattle.mt_legal.specs.Lines.{ids_of_boot, rows_of_boot, told_of}
 use Rattle.mt_legal.specs.mt_interactions.Configured.{ConfiguredInteractions}
@@ -10,11 +9,10 @@ use Rattle.mt_legal.specs.mt_shares.Laws.{MergedCallsAreMade, WorkersSendTheirOw
 use Rattle.mt_legal.specs.mt_shares.Threads.{HaveTheirIds, calls_of, is_to_worker}
 use Rattle.mt_model.specs.declared.limits.TheConstants.{LAST_TIME}
 use Rattle.mt_model.specs.declared.texts.config.SessionRow.{SessionRow}
-use Rattle.mt_model.specs.declared.texts.recording.Sent.{Sent}
 use Rattle.mt_outside.specs.declared.network.Parcel.{Parcel}
 use Rattle.mt_rounds.specs.mt_owners.Laws.{OwnersAreExact}
 use Rattle.mt_rounds.specs.mt_owners.Rows.{AreRowsOf}
-use Rattle.mt_rounds.specs.mt_receiver.Rounds.{is_for, owner_of}
+use Rattle.mt_rounds.specs.mt_receiver.Rounds.{owner_of}
 use Rattle.mt_rounds.specs.mt_shared.Book.{are_in_time}
 use Rattle.mt_rounds.specs.mt_shared.Entry.{Entry}
 use Rattle.mt_rounds.specs.mt_shared.Replay.{told}
@@ -23,7 +21,7 @@ use Rattle.mt_rounds.specs.mt_worker.Accounts.{Accounts, all_sent}
 use Rattle.mt_rounds.specs.mt_worker.Due.{HaveBegun, id_of, is_in}
 use Rattle.mt_rounds.specs.mt_worker.Faults.{status_of}
 use Rattle.mt_rounds.specs.mt_worker.Giving.{Gave, GavePart, parcels_in}
-use Rattle.mt_rounds.specs.mt_worker.Gots.{Each, Got}
+use Rattle.mt_rounds.specs.mt_worker.Gots.{Got}
 use Rattle.mt_rounds.specs.mt_worker.Made.{AreMade, AreTicks}
 use Rattle.mt_rounds.specs.mt_worker.WorkFault.{WorkFault}
 use Rattle.mt_rounds.specs.mt_worker.WorkFault.TheVariants.{Memory, Stopped, Link, Full}

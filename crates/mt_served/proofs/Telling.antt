@@ -3,10 +3,10 @@ use Rattle.std.proofs.Common.{◌≡◌, ◌∙◌, ℕ, zero, suc, ◌+◌, ◌
 use mathlib.Core.List.{IsPrefix}
 use Rattle.mt_legal.specs.Lines.{told_of}
 use Rattle.mt_legal.specs.mt_interactions.Configured.{ConfiguredInteractions}
-use Rattle.mt_legal.specs.mt_shares.Merging.{IsMerged, upto}
-use Rattle.mt_legal.specs.mt_shares.Threads.{calls_of, thread_of}
+use Rattle.mt_legal.specs.mt_shares.Merging.{upto}
+use Rattle.mt_legal.specs.mt_shares.Threads.{calls_of}
 use Rattle.mt_rounds.specs.mt_shared.Entry.{Entry}
-use Rattle.mt_rounds.specs.mt_shared.Replay.{answer_at, next, told}
+use Rattle.mt_rounds.specs.mt_shared.Replay.{next, told}
 use Rattle.mt_rounds.specs.mt_worker.Gots.{AreTold, Each, Got, Told, place_of}
 use Rattle.mt_served.proofs.Threads.{of_all}
 
