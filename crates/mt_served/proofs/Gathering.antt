@@ -1,5 +1,5 @@
 -- What all threads got: the work of each, with these accounts as all began, and the lists of what they got, each at the number of its thread.
-use Rattle.std.proofs.Common.{◌≡◌, ◌∙◌, refl, sym, ap, subst, inl, inr, ℕ, zero, suc, ◌<◌, ◌≤◌, ◌⊎◌, arith, length, length-append, List, [], ◌∷◌, ◌++◌, Option, get_or, map}
+use Rattle.std.proofs.Common.{◌≡◌, ◌∙◌, refl, sym, ap, subst, inl, inr, ℕ, zero, suc, ◌<◌, ◌⊎◌, arith, length, length-append, List, [], ◌∷◌, ◌++◌, Option, map}
 use Rattle.std.specs.Prelude.{All, ⊤}
 use Rattle.std.proofs.lemmas.List.Elements.{All-head, All-tail}
 use mathlib.Core.List.{IsPrefix}
@@ -43,11 +43,6 @@ pub within : {A : Type 0} (xs : List A) (j : ℕ) (x : A) → get_elem? xs j ≡
 within [] j x at = absurd (options.some-ne-none x (sym at))
 within (y ∷ xs) zero x at = omega arith
 within (y ∷ xs) (suc j) x at = omega (arith, within xs j x at)
-
-pub none_beyond : {A : Type 0} (xs : List A) (j : ℕ) → length xs ≤ j → get_elem? xs j ≡ options.none
-none_beyond [] j beyond = refl
-none_beyond (x ∷ xs) zero beyond = absurd (omega (arith, beyond))
-none_beyond (x ∷ xs) (suc j) beyond = none_beyond xs j (omega (arith, beyond))
 
 pub at_map : {A B : Type 0} (f : A → B) (xs : List A) (j : ℕ) (x : A) → get_elem? xs j ≡ options.some x → get_elem? (map f xs) j ≡ options.some (f x)
 at_map f [] j x at = absurd (options.some-ne-none x (sym at))
@@ -147,12 +142,6 @@ module _ {O : Type 0} (given : O → Option (List Parcel)) (faults : O → ℕ) 
         heard = at_all (λ (service : Service O). IsPrefix service.left.pass.seen book) services j it.service crew.heard it.there;
       }
 
-  -- and each worker has its list there
-  pub list_at : (services : List (Service O)) (did : DidAll services) (j : ℕ) (d : Service O) → j < length services → (its : Did (get_or services j d)) × (get_elem? (gots_in services did) j ≡ options.some its.gots)
-  list_at [] did j d less = absurd (omega (arith, less))
-  list_at (service ∷ services) did zero d less = (did.0, refl)
-  list_at (service ∷ services) did (suc j) d less = list_at services did.1 j d (omega (arith, less))
-
   -- THE LISTS BY INDEX
 
   pub of_worker : (services : List (Service O)) (did : DidAll services) {done : Done ⊤} (clerk : Reported (begun_pass lock origin) done) (j : ℕ) → j < length services
@@ -170,8 +159,3 @@ module _ {O : Type 0} (given : O → Option (List Parcel)) (faults : O → ℕ) 
     | inl there ↦ inl there
     | inr last ↦ inr (last.0 ∙ length_gots services did, last.1)
   ]
-
-  -- there is no other
-  pub of_nobody : (services : List (Service O)) (did : DidAll services) {done : Done ⊤} (clerk : Reported (begun_pass lock origin) done) (j : ℕ) → length services < j
-      → get_elem? (lists_of services did clerk) j ≡ options.none
-  of_nobody services did clerk j beyond = none_beyond (lists_of services did clerk) j (omega (arith, beyond, length_gots services did, length-append (gots_in services did) (clerk.gots ∷ [])))
