@@ -1,2 +1,4 @@
+pub mod Gathering
 pub mod Members
 pub mod Ready
+pub mod Serves
