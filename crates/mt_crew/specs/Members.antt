@@ -1,9 +1,9 @@
 -- A worker before its thread begins, and behind it.
-use Rattle.std.specs.Prelude.{◌≡◌, ℕ, List, [], Option, Some, None, All, map}
+use Rattle.std.specs.Prelude.{◌≡◌, ℕ, List, [], Option, Some, None, All, map, ⊤}
 use Rattle.std.specs.List.{filter_map}
 use Rattle.mt_model.specs.declared.texts.config.SessionRow.{SessionRow}
 use Rattle.mt_outside.specs.declared.network.Parcel.{Parcel}
-use Rattle.mt_queue.specs.Ends.{QueueId, Taken}
+use Rattle.mt_queue.specs.Ends.{Taken}
 use Rattle.mt_queue.specs.Jobs.{IsEnded}
 use Rattle.mt_owners.specs.mt_shared.Shared.{IsPassOf, NodePass, SharedView}
 use Rattle.mt_owners.specs.mt_worker.Accounts.{Accounts}
@@ -84,7 +84,7 @@ BeginsWith pass member = pass_at member.post ≡ Some pass
 
 pub record IsLeft {O : Type 0} (node : SharedView) (ended : Done O) : Type 0 where
   pub own : IsOfThread node ended.pass
-  pub ended : IsEnded ended.queue.taken
+  pub to_end : IsEnded ended.queue.taken
 
 abbrev pub IsBack : {O : Type 0} → SharedView → Post O → Type 0
 IsBack node (Left ended) = IsLeft node ended

@@ -26,6 +26,7 @@ pub const WORKERS: u32 = 8;
 
 /// The places of a crew, before anybody has taken one: a queue for each worker and, as the last, for the reporter; the sessions of each
 /// worker, and the ids of all; and room for the workers.
+#[derive(Drop)]
 pub struct Places<O> {
     pub(crate) senders: Vec<JobSender>,
     pub(crate) jobs: Vec<Jobs>,
@@ -34,38 +35,15 @@ pub struct Places<O> {
     pub(crate) ids: Vec<u16>,
 }
 
-impl<O: Drop> Drop for Places<O> {
-    fn drop(self) {
-        let Places {
-            senders: _,
-            jobs: _,
-            rows: _,
-            members: _,
-            ids: _,
-        } = self;
-    }
-}
-
 /// A crew before its threads begin: the reporter's pass and queue, the workers, the ends of all queues into which jobs are put, and the ids
 /// of all sessions.
+#[derive(Drop)]
 pub(crate) struct Seated<O> {
     pub(crate) pass: NodePass,
     pub(crate) ticks: Jobs,
     pub(crate) members: Vec<Member<O>>,
     pub(crate) senders: Vec<JobSender>,
     pub(crate) ids: Vec<u16>,
-}
-
-impl<O: Drop> Drop for Seated<O> {
-    fn drop(self) {
-        let Seated {
-            pass: _,
-            ticks: _,
-            members: _,
-            senders: _,
-            ids: _,
-        } = self;
-    }
 }
 
 /// The places of so many workers, who own the sessions of this boot.
