@@ -2,7 +2,9 @@
 pub use Rattle.mt_owners.specs.mt_worker.Accounts
 pub use Rattle.mt_owners.specs.mt_worker.Done
 pub use Rattle.mt_owners.specs.mt_worker.Due
+pub use Rattle.mt_owners.specs.mt_worker.Faults
 pub use Rattle.mt_owners.specs.mt_worker.Giving
 pub use Rattle.mt_owners.specs.mt_worker.Gots
 pub use Rattle.mt_owners.specs.mt_worker.Made
+pub use Rattle.mt_owners.specs.mt_worker.WorkFault
 pub use Rattle.mt_owners.specs.mt_worker.Works

@@ -1,12 +1,13 @@
 //! From a disk to the record.
 
 ghost use Rattle.std.specs.Prelude.{◌≡◌, ◌<◌, ◌≤◌, ℕ, List, Some, length};
-ghost use Rattle.mt_outside.specs.Stream.{Took};
-ghost use Rattle.mt_serving.specs.Record.{record_of};
-ghost use Rattle.mt_serving.specs.Serves.{IsServed, TellsBook};
+ghost use Rattle.mt_model.specs.texts.Contents.{contents_of};
+ghost use Rattle.mt_serving.specs.Ending.{TellsEnd, TellsNoMemory};
+ghost use Rattle.mt_serving.specs.Serves.{Course, IsServed, Ran};
 
 use crate::ending::{ServeFault, finish_serving};
 use crate::recording::{RecordFault, write_record};
+use mt_crew::mt_served::crews_serve;
 use mt_crew::{reserve, run};
 use mt_model::Config;
 use mt_outside::{Disk, Gate, Intake, Outlet, Progress, Sink};
@@ -79,7 +80,10 @@ pub fn serve_with<
     requires several { (0 < length outlets.items) × (length outlets.items ≤ 8) }
     requires some { 0 < limit }
     ensures outlets { length result.outlets.items ≡ length outlets.items }
-    ensures served { (file : List ℕ) → D.contents disk ≡ Some file → result.status ≡ 0 → IsServed config.now file (W.written out.old) (W.written out.new) }
+    ensures served { (file : List ℕ) → D.contents disk ≡ Some file → result.status ≡ 0
+        → IsServed I.held I.clock O.given config.now file limit outlets.items result.outlets.items intake result.intake (W.written out.old) (W.written out.new) }
+    ensures course { (file : List ℕ) → D.contents disk ≡ Some file
+        → Course I.held I.clock O.given config.now file limit outlets.items result.outlets.items intake result.intake result.status (W.written out.old) (W.written out.new) (W.faults out.old) (W.faults out.new) }
 {
     match start_on(alloc, config, disk) {
         Ok(started) => serve_started(
@@ -115,8 +119,9 @@ fn serve_started<
 ) -> Served<D, I, O>
     requires several { (0 < length outlets.items) × (length outlets.items ≤ 8) }
     requires some { 0 < limit }
+    requires configured { started.node.config ≡ contents_of config.now }
     ensures outlets { length result.outlets.items ≡ length outlets.items }
-    ensures told { result.status ≡ 0 → TellsBook (W.written out.old) (W.written out.new) }
+    ensures ran { Ran I.held I.clock O.given started.node limit outlets.items result.outlets.items intake result.intake result.status (W.written out.old) (W.written out.new) (W.faults out.old) (W.faults out.new) }
 {
     let (node, store, verdicts) = started.into_parts();
     let boot = node.state().boot;
@@ -128,6 +133,7 @@ fn serve_started<
         Ok(both) => both,
         Err(store) => return without_memory(alloc, store.into_disk(), intake, outlets, out),
     };
+    crews_serve::<O>();
     let ended = run(
         rt, alloc, shared, pass, places, intake, outlets, gate, limit, progress,
     );
@@ -144,7 +150,8 @@ fn without_memory<D, I, O, W: Sink>(
     outlets: Vec<O>,
     out: &mut W,
 ) -> Served<D, I, O>
-    ensures status { result.status ≡ 7 }
+    ensures told { TellsNoMemory result.status (W.written out.old) (W.written out.new) (W.faults out.old) (W.faults out.new) }
+    ensures intake { result.intake ≡ intake }
     ensures outlets { result.outlets ≡ outlets }
 {
     let status = finish_serving(alloc, ServeFault::Memory, out);
@@ -153,7 +160,7 @@ fn without_memory<D, I, O, W: Sink>(
 
 // Writes the record of a book, and then the last line of why the threads stopped, where they did. The answer is the exit status.
 fn tell_end<W: Sink>(alloc: Global, book: &[Entry], status: u8, out: &mut W) -> u8
-    ensures { result ≡ 0 → Took (W.written out.old) (W.written out.new) (record_of book.now) }
+    ensures { TellsEnd book.now status result (W.written out.old) (W.written out.new) (W.faults out.old) (W.faults out.new) }
 {
     match write_record(alloc, book, out) {
         Ok(()) => match ServeFault::of_status(status) {

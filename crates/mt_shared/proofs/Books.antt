@@ -40,16 +40,13 @@ timed_push before (e ∷ book) entry timed is =
 -- TIMES THAT A RECORDING CAN HAVE.
 
 -- the time that a caller told is one
-asked_in_time : (call : Call) → HasForm call.event → asked call ≤ LAST_TIME
-asked_in_time call form = by_event call.event form
-where
-  by_event : (event : Event) → HasForm event → unwrap_or (event_time event) 0 ≤ LAST_TIME
-  by_event (events.Ask ms fabric node cats opcode payload) form = form.time
-  by_event (events.Datagram ms from bytes) form = form.0
-  by_event (events.Tick ms) form = form
-  by_event (events.Report ms fabric subscription) form = form.0
-  by_event (events.Resend ms session) form = form.0
-  by_event (events.Stop calls fate) form = omega arith
+asked_in_time : (event : Event) → HasForm event → unwrap_or (event_time event) 0 ≤ LAST_TIME
+asked_in_time (events.Ask ms fabric node cats opcode payload) form = form.time
+asked_in_time (events.Datagram ms from bytes) form = form.0
+asked_in_time (events.Tick ms) form = form
+asked_in_time (events.Report ms fabric subscription) form = form.0
+asked_in_time (events.Resend ms session) form = form.0
+asked_in_time (events.Stop calls fate) form = omega arith
 
 last_in_time : (before : ℕ) (book : List Entry) → before ≤ LAST_TIME → are_in_time book ≡ true → last_time before book ≤ LAST_TIME
 last_in_time before [] low are = low
@@ -65,7 +62,7 @@ in_time_push (e ∷ book) entry are low =
 
 pub still_in_time : (book longer : List Entry) (entry : Entry) → are_in_time book ≡ true → longer ≡ book ++ entry ∷ [] → HasForm entry.call.event → entry.ms ≡ max (asked entry.call) (last_time 0 book) → are_in_time longer ≡ true
 still_in_time book longer entry are is form time =
-    let low : asked entry.call ≤ LAST_TIME = asked_in_time entry.call form in
+    let low : asked entry.call ≤ LAST_TIME = asked_in_time entry.call.event form in
     let last : last_time 0 book ≤ LAST_TIME = last_in_time 0 book (omega arith) are in
     let fits : entry.ms ≤ LAST_TIME = omega arith in
     ap are_in_time is ∙ in_time_push book entry are fits

@@ -1,6 +1,6 @@
 //! The node under a lock: threads take turns with it, and each call stands in the one book.
 
-ghost use Rattle.std.specs.Prelude.{◌≡◌, ◌≤◌, ◌<◌, ◌⊎◌, ℕ, Err, None, Ok, Some, false, length, IfErr, IfOk};
+ghost use Rattle.std.specs.Prelude.{◌≡◌, ◌≤◌, ◌<◌, ◌⊎◌, ℕ, Err, None, Ok, Some, false, is_some, length, true, IfErr, IfOk};
 ghost use mathlib.Core.List.{IsPrefix};
 ghost use Rattle.mt_files.specs.Form.{HasForm};
 ghost use Rattle.mt_interactions.specs.Deeds.{IsWithin};
@@ -150,6 +150,7 @@ impl<K: Keeper + Drop + Send, V: Verdicts + Drop> SharedNode<K, V> {
         ensures timed { is_timed 0 pass.seen ≡ true }
         ensures node { result.node ≡ replay self.origin pass.seen }
         ensures kept { stop_in pass.seen ≡ None → K.map result.keeper ≡ Some (map_of result.node) }
+        ensures failed { K.failed result.keeper ≡ is_some (stop_in pass.seen) }
         ensures halted { (stop : AnyStop) → stop_in pass.seen ≡ Some stop → IsHalted stop result.node pass.seen (K.map result.keeper) }
     {
         origins_cross();

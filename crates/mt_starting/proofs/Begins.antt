@@ -25,7 +25,7 @@ use Rattle.mt_shared.specs.mt_regained.Reopening.{ReopensValid, reopened_node}
 use Rattle.mt_shared.specs.mt_regained.Rolled.{ceiling_of, rolled_if, rolled_map, rolled_map_of}
 use Rattle.mt_starting.specs.Starts.{HasRoom}
 
-some_same : {X : Type 0} (a b : X) → Some a ≡ Some b → a ≡ b
+pub some_same : {X : Type 0} (a b : X) → Some a ≡ Some b → a ≡ b
 some_same a b same = cc
 
 -- what is kept in a map that is rolled back

@@ -7,8 +7,12 @@ use Rattle.mt_journal.specs.declared.reading.JournalFault.TheVariants as journal
 use Rattle.mt_shared.specs.mt_keeping.Recovered.{recovered}
 use Rattle.mt_model.specs.declared.texts.config.Config.{Config}
 use Rattle.mt_model.specs.texts.Contents.{contents_of}
+use Rattle.mt_opcreds.specs.Laws.{KeepsRules}
 use Rattle.mt_outside.specs.Stream.{one_more}
 use Rattle.mt_shared.specs.mt_regained.Begun.{boot_in, ceiling_in}
+use Rattle.mt_shared.specs.mt_runs.Isolation.{IsValidWhole}
+use Rattle.mt_shared.specs.mt_runs.Whole.{Whole, begun_in}
+use Rattle.mt_shared.specs.Replay.{given_in}
 use Rattle.mt_starting.specs.declared.starting.StartFault.{StartFault}
 use Rattle.mt_starting.specs.declared.starting.StartFault.TheVariants.{Disk, NotAJournal, Worn, Memory}
 
@@ -30,6 +34,16 @@ pub record IsStartedOn (config : Config) (file : List ℕ) (node : ConfiguredInt
   pub map : List Entry
   pub found : IsRecovered config file map
   pub begun : IsBegunWith config map node
+
+-- THE NODE MAY BE SERVED: its configuration's verdicts keep their rules, and the whole with which its run begins is valid, where nothing has been
+-- said over the sessions of its boot.
+
+abbrev pub begun_whole : ConfiguredInteractions → Whole
+begun_whole node = record { state = node.state; ledger = node.ledger; talks = begun_in node.state.node.boot node.config.sessions }
+
+pub record MayServe (node : ConfiguredInteractions) : Type 0 where
+  pub rules : KeepsRules (given_in node).judged
+  pub valid : IsValidWhole (begun_whole node)
 
 -- worn means that the map has no room
 abbrev pub IsWornCause : List Entry → StartFault → Type 0

@@ -11,7 +11,7 @@ ghost use Rattle.mt_shared.specs.mt_regained.Reopened.{reopened_map};
 ghost use Rattle.mt_shared.specs.Acts.{HasVerdicts};
 ghost use Rattle.mt_shared.specs.Replay.{map_of};
 ghost use Rattle.mt_shared.specs.mt_keeping.States.{told_map};
-ghost use Rattle.mt_starting.specs.Starts.{HasFailedFor, HasRoom, IsBegunWith, IsStartCause, IsStartedOn, IsWornCause, fault_of};
+ghost use Rattle.mt_starting.specs.Starts.{HasFailedFor, HasRoom, IsBegunWith, IsStartCause, IsStartedOn, IsWornCause, MayServe, fault_of};
 
 use mt_durable::{Durable, Entry, Keeper};
 use mt_grammar::kept_in;
@@ -23,6 +23,7 @@ use mt_shared::mt_keeping::{Store, states_are_reopened, states_may_be_committed}
 use mt_shared::mt_regained::{
     durable_maps_are_kept, reopened_nodes_may_start, reopenings_roll_back, states_are_regained,
 };
+use mt_shared::mt_runs::wholes_are_valid;
 use std::alloc::{AllocError, Global};
 
 /// Why no node starts on a disk.
@@ -47,6 +48,7 @@ pub struct Started<D: Disk> {
     pub ghost runs: { store.store.journal.failed ≡ false },
     pub ghost judged: { HasVerdicts node verdicts.roots verdicts.csrs verdicts.joins },
     pub ghost valid: { IsValid node.state.node },
+    pub ghost serves: { MayServe node },
 }
 
 impl<D: Disk + Drop> Drop for Started<D> {
@@ -66,6 +68,7 @@ impl<D: Disk + Drop> Started<D> {
         ensures keeps { told_map result.1 ≡ map_of result.0 }
         ensures runs { result.1.store.journal.failed ≡ false }
         ensures judged { HasVerdicts result.0 result.2.roots result.2.csrs result.2.joins }
+        ensures serves { MayServe result.0 }
     {
         let Started {
             node,
@@ -76,14 +79,16 @@ impl<D: Disk + Drop> Started<D> {
     }
 }
 
-/// Starts a node with what is recovered of a disk, in its next boot, and commits first what that boot commits first. The disk comes back
-/// where that fails.
+/// Starts a node with what is recovered of a disk, in its next boot and with this configuration, and commits first what that boot commits
+/// first. The node may be served. The disk comes back where that fails.
 pub fn start_on<D: Disk + Drop>(
     alloc: Global,
     config: &Config,
     disk: D,
 ) -> Result<Started<D>, (D, StartFault)>
     ensures started { (file : List ℕ) → D.contents disk ≡ Some file → IfOk result (λ started. IsStartedOn config.now file started.node) }
+    ensures config { IfOk result (λ started. started.node.config ≡ contents_of config.now) }
+    ensures serves { IfOk result (λ started. MayServe started.node) }
     ensures cause { (file : List ℕ) → D.contents disk ≡ Some file → IfErr result (λ refused. IsStartCause config.now file refused.1) }
     ensures failed { IfErr result (λ refused. HasFailedFor refused.1 (D.faults disk) (D.faults refused.0)) }
     ensures calm { IfOk result (λ started. D.faults started.store.store.journal.disk ≡ D.faults disk) }
@@ -120,6 +125,7 @@ fn start_with<D: Disk + Drop>(
     ensures failed { IfErr result (λ refused. HasFailedFor refused.1 (D.faults store.store.journal.disk) (D.faults refused.0)) }
     ensures calm { IfOk result (λ started. D.faults started.store.store.journal.disk ≡ D.faults store.store.journal.disk) }
 {
+    wholes_are_valid();
     reopened_nodes_may_start();
     states_are_reopened();
     reopenings_roll_back();

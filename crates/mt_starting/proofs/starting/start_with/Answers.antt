@@ -13,6 +13,7 @@ use Rattle.mt_shared.specs.mt_regained.Begun.{MayStart}
 use Rattle.mt_shared.specs.mt_regained.Laws.{is_of_bytes}
 use Rattle.mt_starting.specs.Starts.{HasRoom}
 use Rattle.mt_starting.proofs.Begins.{leads, may_commit, says, valid_start}
+use Rattle.mt_starting.proofs.Serves.{may_serve}
 use Rattle.mt_starting.proofs.starting.start_with.Goals as goal
 
 pub start-requires : goal.start-requires
@@ -133,4 +134,5 @@ invariant_of-result g c =
           } in
           is ∙ sym (ap given_by c.in-Ok-start.ensures.started.node.configured));
       valid = valid;
+      serves = may_serve c.wholes_are_valid.ensures.opens config map one c.in-Ok-start.ensures.started valid;
     }

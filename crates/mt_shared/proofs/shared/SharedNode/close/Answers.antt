@@ -1,6 +1,7 @@
 use Rattle.std.proofs.Common.{◌≡◌, ◌∙◌, ap, sym, subst, List, length, ◌<◌, ◌≤◌}
 use Rattle.mt_shared.specs.Acts.{IsHalted}
-use Rattle.mt_shared.specs.Book.{stop_in}
+use Rattle.std.specs.Prelude.{is_some}
+use Rattle.mt_shared.specs.Book.{are_in_time, is_timed, stop_in}
 use Rattle.mt_shared.specs.declared.entry.Entry.{Entry}
 use denote.Exit.{no}
 use denote.Param.{param}
@@ -18,6 +19,24 @@ returns-clause-once g c k below = c.close.ensures.once k (subst (λ (entries : L
 
 pub returns-clause-no_other : goal.returns-clause-no_other
 returns-clause-no_other g c k above = c.close.ensures.no_other k (subst (λ (entries : List Entry). length entries ≤ k) (sym c.close.ensures.book) above)
+
+pub returns-clause-in_time : goal.returns-clause-in_time
+returns-clause-in_time g c =
+    let closed = c.into_inner.result in
+    let book : closed.book.items ≡ c.args.pass.seen = ap (λ held. held.book.items) c.into_inner.ensures ∙ c.close.ensures.book in
+    ap are_in_time (sym book) ∙ closed.in_time
+
+pub returns-clause-timed : goal.returns-clause-timed
+returns-clause-timed g c =
+    let closed = c.into_inner.result in
+    let book : closed.book.items ≡ c.args.pass.seen = ap (λ held. held.book.items) c.into_inner.ensures ∙ c.close.ensures.book in
+    ap (is_timed 0) (sym book) ∙ closed.timed
+
+pub returns-clause-failed : goal.returns-clause-failed
+returns-clause-failed g c =
+    let closed = c.into_inner.result in
+    let book : closed.book.items ≡ c.args.pass.seen = ap (λ held. held.book.items) c.into_inner.ensures ∙ c.close.ensures.book in
+    closed.failed ∙ ap is_some (sym closed.stop_is ∙ ap stop_in book)
 
 pub returns-clause-kept : goal.returns-clause-kept
 returns-clause-kept g c none =
