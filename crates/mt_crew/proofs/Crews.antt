@@ -1,5 +1,5 @@
 -- The workers of a crew, before their threads and behind them.
-use Rattle.std.proofs.Common.{◌≡◌, ◌<◌, ◌∙◌, ℕ, zero, suc, ◌+◌, List, [], ◌∷◌, ◌++◌, Option, Some, map, length, get_or, refl, sym, ap, subst, arith, length-append}
+use Rattle.std.proofs.Common.{◌≡◌, ◌<◌, ◌∙◌, ℕ, zero, suc, ◌+◌, List, [], ◌∷◌, ◌++◌, Option, Some, Result, Ok, map, length, get_or, refl, sym, ap, subst, arith, length-append}
 use mathlib.Core.Logic.{dite}
 use native.Mathlib.Decide.{ℕ_discrete}
 use Rattle.std.proofs.lemmas.List.{get_or_append_left, get_or_push, get_or-map, length-map}
@@ -8,7 +8,7 @@ use Rattle.std.specs.List.{All, AllZip, cons_option, filter_map}
 use Rattle.mt_model.specs.declared.texts.config.SessionRow.{SessionRow}
 use Rattle.mt_outside.specs.declared.network.Parcel.{Parcel}
 use Rattle.mt_queue.specs.Ends.{QueueId, Taken}
-use Rattle.mt_owners.specs.mt_shared.Shared.{NodePass, SharedView}
+use Rattle.mt_owners.specs.mt_shared.Shared.{IsPassOf, NodePass, SharedView}
 use Rattle.mt_owners.specs.mt_worker.Accounts.{Accounts}
 use Rattle.mt_owners.specs.mt_worker.Done.{Done}
 use Rattle.mt_owners.specs.mt_worker.Due.{HaveBegun}
@@ -17,11 +17,13 @@ use Rattle.mt_served.specs.Crews as crews
 use Rattle.mt_served.specs.Crews.{DidItsWork, Service, lent_of}
 use Rattle.mt_shares.specs.Merging.{upto}
 use Rattle.mt_turn.specs.Counts.{total}
+use Rattle.mt_turn.specs.Known.{part_given}
 use Rattle.mt_crew.specs.Gathering.{queue_left}
-use Rattle.mt_crew.specs.Members.{BeginsWith, HasLeft, HasWorked, IsBack, jobs_at, jobs_in, left_of, lefts, number_of, outlet_at, outlets_in, pass_at, rows_of}
+use Rattle.mt_crew.specs.Members.{BeginsWith, HasLeft, HasWorked, IsBack, IsOfThread, jobs_at, jobs_in, left_of, lefts, number_of, outlet_at, outlets_in, pass_at, rows_of}
 use Rattle.mt_crew.specs.Ready.{queue_taken}
 use Rattle.mt_crew.specs.declared.member.Member.{Member}
 use Rattle.mt_crew.specs.declared.member.Post.{Post}
+use Rattle.mt_crew.proofs.Lists.{mapped_push}
 
 -- one more that is kept
 pub kept_more : {A B : Type 0} (f : A → Option B) (x : A) (xs : List A) (y : B) (ys : List B) → f x ≡ Some y → filter_map f xs ≡ ys → filter_map f (x ∷ xs) ≡ y ∷ ys
@@ -95,3 +97,18 @@ module _ {O : Type 0} (given : O → Option (List Parcel)) (faults : O → ℕ) 
   serviced begun [] (y ∷ ys) z begins = absurd z
   serviced begun (x ∷ xs) [] z begins = absurd z
   serviced begun (x ∷ xs) (y ∷ ys) z begins = serviced_more begun x y xs ys z.0 (begins 0 x (omega arith)) (serviced begun xs ys z.1 (λ k d lt. begins (suc k) d (omega arith)))
+
+-- one more number
+pub numbers_push : {O : Type 0} (all rest : List (Member O)) (member : Member O) (n m : ℕ) → all ≡ rest ++ member ∷ [] → map number_of rest ≡ upto n → member.number ≡ n → m ≡ suc n → map number_of all ≡ upto m
+numbers_push all rest member n m is so_far mine more =
+    mapped_push number_of all rest member (upto n) (upto m) is so_far (ap upto more ∙ ap (λ (k : ℕ). upto n ++ k ∷ []) (sym mine))
+
+-- the pass that is given of one whose share alone has changed
+pub got_is : {E : Type 0} (given pass : NodePass) → ◌≡◌ {A = Result NodePass E} (Ok given) (Ok pass) → given ≡ pass
+got_is given pass is = cc
+
+pub same_given : {E : Type 0} (old mid given : NodePass) → mid ≡ record old { share = mid.share } → ◌≡◌ {A = Result NodePass E} (Ok given) (Ok (part_given mid)) → given ≡ part_given old
+same_given old mid given same is = got_is given (part_given mid) is ∙ ap part_given same
+
+pub of_thread : (node : SharedView) (pass given : NodePass) → IsPassOf node pass → given ≡ part_given pass → IsOfThread node given
+of_thread node pass given own is = subst (IsOfThread node) (sym is) (own, refl)

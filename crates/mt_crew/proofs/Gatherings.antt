@@ -92,3 +92,8 @@ module _ {O : Type 0} where
   status_more before status result all rest ended is so_far mine more =
       more ∙ (ap (λ (n : ℕ). first_of n status) so_far ∙ (ap (first_of (first_fault (map status_left rest))) mine
       ∙ (sym (first_push (map status_left rest) ended.status) ∙ (ap first_fault (sym (map_push status_left rest ended)) ∙ ap (λ (l : List (Done O)). first_fault (map status_left l)) (sym is)))))
+
+  -- the reporter's behind those of all workers
+  pub status_behind : (worked last result : ℕ) (all : List (Done O)) (clerk : Done ⊤) → worked ≡ first_fault (map status_left all) → last ≡ clerk.status → result ≡ first_of worked last → result ≡ first_fault (map status_left all ++ clerk.status ∷ [])
+  status_behind worked last result all clerk so_far mine more =
+      more ∙ (ap (λ (n : ℕ). first_of n last) so_far ∙ (ap (first_of (first_fault (map status_left all))) mine ∙ sym (first_push (map status_left all) clerk.status)))
