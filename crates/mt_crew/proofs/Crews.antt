@@ -8,6 +8,7 @@ use Rattle.std.specs.List.{All, AllZip, cons_option, filter_map}
 use Rattle.mt_model.specs.declared.texts.config.SessionRow.{SessionRow}
 use Rattle.mt_outside.specs.declared.network.Parcel.{Parcel}
 use Rattle.mt_queue.specs.Ends.{QueueId, Taken}
+use Rattle.mt_queue.specs.Jobs.{IsEnded}
 use Rattle.mt_owners.specs.mt_shared.Shared.{IsPassOf, NodePass, SharedView}
 use Rattle.mt_owners.specs.mt_worker.Accounts.{Accounts}
 use Rattle.mt_owners.specs.mt_worker.Done.{Done}
@@ -17,12 +18,14 @@ use Rattle.mt_served.specs.Crews as crews
 use Rattle.mt_served.specs.Crews.{DidItsWork, Service, lent_of}
 use Rattle.mt_shares.specs.Merging.{upto}
 use Rattle.mt_turn.specs.Counts.{total}
+use Rattle.mt_turn.specs.History.{IsOutsideAgain}
 use Rattle.mt_turn.specs.Known.{part_given}
 use Rattle.mt_crew.specs.Gathering.{queue_left}
-use Rattle.mt_crew.specs.Members.{BeginsWith, HasLeft, HasWorked, IsBack, IsOfThread, jobs_at, jobs_in, left_of, lefts, number_of, outlet_at, outlets_in, pass_at, rows_of}
+use Rattle.mt_crew.specs.Members.{BeginsWith, HasLeft, HasWorked, IsBack, IsOfThread, IsReady, IsWaiting, MayWork, jobs_at, jobs_in, left_of, lefts, number_of, outlet_at, outlets_in, pass_at, rows_of, start_of}
 use Rattle.mt_crew.specs.Ready.{queue_taken}
 use Rattle.mt_crew.specs.declared.member.Member.{Member}
 use Rattle.mt_crew.specs.declared.member.Post.{Post}
+use Rattle.mt_crew.specs.declared.member.Post.TheVariants.{Left, Serves, Waits}
 use Rattle.mt_crew.proofs.Lists.{mapped_push}
 
 -- one more that is kept
@@ -112,3 +115,35 @@ same_given old mid given same is = got_is given (part_given mid) is ∙ ap part_
 
 pub of_thread : (node : SharedView) (pass given : NodePass) → IsPassOf node pass → given ≡ part_given pass → IsOfThread node given
 of_thread node pass given own is = subst (IsOfThread node) (sym is) (own, refl)
+
+-- A THREAD has ended, and left a pass of the same node.
+pub still_of_thread : (node : SharedView) (pass after : NodePass) → IsOfThread node pass → IsOutsideAgain pass after → IsOfThread node after
+still_of_thread node pass after own out = ((out.0 ∙ own.0.0, (out.3 ∙ own.0.1, out.1)), out.2 ∙ own.1)
+
+start_is : {O : Type 0} (post : Post O) (pass : NodePass) (jobs : Taken) (outlet : O) → start_of post ≡ Some (pass, jobs, outlet) → post ≡ Waits pass jobs outlet
+start_is {O} (Waits other others another) pass jobs outlet is =
+    let same : ◌≡◌ {A = NodePass × Taken × O} (other, others, another) (pass, jobs, outlet) = cc in
+    ap (λ (start : NodePass × Taken × O). Waits start.0 start.1 start.2) same
+start_is (Left ended) pass jobs outlet is = absurd cc
+start_is Serves pass jobs outlet is = absurd cc
+
+pub has_worked : {O : Type 0} (given : O → Option (List Parcel)) (faults : O → ℕ) (node : SharedView) (before after : Member O) (pass : NodePass) (jobs : Taken) (outlet : O) (ended : Done O)
+    → MayWork node before → start_of before.post ≡ Some (pass, jobs, outlet) → after.post ≡ Left ended → after.number ≡ before.number → after.rows ≡ before.rows
+    → IsOutsideAgain pass ended.pass → ended.queue.queue ≡ jobs.queue → IsEnded ended.queue.taken → ((accounts : Accounts) → HaveBegun before.rows accounts → Worked given faults before.rows accounts pass outlet ended)
+    → HasWorked given faults node before after
+has_worked given faults node before after pass jobs outlet ended may start left number rows out queue to_end worked =
+    let began = start_is before.post pass jobs outlet start in
+    let ready : IsReady node before.rows pass jobs = subst (IsWaiting node before.rows) began may in
+    record {
+      pass = pass;
+      jobs = jobs;
+      outlet = outlet;
+      ended = ended;
+      began = began;
+      left = left;
+      number = number;
+      rows = rows;
+      is_left = record { own = still_of_thread node pass ended.pass ready.own out; to_end = to_end };
+      queue = queue;
+      worked = worked;
+    }
