@@ -53,8 +53,8 @@ pub each_push : {X : Type 0} (P : ℕ → X → Type 0) (all xs : List X) (x : X
 each_push {X} P all xs x n is len each one k d lt = dite (ℕ_discrete k n)
     (λ here. subst (λ (w : ℕ). P w (get_or all k d)) (sym here) (subst (P n) (sym (ap (λ (l : List X). get_or l k d) is ∙ get_or_push xs x d k (len ∙ sym here))) one))
     (λ other.
-        let before : k < n = omega arith in
-        subst (P k) (sym (ap (λ (l : List X). get_or l k d) is ∙ get_or_append_left xs (x ∷ []) d k (omega arith))) (each k d before))
+    let before : k < n = omega arith in
+    subst (P k) (sym (ap (λ (l : List X). get_or l k d) is ∙ get_or_append_left xs (x ∷ []) d k (omega arith))) (each k d before))
 
 pub all_more : {X : Type 0} (P : X → Type 0) (all xs : List X) (x : X) → all ≡ xs ++ x ∷ [] → All P xs → P x → All P all
 all_more P all xs x is each one = All-same P all (xs ++ x ∷ []) is (All-push P xs x each one)

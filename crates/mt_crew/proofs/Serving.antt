@@ -89,11 +89,11 @@ module _ {O : Type 0} (given : O → Option (List Parcel)) (faults : O → ℕ) 
       let count : length s.services ≡ length lent = count_is s seats in
       let entries : length book ≡ length after.seen = ap length seen in
       let sums : (k : ℕ) → how_often k after.places ≡ how_often k clerk.pass.places + total (times_got k) s.services = λ k.
-          let all = gathered.places k in
-          let zero : how_often k before.places ≡ 0 = ap (how_often k) none in
-          let left = ap (total (times_left {O = O} k)) s.left in
-          let each = total_map (times_left {O = O} k) (λ (service : Service O). service.left) s.services in
-          omega arith in
+      let all = gathered.places k in
+      let zero : how_often k before.places ≡ 0 = ap (how_often k) none in
+      let left = ap (total (times_left {O = O} k)) s.left in
+      let each = total_map (times_left {O = O} k) (λ (service : Service O). service.left) s.services in
+      omega arith in
       record {
         numbers = numbers_are s seats ∙ ap upto (sym count);
         rows = λ k d lt.
@@ -138,7 +138,7 @@ module _ {O : Type 0} (given : O → Option (List Parcel)) (faults : O → ℕ) 
     came_and_taken s seats ids are len unput took got =
         let workers : workers_of before.senders.items ≡ length lent = omega arith in
         let put : AllPut (λ (k : ℕ). jobs_for (length lent) k before.ids.items 0 got.given ++ End ∷ []) before.senders.items after.senders.items =
-            subst (λ (n : ℕ). AllPut (λ (k : ℕ). jobs_for n k before.ids.items 0 got.given ++ End ∷ []) before.senders.items after.senders.items) workers got.put in
+        subst (λ (n : ℕ). AllPut (λ (k : ℕ). jobs_for n k before.ids.items 0 got.given ++ End ∷ []) before.senders.items after.senders.items) workers got.put in
         record {
           arrivals = got.given;
           came = got.came;

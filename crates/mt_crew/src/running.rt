@@ -1,6 +1,6 @@
 //! From a node to its book.
 
-ghost use Rattle.std.specs.Prelude.{◌≡◌, ◌<◌, ◌≤◌, ℕ, List, None, Some, length, true};
+ghost use Rattle.std.specs.Prelude.{◌≡◌, ◌<◌, ◌≤◌, ℕ, List, None, Some, is_some, length, true};
 ghost use Rattle.mt_model.specs.declared.texts.config.SessionRow.{SessionRow};
 ghost use Rattle.mt_owners.specs.mt_shared.Acts.{IsHalted};
 ghost use Rattle.mt_owners.specs.mt_shared.Book.{are_in_time, is_timed, stop_in};
@@ -91,6 +91,7 @@ pub fn run<
     ensures node { result.held.node ≡ replay node.origin result.held.book.items }
     ensures kept { stop_in result.held.book.items ≡ None → K.map result.held.keeper ≡ Some (map_of result.held.node) }
     ensures halted { (stop : AnyStop) → stop_in result.held.book.items ≡ Some stop → IsHalted stop result.held.node result.held.book.items (K.map result.held.keeper) }
+    ensures failed { K.failed result.held.keeper ≡ is_some (stop_in result.held.book.items) }
     ensures in_time { are_in_time result.held.book.items ≡ true }
     ensures timed { is_timed 0 result.held.book.items ≡ true }
     ensures length { length result.outlets.items ≡ length outlets.items }
