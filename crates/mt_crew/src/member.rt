@@ -110,7 +110,7 @@ impl<O: Outlet + Drop> Member<O> {
         gate: &G,
     )
         requires ready { MayWork node.now self.old }
-        ensures worked { HasWorked node.now self.new }
+        ensures worked { HasWorked O.given O.faults node.now self.old self.new }
     {
         let start = mem::replace(&mut self.post, Post::Serves).into_start();
         if let Some((pass, jobs, outlet)) = start {
