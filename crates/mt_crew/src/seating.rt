@@ -16,8 +16,7 @@ ghost use Rattle.mt_crew.specs.declared.seating.TheConstants.{WORKERS};
 use crate::member::{Member, Post};
 use mt_durable::Keeper;
 use mt_model::{SessionRow, SessionRows, Verdicts};
-use mt_owners::mt_shared::{NodePass, SharedNode};
-use mt_owners::{ids_of, rows_of};
+use mt_owners::{NodePass, SharedNode, ids_of, rows_of};
 use mt_queue::{JobSender, Jobs, queue};
 use std::alloc::{AllocError, Global};
 
