@@ -1,5 +1,5 @@
 -- What serving comes to, from the disk to the record.
-use Rattle.std.specs.Prelude.{◌≡◌, ◌⊎◌, ℕ, List, Option, Some, All, length, map, ⊤}
+use Rattle.std.specs.Prelude.{◌≡◌, ◌⊎◌, ℕ, true, List, Option, Some, All, length, map, ⊤}
 use Rattle.mt_model.specs.declared.texts.config.Config.{Config}
 use Rattle.mt_outside.specs.Network.{AreInOrder}
 use Rattle.mt_outside.specs.Stream.{Took}

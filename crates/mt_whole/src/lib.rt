@@ -34,7 +34,7 @@ pub use mt_interactions::{
     runs_are_their_messages, states_are_valid, stops_leave_all, wholes_are_valid,
 };
 pub use mt_marks::{
-    Descriptor, Descriptors, Mark, Mark, Note, Part, Recent, ToldTalks, Unanswered,
+    Descriptor, Descriptors, Mark, Note, Part, Recent, ToldTalks, Unanswered,
     equal_marks_do_not_differ, first_difference, parts_come_in_order,
 };
 pub use mt_talk::session_named;
