@@ -1,2 +1,3 @@
-pub mod Records
 pub mod Courses
+pub mod Ends
+pub mod Records

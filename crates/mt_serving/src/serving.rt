@@ -165,7 +165,10 @@ fn tell_end<W: Sink>(alloc: Global, book: &[Entry], status: u8, out: &mut W) -> 
             Some(fault) => finish_serving(alloc, fault, out),
             None => 0,
         },
-        Err(RecordFault::Write) if status != 7 => 6,
-        Err(_) => finish_serving(alloc, ServeFault::Memory, out),
+        Err(RecordFault::Write) => match status {
+            7 => finish_serving(alloc, ServeFault::Memory, out),
+            _ => 6,
+        },
+        Err(RecordFault::Memory) => finish_serving(alloc, ServeFault::Memory, out),
     }
 }
