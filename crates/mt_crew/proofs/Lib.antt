@@ -1,0 +1,6 @@
+mod Crews
+mod Gatherings
+mod Jobs
+mod Lists
+mod Serving
+mod Statuses

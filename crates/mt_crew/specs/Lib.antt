@@ -1,2 +1,9 @@
+pub mod Gathering
 pub mod Members
 pub mod Ready
+pub mod Serves
+pub mod mt_interactions
+pub mod mt_receiver
+pub mod mt_served
+pub mod mt_worker
+pub mod mt_legal

@@ -6,8 +6,7 @@ ghost use Rattle.mt_crew.specs.Members.{HasWorked, MayWork, left_of, start_of};
 use mt_durable::Keeper;
 use mt_model::{SessionRows, Verdicts};
 use mt_outside::{Gate, Outlet};
-use mt_owners::mt_shared::{NodePass, SharedNode};
-use mt_owners::mt_worker::{Done, worker};
+use mt_owners::{Done, NodePass, SharedNode, worker};
 use mt_queue::Jobs;
 use std::alloc::Global;
 use std::mem;
@@ -110,7 +109,7 @@ impl<O: Outlet + Drop> Member<O> {
         gate: &G,
     )
         requires ready { MayWork node.now self.old }
-        ensures worked { HasWorked node.now self.new }
+        ensures worked { HasWorked O.given O.faults node.now self.old self.new }
     {
         let start = mem::replace(&mut self.post, Post::Serves).into_start();
         if let Some((pass, jobs, outlet)) = start {

@@ -1,22 +1,22 @@
 //! From a node to its book.
 
-ghost use Rattle.std.specs.Prelude.{◌≡◌, ◌<◌, ◌≤◌, None, Some, length};
+ghost use Rattle.std.specs.Prelude.{◌≡◌, ◌<◌, ◌≤◌, ℕ, List, None, Some, is_some, length, true};
+ghost use Rattle.mt_model.specs.declared.texts.config.SessionRow.{SessionRow};
 ghost use Rattle.mt_owners.specs.mt_shared.Acts.{IsHalted};
-ghost use Rattle.mt_owners.specs.mt_shared.Book.{stop_in};
+ghost use Rattle.mt_owners.specs.mt_shared.Book.{are_in_time, is_timed, stop_in};
 ghost use Rattle.mt_owners.specs.mt_shared.Replay.{map_of, replay};
 ghost use Rattle.mt_owners.specs.mt_shared.Stop.{Stop as AnyStop};
 ghost use Rattle.mt_turn.specs.Known.{first_pass};
-ghost use Rattle.mt_crew.specs.Ready.{AreReady};
+ghost use Rattle.mt_crew.specs.Ready.{AreReady, HaveSessions};
+ghost use Rattle.mt_crew.specs.Serves.{HasServed, status_of};
 
-use crate::gathering::{first_of, gather};
-use crate::seating::{Places, seat_all};
+use crate::gathering::{first_of, gather_all};
+use crate::seating::{Places, Seated, take_places};
 use crate::threads::{Reception, serve_all};
 use mt_durable::Keeper;
 use mt_model::Verdicts;
 use mt_outside::{Gate, Intake, Outlet, Progress};
-use mt_owners::mt_receiver::{ReceiveFault, Received};
-use mt_owners::mt_shared::{Held, NodePass, SharedNode};
-use mt_owners::mt_worker::Done;
+use mt_owners::{Held, NodePass, ReceiveFault, Received, SharedNode};
 use std::alloc::Global;
 use std::sync::Wait;
 use std::thread::Threads;
@@ -90,54 +90,41 @@ pub fn run<
     ensures node { result.held.node ≡ replay node.origin result.held.book.items }
     ensures kept { stop_in result.held.book.items ≡ None → K.map result.held.keeper ≡ Some (map_of result.held.node) }
     ensures halted { (stop : AnyStop) → stop_in result.held.book.items ≡ Some stop → IsHalted stop result.held.node result.held.book.items (K.map result.held.keeper) }
+    ensures failed { K.failed result.held.keeper ≡ is_some (stop_in result.held.book.items) }
+    ensures in_time { are_in_time result.held.book.items ≡ true }
+    ensures timed { is_timed 0 result.held.book.items ≡ true }
     ensures length { length result.outlets.items ≡ length outlets.items }
+    ensures crew { (boot : ℕ) (sessions : List SessionRow) → HaveSessions boot (length outlets.items) sessions places
+        → HasServed I.held I.clock I.faults O.given O.faults node boot sessions limit outlets.items result.outlets.items intake result.intake result.received result.held.book.items result.status }
 {
-    let (senders, mut jobs, mut rows, mut members, ids) = places.into_parts();
     let number = outlets.len() as u32;
-    let Some(ticks) = jobs.pop() else {
-        unreachable!()
-    };
-    let given = node.split(&mut pass).ok().unwrap();
-    seat_all(
-        &node,
-        &mut pass,
-        &mut outlets,
-        &mut jobs,
-        &mut rows,
-        &mut members,
-    );
+    let Seated {
+        pass: given,
+        ticks,
+        members,
+        senders,
+        ids,
+    } = take_places(&node, &mut pass, &mut outlets, places);
     let reception = Reception::new(intake, senders, ids, limit, progress);
-    let ((received, reception), (reported, mut members)) = serve_all(
+    let ((received, reception), (clerk, members)) = serve_all(
         rt, alloc, &node, gate, reception, number, given, ticks, members,
     );
-    let (other, last) = left_of(reported);
-    node.join(&mut pass, other);
-    let worked = gather(&node, &mut pass, &mut outlets, &mut members);
+    let (intake, senders) = reception.into_parts();
+    let left = gather_all(&node, &mut pass, &mut outlets, senders, clerk, members);
     let held = node.close(pass);
     Ended {
-        status: first_of(status_of(&received), first_of(worked, last)),
+        status: first_of(status_of(&received), left),
         held,
         received,
-        intake: reception.into_intake(),
+        intake,
         outlets,
     }
 }
 
-// The pass and the status of a thread that has ended.
-fn left_of<O: Drop>(done: Done<O>) -> (NodePass, u8)
-    ensures { result ≡ (done.pass, done.status) }
-{
-    let Done {
-        outlet: _,
-        pass,
-        queue: _,
-        status,
-    } = done;
-    (pass, status)
-}
-
 // The status of how the receiver ended.
-fn status_of(received: &Received) -> u8 {
+fn status_of(received: &Received) -> u8
+    ensures { result ≡ status_of received.now.ended }
+{
     match received.ended {
         Ok(()) => 0,
         Err(ReceiveFault::Memory) => 7,

@@ -1,15 +1,14 @@
 //! All threads beside each other.
 
-ghost use Rattle.std.specs.Prelude.{◌≡◌, ◌<◌, [], All, length};
-ghost use Rattle.mt_crew.specs.Members.{HasWorked, IsOfThread, MayWork};
+ghost use Rattle.std.specs.Prelude.{◌≡◌, ◌<◌, ℕ, [], All, length, slice_index_or};
+ghost use Rattle.mt_crew.specs.Members.{HasReported, HasWorked, IsOfThread, MayWork};
+ghost use Rattle.mt_crew.specs.Serves.{HasReceived};
 
 use crate::member::Member;
 use mt_durable::Keeper;
 use mt_model::Verdicts;
 use mt_outside::{Gate, Intake, Outlet, Progress};
-use mt_owners::mt_receiver::{Received, receive};
-use mt_owners::mt_shared::{NodePass, SharedNode, shared_nodes_are_lent};
-use mt_owners::mt_worker::{Done, reporter};
+use mt_owners::{Done, NodePass, Received, SharedNode, receive, reporter, shared_nodes_are_lent};
 use mt_queue::{JobSender, Jobs};
 use std::alloc::Global;
 use std::sync::Wait;
@@ -45,7 +44,9 @@ impl<I: Drop, P: Drop> Reception<I, P> {
         limit: u32,
         progress: P,
     ) -> Reception<I, P>
+        ensures intake { result.intake ≡ intake }
         ensures senders { result.senders ≡ senders }
+        ensures ids { result.ids ≡ ids }
         ensures limit { result.limit ≡ limit }
     {
         Reception {
@@ -57,18 +58,18 @@ impl<I: Drop, P: Drop> Reception<I, P> {
         }
     }
 
-    /// The intake.
-    pub(crate) fn into_intake(self) -> I
-        ensures { result ≡ self.intake }
+    /// The intake and the queues.
+    pub(crate) fn into_parts(self) -> (I, Vec<JobSender>)
+        ensures { result ≡ (self.intake, self.senders) }
     {
         let Reception {
             intake,
-            senders: _,
+            senders,
             ids: _,
             limit: _,
             progress: _,
         } = self;
-        intake
+        (intake, senders)
     }
 }
 
@@ -77,6 +78,7 @@ impl<I: Intake + Drop, P: Progress + Drop> Reception<I, P> {
     fn receive<R: Wait>(mut self, rt: &R, alloc: Global) -> (Received, Reception<I, P>)
         requires several { 1 < length self.senders.items }
         requires some { 0 < self.limit }
+        ensures received { HasReceived I.held I.clock I.faults self result.1 result.0 }
     {
         let received = receive(
             rt,
@@ -107,7 +109,7 @@ fn work_all<
 ) -> Vec<Member<O>>
     requires ready { All (MayWork node.now) members.items }
     ensures length { length result.items ≡ length members.items }
-    ensures worked { All (HasWorked node.now) result.items }
+    ensures worked { (k : ℕ) (d : _) → k < length members.items → HasWorked O.given O.faults node.now (slice_index_or members.items k d) (slice_index_or result.items k d) }
 {
     shared_nodes_are_lent::<K, V>();
     let count = members.len();
@@ -120,7 +122,7 @@ fn work_all<
         count,
         &|_, member: &mut Member<O>|
             requires { MayWork node.now member.old }
-            ensures { HasWorked node.entry.now member.new }
+            ensures { HasWorked O.given O.faults node.entry.now member.old member.new }
         { member.serve(rt, alloc, node, gate) },
     );
     members
@@ -146,21 +148,21 @@ fn report_beside<
     requires own { IsOfThread node.now pass }
     requires fresh { jobs.taken ≡ [] }
     requires ready { All (MayWork node.now) members.items }
-    ensures reported { IsOfThread node.now result.0.pass }
+    ensures reported { HasReported node.now pass jobs result.0 }
     ensures length { length result.1.items ≡ length members.items }
-    ensures worked { All (HasWorked node.now) result.1.items }
+    ensures worked { (k : ℕ) (d : _) → k < length members.items → HasWorked O.given O.faults node.now (slice_index_or members.items k d) (slice_index_or result.1.items k d) }
 {
     shared_nodes_are_lent::<K, V>();
     join(
         rt,
         move || -> Done<()>
             requires { IsOfThread node.now pass × (jobs.taken ≡ []) }
-            ensures { IsOfThread node.entry.now result.pass }
+            ensures { HasReported node.entry.now pass jobs result }
         { reporter(rt, node, pass, number, jobs, gate) },
         move || -> Vec<Member<O>>
             requires { All (MayWork node.now) members.items }
             ensures length { length result.items ≡ length members.items }
-            ensures worked { All (HasWorked node.entry.now) result.items }
+            ensures worked { (k : ℕ) (d : _) → k < length members.items → HasWorked O.given O.faults node.entry.now (slice_index_or members.items k d) (slice_index_or result.items k d) }
         { work_all(rt, alloc, node, gate, members) },
     )
 }
@@ -189,21 +191,23 @@ pub(crate) fn serve_all<
     requires own { IsOfThread node.now pass }
     requires fresh { jobs.taken ≡ [] }
     requires ready { All (MayWork node.now) members.items }
-    ensures reported { IsOfThread node.now result.1.0.pass }
+    ensures received { HasReceived I.held I.clock I.faults reception result.0.1 result.0.0 }
+    ensures reported { HasReported node.now pass jobs result.1.0 }
     ensures length { length result.1.1.items ≡ length members.items }
-    ensures worked { All (HasWorked node.now) result.1.1.items }
+    ensures worked { (k : ℕ) (d : _) → k < length members.items → HasWorked O.given O.faults node.now (slice_index_or members.items k d) (slice_index_or result.1.1.items k d) }
 {
     shared_nodes_are_lent::<K, V>();
     join(
         rt,
         move || -> (Received, Reception<I, P>)
             requires { (1 < length reception.senders.items) × (0 < reception.limit) }
+            ensures { HasReceived I.held I.clock I.faults reception result.1 result.0 }
         { reception.receive(rt, alloc) },
         move || -> (Done<()>, Vec<Member<O>>)
             requires { IsOfThread node.now pass × (jobs.taken ≡ []) × All (MayWork node.now) members.items }
-            ensures reported { IsOfThread node.entry.now result.0.pass }
+            ensures reported { HasReported node.entry.now pass jobs result.0 }
             ensures length { length result.1.items ≡ length members.items }
-            ensures worked { All (HasWorked node.entry.now) result.1.items }
+            ensures worked { (k : ℕ) (d : _) → k < length members.items → HasWorked O.given O.faults node.entry.now (slice_index_or members.items k d) (slice_index_or result.1.items k d) }
         { report_beside(rt, alloc, node, gate, number, pass, jobs, members) },
     )
 }

@@ -17,7 +17,7 @@ ghost use Rattle.mt_starting.specs.Crashes.{AlwaysTells, IsEither, IsSafe};
 
 use mt_durable::{Keeper, bytes_of_a_change_are_read, changes_lead_on};
 use mt_outside::{Disk, Failed};
-use mt_shared::mt_keeping::{Store, states_may_be_committed};
+use mt_shared::{Store, states_may_be_committed};
 use std::marker::Model;
 
 /// A store to which was committed since it was recovered. By its type is known of each, whoever held it, what a crash leaves of its
