@@ -101,13 +101,13 @@ module _ {D : Type 0} (contents : D → Option (List ℕ)) (images : D → List 
           elim (cases_Bool old.store.journal.failed) [
             | inl was ↦ subst (KeepsSafe contents images) (sym (still was)) keeps
             | inr ran ↦ record {
-                in_use = λ runs. of_ok result (new.rolled ≡ None) (sym failed ∙ runs) in_use;
-                safe = λ always runs.
-                    is_safe new (of_ok result (new.rolled ≡ None) (sym failed ∙ runs) in_use) (of_ok result (Kept new) (sym failed ∙ runs) (kept (kept_before always ran)))
-                    (λ config file. of_ok result (images new.store.journal.disk file → RecoversFrom config (told_map new) file) (sym failed ∙ runs) (acknowledged config file (kept_before always ran)));
-                either = λ always stopped.
-                    either_of (λ its config. moments config its) merged says ascend whole
-                    (is_told bytes (told_map old) (told_map new) one says ascend whole (of_err result (WasOrCommitted bytes (Some (told_map old)) (Some (told_map new))) (sym failed ∙ stopped) part))
-                    always ran;
-              }
+              in_use = λ runs. of_ok result (new.rolled ≡ None) (sym failed ∙ runs) in_use;
+              safe = λ always runs.
+                  is_safe new (of_ok result (new.rolled ≡ None) (sym failed ∙ runs) in_use) (of_ok result (Kept new) (sym failed ∙ runs) (kept (kept_before always ran)))
+                  (λ config file. of_ok result (images new.store.journal.disk file → RecoversFrom config (told_map new) file) (sym failed ∙ runs) (acknowledged config file (kept_before always ran)));
+              either = λ always stopped.
+                  either_of (λ its config. moments config its) merged says ascend whole
+                  (is_told bytes (told_map old) (told_map new) one says ascend whole (of_err result (WasOrCommitted bytes (Some (told_map old)) (Some (told_map new))) (sym failed ∙ stopped) part))
+                  always ran;
+            }
           ]

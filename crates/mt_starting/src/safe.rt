@@ -20,8 +20,8 @@ use mt_outside::{Disk, Failed};
 use mt_shared::{Store, states_may_be_committed};
 use std::marker::Model;
 
-/// A store to which was committed since it was recovered. By its type is known of each, whoever held it, what a crash leaves of its
-/// disk: while no commit has failed, what it tells; and behind a failed one that, or what it told before or would have told.
+/// A store to which was committed since it was recovered. What a crash leaves of its disk it keeps by its type: of that is recovered what a
+/// node goes on with behind the map that is told; or, once a commit has failed, behind the map from before it or the one with its change.
 /// Contracts see the store.
 pub struct SafeStore<D: Disk> {
     store: Store<D>,
@@ -49,7 +49,7 @@ impl<D: Disk + Drop> Drop for SafeStore<D> {
 }
 
 impl<D: Disk> SafeStore<D> {
-    /// Keeps a store whose last commit is acknowledged.
+    /// Keeps a store whose last commit is acknowledged, and over a disk that can always tell its contents safe.
     pub fn new(store: Store<D>) -> SafeStore<D>
         requires in_use { store.rolled ≡ None }
         requires runs { store.store.journal.failed ≡ false }
@@ -59,10 +59,12 @@ impl<D: Disk> SafeStore<D> {
         SafeStore { store }
     }
 
-    /// The disk, as it is, with what a crash leaves of it.
+    /// The disk, as it is.
     pub fn into_disk(self) -> D
         ensures disk { result ≡ self.store.journal.disk }
+        // While no commit has failed, a crash now leaves what the store tells.
         ensures safe { AlwaysTells D.contents → self.store.journal.failed ≡ false → IsSafe D.contents D.images result self.store.journal.place (told_map self) }
+        // Behind a failed commit it leaves the map from before it, or the one with its change.
         ensures left { AlwaysTells D.contents → self.store.journal.failed ≡ true → IsEither D.images result (told_map self) }
     {
         let SafeStore { store } = self;
@@ -79,7 +81,7 @@ impl<D: Disk> Keeper for SafeStore<D> {
 
     ghost faults = { λ store. D.faults store.store.journal.disk };
 
-    /// As a store commits.
+    /// It commits as a store does.
     fn commit(&mut self, change: &[u8]) -> Result<(), Failed>
         requires form { IsChange change.now }
         requires room { HasRoom change.now (Some (told_map self.old)) }
@@ -89,6 +91,7 @@ impl<D: Disk> Keeper for SafeStore<D> {
         ensures failed { self.new.store.journal.failed ≡ is_err result }
         ensures stays { IsTrue self.old.store.journal.failed → IsErr result × (Some (told_map self.new) ≡ Some (told_map self.old)) × (D.faults self.new.store.journal.disk ≡ D.faults self.old.store.journal.disk) }
         ensures cause { self.old.store.journal.failed ≡ false → HasCause (D.faults self.old.store.journal.disk) (D.faults self.new.store.journal.disk) result }
+        // Beyond what a keeper says: as of a store.
         ensures still { IsTrue self.old.store.journal.failed → self.new ≡ self.old }
         ensures in_use { OnOk result (self.new.rolled ≡ None) }
         ensures kept { KeepsMap D.contents D.images self.old.store.journal.disk self.old.store.journal.place self.old.store.image
@@ -107,6 +110,7 @@ impl<D: Disk> Keeper for SafeStore<D> {
         bytes_of_a_change_are_read();
         changes_lead_on();
         states_may_be_committed();
+        // Its image shows that the keys of the map ascend, each with a value.
         let _told = self.store.told().as_slice();
         self.store.commit(change)
     }
