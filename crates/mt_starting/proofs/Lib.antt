@@ -1,3 +1,4 @@
 pub mod Begins
 pub mod Faults
+pub mod Keeps
 pub mod Serves

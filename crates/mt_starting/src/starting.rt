@@ -10,9 +10,12 @@ ghost use Rattle.mt_shared.specs.mt_regained.Laws.{is_of_bytes};
 ghost use Rattle.mt_shared.specs.mt_regained.Reopened.{reopened_map};
 ghost use Rattle.mt_shared.specs.Acts.{HasVerdicts};
 ghost use Rattle.mt_shared.specs.Replay.{map_of};
+ghost use Rattle.mt_shared.specs.mt_keeping.Recovered.{KeepsMap};
 ghost use Rattle.mt_shared.specs.mt_keeping.States.{told_map};
+ghost use Rattle.mt_starting.specs.Crashes.{AlwaysTells, IsSafe};
 ghost use Rattle.mt_starting.specs.Starts.{HasFailedFor, HasRoom, IsBegunWith, IsStartCause, IsStartedOn, IsWornCause, MayServe, fault_of};
 
+use crate::safe::SafeStore;
 use mt_durable::{Durable, Entry, Keeper};
 use mt_grammar::kept_in;
 use mt_journal::JournalFault;
@@ -40,7 +43,7 @@ pub enum StartFault {
 /// A node that may serve, beside the store that keeps what lasts of it, and with the verdicts of its configuration.
 pub struct Started<D: Disk> {
     pub node: Interactions,
-    pub store: Store<D>,
+    pub store: SafeStore<D>,
     pub verdicts: TableVerdicts,
     pub ghost keeps: { told_map store ≡ map_of node } by { Prim.hlevel (codes, values.the_row.coded) },
     pub ghost runs: { store.store.journal.failed ≡ false },
@@ -61,7 +64,7 @@ impl<D: Disk + Drop> Drop for Started<D> {
 
 impl<D: Disk + Drop> Started<D> {
     /// The node, the store and the verdicts.
-    pub fn into_parts(self) -> (Interactions, Store<D>, TableVerdicts)
+    pub fn into_parts(self) -> (Interactions, SafeStore<D>, TableVerdicts)
         ensures parts { result ≡ (self.node, self.store, self.verdicts) }
         ensures keeps { told_map result.1 ≡ map_of result.0 }
         ensures runs { result.1.store.journal.failed ≡ false }
@@ -78,7 +81,8 @@ impl<D: Disk + Drop> Started<D> {
 }
 
 /// Starts a node with what is recovered of a disk, in its next boot and with this configuration, and commits first what that boot commits
-/// first. The node may be served. The disk comes back where that fails.
+/// first. The node may be served. Of a disk that can tell its contents a crash then leaves what that node goes on with. The disk comes
+/// back where that fails.
 pub fn start_on<D: Disk + Drop>(
     alloc: Global,
     config: &Config,
@@ -87,6 +91,8 @@ pub fn start_on<D: Disk + Drop>(
     ensures started { (file : List ℕ) → D.contents disk ≡ Some file → IfOk result (λ started. IsStartedOn config.now file started.node) }
     ensures config { IfOk result (λ started. started.node.config ≡ contents_of config.now) }
     ensures serves { IfOk result (λ started. MayServe started.node) }
+    ensures safe { (file : List ℕ) → D.contents disk ≡ Some file
+        → IfOk result (λ started. IsSafe D.contents D.images started.store.store.journal.disk started.store.store.journal.place (told_map started.store)) }
     ensures cause { (file : List ℕ) → D.contents disk ≡ Some file → IfErr result (λ refused. IsStartCause config.now file refused.1) }
     ensures failed { IfErr result (λ refused. HasFailedFor refused.1 (D.faults disk) (D.faults refused.0)) }
     ensures calm { IfOk result (λ started. D.faults started.store.store.journal.disk ≡ D.faults disk) }
@@ -118,7 +124,10 @@ fn start_with<D: Disk + Drop>(
     requires told { store.rolled ≡ Some map }
     requires rolled { reopened_map (contents_of config.now) store.store.image ≡ Some map }
     requires ready { store.store.journal.failed ≡ false }
+    requires kept { AlwaysTells D.contents → KeepsMap D.contents D.images store.store.journal.disk store.store.journal.place store.store.image }
     ensures started { IfOk result (λ started. IsBegunWith config.now map started.node) }
+    ensures safe { KeepsMap D.contents D.images store.store.journal.disk store.store.journal.place store.store.image
+        → IfOk result (λ started. IsSafe D.contents D.images started.store.store.journal.disk started.store.store.journal.place (told_map started.store)) }
     ensures cause { IfErr result (λ refused. IsWornCause map refused.1) }
     ensures failed { IfErr result (λ refused. HasFailedFor refused.1 (D.faults store.store.journal.disk) (D.faults refused.0)) }
     ensures calm { IfOk result (λ started. D.faults started.store.store.journal.disk ≡ D.faults store.store.journal.disk) }
@@ -151,7 +160,7 @@ fn start_with<D: Disk + Drop>(
     };
     Ok(Started {
         node,
-        store,
+        store: SafeStore::new(store),
         verdicts,
     })
 }

@@ -14,3 +14,9 @@ returns-in-Err-clause-cause g c file is = subst (IsStartCause c.args.config.now 
 
 pub returns-in-Err-clause-failed : goal.returns-in-Err-clause-failed
 returns-in-Err-clause-failed g c = subst (λ fault. HasFailedFor fault (g.D.Disk.faults c.args.disk) (g.D.Disk.faults c.in-Err.disk)) (sym c.fault_of.ensures) (failed_for c.in-Err.fault _ _ c.in-Err.ensures.cause)
+
+pub start_with-requires-clause-kept : goal.start_with-requires-clause-kept
+start_with-requires-clause-kept g c always = c.in-Ok.ensures.kept (always c.args.disk).0 (always c.args.disk).1
+
+pub returns-in-Ok-clause-safe : goal.returns-in-Ok-clause-safe
+returns-in-Ok-clause-safe g c file is = c.start_with.ensures.safe (c.in-Ok.ensures.kept file is)

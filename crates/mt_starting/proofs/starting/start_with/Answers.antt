@@ -1,18 +1,20 @@
-use Rattle.std.proofs.Common.{rules, ◌≡◌, ◌∙◌, ap, sym, subst, List, true}
+use Rattle.std.proofs.Common.{rules, ◌≡◌, ◌∙◌, refl, ap, sym, subst, List, true}
 use Rattle.std.specs.List.{list_all}
 use Rattle.mt_durable.specs.Maps.{have_values, keys_ascend}
 use Rattle.mt_durable.specs.declared.durable.Entry.{Entry}
 use Rattle.mt_shared.specs.mt_interactions.Configured.{IsFirst, given_to}
 use Rattle.mt_shared.specs.mt_keeping.Laws.{MayCommit}
-use Rattle.mt_shared.specs.mt_keeping.States.{told_map}
+use Rattle.mt_shared.specs.mt_keeping.States.{KeepingState, told_map}
 use Rattle.mt_shared.specs.mt_machine.Environment.{given_by}
 use Rattle.mt_shared.specs.mt_machine.State.{IsValid}
 use Rattle.mt_model.specs.texts.Contents.{contents_of}
 use Rattle.mt_opcreds.specs.Judged.{judged_by}
 use Rattle.mt_shared.specs.mt_regained.Begun.{MayStart}
 use Rattle.mt_shared.specs.mt_regained.Laws.{is_of_bytes}
+use Rattle.mt_starting.specs.Crashes.{IsSafe}
 use Rattle.mt_starting.specs.Starts.{HasRoom}
 use Rattle.mt_starting.proofs.Begins.{leads, may_commit, says, valid_start}
+use Rattle.mt_starting.proofs.Keeps.{is_safe}
 use Rattle.mt_starting.proofs.Serves.{may_serve}
 use Rattle.mt_starting.proofs.starting.start_with.Goals as goal
 
@@ -98,6 +100,11 @@ commit-requires-clause-admitted g c =
     let commits : MayCommit c.as_slice-3.result.now (told_map c.args.store) = may_commit config map one valid room c.in-Ok-start.ensures.started c.states_may_be_committed.ensures.first c.as_slice-3.result.now first (told_map c.args.store) told c.states_may_be_committed.ensures.may told_ascends told_whole in
     commits.admitted
 
+pub new-requires-2-clause-safe : goal.new-requires-2-clause-safe
+new-requires-2-clause-safe g c always =
+    let committed = c.in-Ok-commit.ensures in
+    is_safe {D = g.row.D.Denot} g.D.Disk.contents g.D.Disk.images c.commit.new.self committed.in_use (committed.kept (c.requires.kept always)) (λ config file. committed.acknowledged config file (c.requires.kept always))
+
 pub invariant_of-result : goal.invariant_of-result
 invariant_of-result g c =
     let config = c.args.config.now in
@@ -123,10 +130,11 @@ invariant_of-result g c =
     let after : told_map c.commit.new.self ≡ committed.0 = cc in
     record {
       keeps =
-          after
+          ap (λ (state : KeepingState g.row.D.Denot). told_map state) c.new-2.ensures
+          ∙ after
           ∙ c.states_may_be_committed.ensures.one _ (told_map c.args.store) committed.0 c.as_slice-3.result.now told_ascends told_whole (says config map one valid room c.in-Ok-start.ensures.started c.states_may_be_committed.ensures.first c.as_slice-3.result.now first (told_map c.args.store) told) committed.1
           ∙ leads config map one valid room c.in-Ok-start.ensures.started c.states_may_be_committed.ensures.first c.as_slice-3.result.now first (told_map c.args.store) told;
-      runs = c.in-Ok-commit.ensures.failed;
+      runs = ap (λ (state : KeepingState g.row.D.Denot). state.store.journal.failed) c.new-2.ensures ∙ c.in-Ok-commit.ensures.failed;
       judged =
           (let is : given_to one c.in-Ok-new.verdicts.roots c.in-Ok-new.verdicts.csrs c.in-Ok-new.verdicts.joins ≡ given_by (contents_of config) = λ i. record {
             judged = judged_by (c.in-Ok-new.ensures.roots i) (c.in-Ok-new.ensures.csrs i) (c.in-Ok-new.ensures.joins i);
@@ -136,3 +144,15 @@ invariant_of-result g c =
       valid = valid;
       serves = may_serve c.wholes_are_valid.ensures.opens config map one c.in-Ok-start.ensures.started valid;
     }
+
+pub returns-clause-started : goal.returns-clause-started
+returns-clause-started g c = record { room = c.in-Ok-true.ensures.0 c.in-Ok-true.field-0-test; started = c.in-Ok-start.ensures.started }
+
+pub returns-clause-safe : goal.returns-clause-safe
+returns-clause-safe g c kept =
+    let committed = c.in-Ok-commit.ensures in
+    subst (λ (state : KeepingState g.row.D.Denot). IsSafe {D = g.row.D.Denot} g.D.Disk.contents g.D.Disk.images state.store.journal.disk state.store.journal.place (told_map state)) (sym c.new-2.ensures)
+    (is_safe {D = g.row.D.Denot} g.D.Disk.contents g.D.Disk.images c.commit.new.self committed.in_use (committed.kept kept) (λ config file. committed.acknowledged config file kept))
+
+pub returns-clause-calm : goal.returns-clause-calm
+returns-clause-calm g c = ap (λ (state : KeepingState g.row.D.Denot). g.D.Disk.faults state.store.journal.disk) c.new-2.ensures ∙ (c.in-Ok-commit.ensures.cause c.requires.ready).stays refl
