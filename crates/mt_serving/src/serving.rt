@@ -81,7 +81,7 @@ pub fn serve_with<
     ensures served { (file : List ℕ) → D.contents disk ≡ Some file → result.status ≡ 0
         → IsServed I.held I.clock O.given config.now file limit outlets.items result.outlets.items intake result.intake (W.written out.old) (W.written out.new) }
     ensures course { (file : List ℕ) → D.contents disk ≡ Some file
-        → Course I.held I.clock O.given config.now file limit outlets.items result.outlets.items intake result.intake result.status (W.written out.old) (W.written out.new) (W.faults out.old) (W.faults out.new) }
+        → Course I.held I.clock O.given D.contents D.images config.now file limit outlets.items result.outlets.items intake result.intake result.disk result.status (W.written out.old) (W.written out.new) (W.faults out.old) (W.faults out.new) }
 {
     match start_on(alloc, config, disk) {
         Ok(started) => serve_started(
@@ -119,7 +119,7 @@ fn serve_started<
     requires some { 0 < limit }
     requires configured { started.node.config ≡ contents_of config.now }
     ensures outlets { length result.outlets.items ≡ length outlets.items }
-    ensures ran { Ran I.held I.clock O.given started.node limit outlets.items result.outlets.items intake result.intake result.status (W.written out.old) (W.written out.new) (W.faults out.old) (W.faults out.new) }
+    ensures ran { Ran I.held I.clock O.given D.contents D.images started.node limit outlets.items result.outlets.items intake result.intake result.disk result.status (W.written out.old) (W.written out.new) (W.faults out.old) (W.faults out.new) }
 {
     let (node, store, verdicts) = started.into_parts();
     let boot = node.state().boot;

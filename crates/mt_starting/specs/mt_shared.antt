@@ -2,3 +2,5 @@
 pub use Rattle.mt_shared.specs.Book
 pub use Rattle.mt_shared.specs.declared.entry.Entry
 pub use Rattle.mt_shared.specs.declared.entry.Stop
+pub use Rattle.mt_shared.specs.Replay
+pub use Rattle.mt_shared.specs.Shared

@@ -23,11 +23,12 @@ module _ {I O : Type 0} (held : I → Option (List Arrival)) (clock : I → ℕ)
 
   -- THE COURSE of what the words ask, at every status: there is another number of outlets than of workers; or the source held no configuration; or it held one,
   -- and where the disk tells what it had, all that came then is told.
-  pub data HasCourse (found : ServeWords) (old new : Input) (told : Option (List ℕ)) (lent returned : List O) (intake left : I) (status : ℕ) (before after : Option (List ℕ)) (faults now : ℕ) : Type 0 where
-    miscounted : length lent ≢ found.asked.workers → returned ≡ lent → left ≡ intake → IsTold BadWords status before after faults now
-        → HasCourse found old new told lent returned intake left status before after faults now
-    unread : (fault : Fault) → StopsConfiguring fault old new → returned ≡ lent → left ≡ intake → Finishes fault status before after faults now
-        → HasCourse found old new told lent returned intake left status before after faults now
+  pub data HasCourse {D : Type 0} (contents : D → Option (List ℕ)) (images : D → List ℕ → Type 0) (found : ServeWords) (old new : Input) (lent returned : List O) (intake left : I) (disk back : D) (status : ℕ)
+      (before after : Option (List ℕ)) (faults now : ℕ) : Type 0 where
+    miscounted : length lent ≢ found.asked.workers → returned ≡ lent → left ≡ intake → back ≡ disk → IsTold BadWords status before after faults now
+        → HasCourse contents images found old new lent returned intake left disk back status before after faults now
+    unread : (fault : Fault) → StopsConfiguring fault old new → returned ≡ lent → left ≡ intake → back ≡ disk → Finishes fault status before after faults now
+        → HasCourse contents images found old new lent returned intake left disk back status before after faults now
     read : (config : Config) → Configured config old new
-        → ((file : List ℕ) → told ≡ Some file → Course held clock given config file found.asked.datagrams lent returned intake left status before after faults now)
-        → HasCourse found old new told lent returned intake left status before after faults now
+        → ((file : List ℕ) → contents disk ≡ Some file → Course held clock given contents images config file found.asked.datagrams lent returned intake left back status before after faults now)
+        → HasCourse contents images found old new lent returned intake left disk back status before after faults now
