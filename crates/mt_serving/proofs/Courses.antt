@@ -1,5 +1,5 @@
 -- What the threads of a started node did is serving.
-use Rattle.std.proofs.Common.{◌≡◌, ◌∙◌, refl, sym, ap, subst, ℕ, ◌<◌, ◌==◌, Bool, true, false, inl, inr, if◌then◌else◌, eqb-eq, List, [], ◌∷◌, ◌++◌, Option, Result, Ok, Err, length, map, arith}
+use Rattle.std.proofs.Common.{◌≡◌, ◌∙◌, refl, sym, ap, subst, ℕ, ◌<◌, ◌==◌, Bool, true, false, inl, inr, if◌then◌else◌, List, [], ◌∷◌, ◌++◌, Option, Result, Ok, Err, length, map, arith}
 use Rattle.std.proofs.lemmas.Bool.{cases_Bool, eqb-true}
 use lib.ListN.{length-map}
 use Rattle.std.proofs.lemmas.List.Elements.{All-cons, All-nil}
@@ -65,6 +65,7 @@ module _ {I O : Type 0} (held : I → Option (List Arrival)) (clock faults : I �
   }
 
   pub serves_all : status ≡ 0 → ServesAll held clock given node.origin limit lent returned intake left book
+  unfolding serves
   serves_all none =
       let first = none_of_both (status_of received.ended) (first_fault (map status_in its.services ++ its.clerk.status ∷ [])) (sym its.status_is ∙ none) in
       let well = all_well its.services its.clerk.status first.1 in
