@@ -13,8 +13,7 @@ ghost use Rattle.mt_play.specs.Remembers.{IsRemembering};
 ghost use Rattle.mt_compare.specs.Sides.{mark_in};
 
 use crate::side::{Here, Side};
-use mt_play::Remembering;
-use mt_play::mt_marks::{Mark, Part, Unanswered, first_difference, parts_come_in_order};
+use mt_play::{Mark, Part, Remembering, Unanswered, first_difference, parts_come_in_order};
 use mt_same::Same;
 use std::alloc::AllocError;
 

@@ -17,7 +17,7 @@ ghost use Rattle.mt_compare.specs.Sides.{left_of};
 use crate::between::part_between;
 use crate::side::{LineOf, Side};
 use mt_model::{Config, Event};
-use mt_play::mt_marks::Part;
+use mt_play::Part;
 use std::alloc::{AllocError, Global};
 
 /// Where two runs first differ for a fabric.

@@ -14,7 +14,9 @@ mod side;
 mod text;
 
 pub use comparing::{Difference, compare};
-pub use mt_play;
-pub use mt_play::{mt_marks, mt_runs};
+pub use mt_play::{
+    Playing, equal_marks_do_not_differ, equal_marks_have_equal_messages, expiries_are_rollbacks,
+    reopenings_are_exact, replies_are_exact, runs_are_their_messages, wholes_are_valid,
+};
 pub use side::LineOf;
 pub use text::comparison_text;

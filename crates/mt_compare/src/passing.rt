@@ -4,7 +4,7 @@ ghost use Rattle.std.specs.Prelude.{◌≡◌, IfOk};
 ghost use Rattle.mt_compare.specs.Passing.{left_by, passed_by};
 
 use mt_model::{Event, ExactCopy};
-use mt_play::mt_marks::Unanswered;
+use mt_play::Unanswered;
 use std::alloc::AllocError;
 
 /// What an event that is carried out makes of a fabric's place in the table.

@@ -14,8 +14,7 @@ ghost use Rattle.mt_compare.specs.Sides.{GoesOn, HasLooked, HasPassed, HasSeen, 
 use crate::passing::{Passed, change_of, left_unanswered};
 use mt_model::{Config, Event};
 use mt_outside::Fate;
-use mt_play::mt_marks::{Mark, Unanswered};
-use mt_play::{ComingStop, Course, Planned, Remembering};
+use mt_play::{ComingStop, Course, Mark, Planned, Remembering, Unanswered};
 use std::alloc::{AllocError, Global};
 
 /// A mark, as far as it is not in the node at which it stands.

@@ -16,7 +16,7 @@ use Rattle.mt_owners.specs.mt_worker.Due.{HaveBegun}
 use Rattle.mt_owners.specs.mt_worker.Works.{Worked}
 use Rattle.mt_served.specs.Crews as crews
 use Rattle.mt_served.specs.Crews.{DidItsWork, Service, lent_of}
-use Rattle.mt_shares.specs.Merging.{upto}
+use Rattle.mt_served.specs.mt_shares.Merging.{upto}
 use Rattle.mt_turn.specs.Counts.{total}
 use Rattle.mt_turn.specs.History.{IsOutsideAgain}
 use Rattle.mt_turn.specs.Known.{part_given}

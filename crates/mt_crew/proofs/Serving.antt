@@ -22,7 +22,7 @@ use Rattle.mt_owners.specs.mt_worker.Due.{id_of}
 use Rattle.mt_owners.specs.mt_worker.Works.{Reported}
 use Rattle.mt_served.specs.Crews as crews
 use Rattle.mt_served.specs.Crews.{DidItsWork, IsCrew, Service, TookTheirJobs, begun_pass, lent_of, returned_of, times_got}
-use Rattle.mt_shares.specs.Merging.{upto}
+use Rattle.mt_served.specs.mt_shares.Merging.{upto}
 use Rattle.mt_turn.specs.Counts.{how_often, total}
 use Rattle.mt_crew.specs.Gathering.{GatheredAll, TookOfAll, first_fault, first_of, outlet_left, queue_left, status_left, times_left}
 use Rattle.mt_crew.specs.Members.{HasReported, HasWorked, jobs_in, lefts, number_of, rows_of}

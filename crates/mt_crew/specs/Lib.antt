@@ -6,3 +6,4 @@ pub mod mt_interactions
 pub mod mt_receiver
 pub mod mt_served
 pub mod mt_worker
+pub mod mt_legal

@@ -5,7 +5,7 @@ use Rattle.mt_queue.specs.Ends.{Put, QueueId, Taken}
 use Rattle.mt_owners.specs.Rows.{AreRowsOf, rows_in}
 use Rattle.mt_owners.specs.mt_worker.Due.{id_of}
 use Rattle.mt_owners.specs.mt_shared.Shared.{NodePass, SharedView}
-use Rattle.mt_shares.specs.Merging.{upto}
+use Rattle.mt_served.specs.mt_shares.Merging.{upto}
 use Rattle.mt_crew.specs.Members.{BeginsWith, IsOfThread, MayHave, MayWork, jobs_in, number_of, outlets_in, rows_of}
 use Rattle.mt_crew.specs.declared.seating.Places.{Places}
 use Rattle.mt_crew.specs.declared.seating.Seated.{Seated}

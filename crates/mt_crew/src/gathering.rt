@@ -10,8 +10,7 @@ ghost use Rattle.mt_crew.specs.Ready.{queue_put};
 use crate::member::Member;
 use mt_durable::Keeper;
 use mt_model::Verdicts;
-use mt_owners::mt_shared::{NodePass, SharedNode};
-use mt_owners::mt_worker::Done;
+use mt_owners::{Done, NodePass, SharedNode};
 use mt_queue::JobSender;
 
 /// Takes in what one thread has left, once what it took is compared with what was put into its queue. The answer is its outlet and its

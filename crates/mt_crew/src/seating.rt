@@ -7,7 +7,7 @@ ghost use Rattle.mt_model.specs.declared.texts.config.SessionRow.{SessionRow};
 ghost use Rattle.mt_model.specs.texts.Config.{are_sessions};
 ghost use Rattle.mt_owners.specs.Rows.{AreRowsOf};
 ghost use Rattle.mt_owners.specs.mt_shared.Shared.{IsPassOf};
-ghost use Rattle.mt_shares.specs.Merging.{upto};
+ghost use Rattle.mt_served.specs.mt_shares.Merging.{upto};
 ghost use Rattle.mt_turn.specs.Known.{part_given};
 ghost use Rattle.mt_crew.specs.Members.{BeginsWith, MayHave, MayWork, jobs_in, number_of, outlets_in, rows_of};
 ghost use Rattle.mt_crew.specs.Ready.{AreReady, AreSeated, HaveSessions, IsFresh, IsUnput, queue_put, queue_taken};
@@ -16,8 +16,7 @@ ghost use Rattle.mt_crew.specs.declared.seating.TheConstants.{WORKERS};
 use crate::member::{Member, Post};
 use mt_durable::Keeper;
 use mt_model::{SessionRow, SessionRows, Verdicts};
-use mt_owners::mt_shared::{NodePass, SharedNode};
-use mt_owners::{ids_of, rows_of};
+use mt_owners::{NodePass, SharedNode, ids_of, rows_of};
 use mt_queue::{JobSender, Jobs, queue};
 use std::alloc::{AllocError, Global};
 

@@ -17,7 +17,7 @@ use mt_meta::clusters::basic_information::START_UP;
 use mt_model::limits::FABRICS;
 use mt_model::{Actor, Happened, Items, NodeStep, Paths, Place, Steps};
 use mt_node::Node;
-use mt_runs::mt_ledger::{histories_grow_by_events, histories_stay_histories};
+use mt_runs::{histories_grow_by_events, histories_stay_histories};
 use mt_tlv::{Members, Tag, Value};
 use std::alloc::{AllocError, Global};
 use std::marker::Model;

@@ -3,7 +3,7 @@
 ghost use Rattle.mt_interactions.specs.Committing.{CommitsLeadOn};
 ghost use Rattle.mt_interactions.specs.Deeds.{EndsAreByTime, NobodyIsReplied};
 
-use mt_node::mt_lasting::{changes_lead_on, committed_bytes_say_the_change};
+use mt_node::{changes_lead_on, committed_bytes_say_the_change};
 
 /// What is committed for a planned event leads from the durable map before it to that behind it, and nothing is committed
 /// exactly where both are equal. The ceiling of event numbers behind it is one that there may be.

@@ -45,7 +45,15 @@ pub use history::starts_may_record;
 pub use interactions::{Interactions, asked};
 pub use laws::{commits_lead_on, ends_are_by_time, nobody_is_replied};
 pub use lines::fault_reply;
-pub use mt_node::{mt_lasting, mt_machine, mt_regained};
-pub use mt_runs;
+pub use mt_node::{
+    durable_maps_are_kept, maps_are_maps, one_leaves, raised_ceilings_come_first,
+    reopened_nodes_may_start, reopenings_roll_back, states_are_regained, states_are_valid,
+    ticks_let_the_failsafe_expire,
+};
+pub use mt_runs::{
+    equal_marks_have_equal_messages, expiries_are_rollbacks,
+    lines_make_calls_where_what_lasts_changes, reopenings_are_exact, replies_are_exact,
+    runs_are_their_messages, stops_leave_all, wholes_are_valid,
+};
 pub use outcome::InteractionOutcome;
 pub use sessions::{dated, deadline_set};

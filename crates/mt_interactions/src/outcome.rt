@@ -7,8 +7,7 @@ ghost use Rattle.mt_interactions.specs.Plan.{IsPlanned, told_to_commit};
 use crate::behind::SubsBehind;
 use crate::interactions::Interactions;
 use mt_model::PlainDeadlines;
-use mt_node::Outcome;
-use mt_node::mt_lasting::{bytes_to_commit, raised_ceilings_come_first};
+use mt_node::{Outcome, bytes_to_commit, raised_ceilings_come_first};
 use mt_tlv::Bytes;
 use std::alloc::AllocError;
 

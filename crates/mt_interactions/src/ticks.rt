@@ -11,7 +11,7 @@ use crate::deadlines::left_without;
 use crate::interactions::Interactions;
 use crate::outcome::InteractionOutcome;
 use mt_model::{Action, Verdicts};
-use mt_node::mt_machine::ticks_let_the_failsafe_expire;
+use mt_node::ticks_let_the_failsafe_expire;
 use std::alloc::AllocError;
 
 /// Plans a time step, which lets the fail-safe expire where it is time. It sends nothing; the deadlines of a fabric that

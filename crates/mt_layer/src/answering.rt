@@ -5,7 +5,7 @@ ghost use Rattle.mt_layer.specs.Answering.{payloads_by, until_set};
 
 use mt_im_out::chunks;
 use mt_model::{Payloads, Reply, Request};
-use mt_shared::mt_interactions::{dated, deadline_set};
+use mt_shared::{dated, deadline_set};
 use mt_talk::Key;
 use std::alloc::{AllocError, Global};
 

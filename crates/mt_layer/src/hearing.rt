@@ -12,7 +12,7 @@ use crate::answering::{Answering, Content};
 use mt_exchange::{EndTime, EndTimes};
 use mt_im_out::chunks;
 use mt_model::{Payloads, Request};
-use mt_shared::mt_interactions::{Deed, asked, fault_reply};
+use mt_shared::{Deed, asked, fault_reply};
 use mt_talk::{Heard, Key};
 use std::alloc::{AllocError, Global};
 

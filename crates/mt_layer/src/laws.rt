@@ -2,8 +2,7 @@
 
 ghost use Rattle.mt_layer.specs.Laws.{AnswerAlike, BegunTalksServe, ClosedHaveEnded, DatagramsAreLines, DeedsAreWhatIsResent, DeedsAreWhatIsSaid, DropAlike, EndedStayEnded, HearAlike, RepliesAreAnswers, ReportAlike, ReportsAreLines, ResendAlike, ResendsAreLines, TicksAreLines};
 
-use mt_shared::mt_interactions::ends_are_by_time;
-use mt_shared::mt_machine::{one_leaves, ticks_let_the_failsafe_expire};
+use mt_shared::{ends_are_by_time, one_leaves, ticks_let_the_failsafe_expire};
 
 /// What a talk hears, says and sends again depends on the run of its session and on where its peer is, and on nothing else that is
 /// shown of it.

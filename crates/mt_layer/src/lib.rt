@@ -21,6 +21,8 @@ pub use laws::{
     reports_are_lines, resends_are_lines, sessions_end_for_good, talks_are_told_by_their_run,
     ticks_are_lines,
 };
-pub use mt_shared;
-pub use mt_shared::{mt_interactions, mt_runs};
+pub use mt_shared::{
+    ActFault, Answer, Call, Deed, Held, NodePass, SharedNode, Stamped, shared_nodes_are_lent,
+    wholes_are_valid,
+};
 pub use session_talk::SessionTalk;

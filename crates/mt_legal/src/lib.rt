@@ -4,11 +4,13 @@
 
 ghost use Rattle.mt_legal.specs.Laws.{BooksAreRuns, BooksEndAsRuns, LedgersEndAsRuns};
 
-pub use mt_shares;
-use mt_shares::mt_layer::{
-    begun_talks_serve, datagrams_are_lines, reports_are_lines, resends_are_lines, ticks_are_lines,
+pub use mt_shares::{
+    accounts_are_their_sessions, merged_calls_are_made, shares_are_merged, workers_send_their_own,
 };
-use mt_shares::mt_runs::wholes_are_valid;
+use mt_shares::{
+    begun_talks_serve, datagrams_are_lines, reports_are_lines, resends_are_lines, ticks_are_lines,
+    wholes_are_valid,
+};
 use mt_subscribers::{subscriptions_are_gained, subscriptions_stay};
 
 /// The written run sends over the lines of a book what the workers of its sessions send by the answers that the book tells, in its order;

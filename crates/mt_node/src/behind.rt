@@ -16,8 +16,7 @@ use crate::telling::{events_in, told_with};
 use mt_durable::Change;
 use mt_machine::{states_are_valid, steps_leave_states_valid};
 use mt_model::{Actor, Effect, ExactCopy, NodeState, Places, Steps};
-use mt_regained::mt_lasting::{change_to, only_what_lasts_changes};
-use mt_regained::mt_steps::make_all;
+use mt_regained::{change_to, make_all, only_what_lasts_changes};
 use std::alloc::{AllocError, Global};
 
 /// The outcome of an answer whose steps the state takes: sessions may end, and a fabric may leave.

@@ -27,7 +27,7 @@ use mt_model::{
     AclEntries, AclEntry, Actor, ChangeNumbers, Effect, NodeState, NodeStep, Place, Places, Row,
     SessionIds, Steps, StoredRows, Version, Versions, set_entries, set_entries_stand_in_order,
 };
-use mt_regained::mt_lasting::only_what_lasts_changes;
+use mt_regained::only_what_lasts_changes;
 use mt_subs::Changes;
 use std::alloc::{AllocError, Global};
 use std::mem::replace;

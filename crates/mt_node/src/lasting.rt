@@ -13,7 +13,7 @@ use crate::node::Node;
 use mt_durable::Change;
 use mt_machine::steps_leave_states_valid;
 use mt_model::NodeStep;
-use mt_regained::mt_lasting::{change_by_steps, only_what_lasts_changes};
+use mt_regained::{change_by_steps, only_what_lasts_changes};
 use std::alloc::{AllocError, Global};
 
 /// What steps change that set values and that the state takes, at whatever time.

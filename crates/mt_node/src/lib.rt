@@ -32,9 +32,12 @@ mod sight;
 mod telling;
 mod writes;
 
-pub use mt_machine;
+pub use mt_machine::{one_leaves, states_are_valid, ticks_let_the_failsafe_expire};
 pub use mt_model::{Action, SessionIds};
-pub use mt_regained;
-pub use mt_regained::mt_lasting;
+pub use mt_regained::{
+    bytes_to_commit, changes_lead_on, committed_bytes_say_the_change, durable_maps_are_kept,
+    maps_are_maps, raised_ceilings_come_first, reopened_nodes_may_start, reopenings_roll_back,
+    states_are_regained,
+};
 pub use node::Node;
 pub use outcome::Outcome;

@@ -8,7 +8,6 @@ mod laws;
 mod rows;
 
 pub use laws::{owners_are_exact, rows_have_begun};
-pub use mt_receiver;
-pub use mt_worker;
-pub use mt_worker::mt_shared;
+pub use mt_receiver::{ReceiveFault, Received, receive};
+pub use mt_worker::{Done, Held, NodePass, SharedNode, reporter, shared_nodes_are_lent, worker};
 pub use rows::{ids_of, rows_of};

@@ -15,6 +15,10 @@ mod playing;
 mod remembering;
 
 pub use course::{ComingStop, Course};
-pub use mt_whole::{mt_marks, mt_runs};
+pub use mt_whole::{
+    Mark, Part, Unanswered, equal_marks_do_not_differ, equal_marks_have_equal_messages,
+    expiries_are_rollbacks, first_difference, parts_come_in_order, reopenings_are_exact,
+    replies_are_exact, runs_are_their_messages, wholes_are_valid,
+};
 pub use playing::{Planned, Playing};
 pub use remembering::Remembering;

@@ -21,8 +21,7 @@ ghost use Rattle.mt_play.specs.Plays.{IsPlaying};
 use crate::playing::Playing;
 use mt_model::{Armed, Event, NodeSession, NodeState};
 use mt_subs::Subs;
-use mt_whole::Mark;
-use mt_whole::mt_marks::Note;
+use mt_whole::{Mark, Note};
 use std::alloc::AllocError;
 
 impl<'a> Playing<'a> {

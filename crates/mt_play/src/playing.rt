@@ -23,12 +23,10 @@ use mt_durable::Durable;
 use mt_keeping::{Store, journals_are_recovered, states_are_reopened, states_may_be_committed};
 use mt_model::{Config, Event, SentList, TableVerdicts};
 use mt_outside::MemDisk;
-use mt_whole::mt_interactions::commits_lead_on;
-use mt_whole::mt_lasting::maps_are_maps;
-use mt_whole::mt_machine::states_are_valid;
-use mt_whole::mt_regained::{reopened_nodes_may_start, reopenings_roll_back};
-use mt_whole::mt_runs::{lines_make_calls_where_what_lasts_changes, stops_leave_all};
-use mt_whole::{Whole, WholeOutcome};
+use mt_whole::{
+    Whole, WholeOutcome, commits_lead_on, lines_make_calls_where_what_lasts_changes, maps_are_maps,
+    reopened_nodes_may_start, reopenings_roll_back, states_are_valid, stops_leave_all,
+};
 use std::alloc::{AllocError, Global};
 
 /// A node on its journal, which lies on a disk in memory, and the verdicts on certificates by which it plays. Contracts say for which

@@ -19,10 +19,10 @@ use crate::course::Course;
 use crate::playing::{Planned, Playing};
 use mt_model::{Config, Event, ExactCopy, NodeSession, SentList};
 use mt_subs::is_live_as;
-use mt_whole::mt_lasting::raised_ceilings_come_first;
-use mt_whole::mt_marks::{Note, ToldTalks};
-use mt_whole::mt_runs::stops_leave_all;
-use mt_whole::{closed_sessions_are_those_that_end, own_parts_are_standings_and_talks};
+use mt_whole::{
+    Note, ToldTalks, closed_sessions_are_those_that_end, own_parts_are_standings_and_talks,
+    raised_ceilings_come_first, stops_leave_all,
+};
 use std::alloc::{AllocError, Global};
 
 /// A node that plays, and all that is shown of its sessions, which no node stores. It grows with the recording.

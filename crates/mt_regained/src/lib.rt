@@ -19,8 +19,11 @@ pub use laws::{
     boots_begin_valid, durable_maps_are_kept, maps_go_on_again, reopened_nodes_may_start,
     reopenings_roll_back, reopenings_see_the_own, rollbacks_are_the_last_word, states_are_regained,
 };
-pub use mt_lasting;
-pub use mt_steps;
+pub use mt_lasting::{
+    bytes_to_commit, change_by_steps, change_to, changes_lead_on, committed_bytes_say_the_change,
+    maps_are_maps, only_what_lasts_changes, raised_ceilings_come_first,
+};
+pub use mt_steps::make_all;
 pub use opening::next_boot;
 pub use regained::state_from;
 pub use reopened::{new_map, reopened_map};

@@ -3,7 +3,7 @@
 
 ghost use Rattle.mt_rounds.specs.Laws.{LinesAreFew, SessionsFollow, TicksAreWakes};
 
-pub use mt_owners;
+pub use mt_owners::{owners_are_exact, rows_have_begun};
 
 /// Where a worker did what the jobs ask that the answers give it, the lines of each of its sessions follow the answers.
 pub fn sessions_follow()

@@ -20,7 +20,7 @@ pub use lines::{
     whole_keeps_the_own, whole_leaves_the_own_on_the_veil, whole_sends_on_the_veil,
     wholes_are_valid,
 };
-pub use mt_ledger;
+pub use mt_ledger::{histories_grow_by_events, histories_stay_histories};
 pub use runs::{
     equal_marks_have_equal_messages, plain_messages_name_their_fabric, runs_are_replayed,
     runs_are_their_messages, strangers_are_sent_nothing,

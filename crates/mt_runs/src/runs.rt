@@ -8,7 +8,7 @@ use crate::lines::{
     whole_leaves_the_own_on_the_veil, whole_sends_on_the_veil, wholes_are_valid,
 };
 use crate::stops::reopenings_see_the_own_part;
-use mt_regained::mt_lasting::raised_ceilings_come_first;
+use mt_regained::raised_ceilings_come_first;
 
 /// What is written of a run is its messages in their order, each once.
 pub fn runs_are_their_messages()

@@ -8,8 +8,9 @@ use mt_commission::steps_stand_first;
 use mt_ledger::ledgers_stay_ledgers;
 use mt_machine::{expiries_roll_back, ticks_let_the_failsafe_expire};
 use mt_opcreds::steps_are_moves;
-use mt_regained::mt_lasting::changes_lead_on;
-use mt_regained::{reopenings_roll_back, reopenings_see_the_own, rollbacks_are_the_last_word};
+use mt_regained::{
+    changes_lead_on, reopenings_roll_back, reopenings_see_the_own, rollbacks_are_the_last_word,
+};
 use mt_write::writes_touch_their_own;
 
 /// A line that stops the disk sends nothing of itself and leaves the whole as it is; what becomes of the node the disk says.

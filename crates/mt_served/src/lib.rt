@@ -4,13 +4,12 @@
 
 ghost use Rattle.mt_served.specs.Laws.{CrewsServe};
 
-use mt_legal::books_are_runs;
-use mt_legal::mt_shares::{
-    accounts_are_their_sessions, merged_calls_are_made, shares_are_merged, workers_send_their_own,
+use mt_legal::{
+    accounts_are_their_sessions, books_are_runs, merged_calls_are_made, shares_are_merged,
+    workers_send_their_own,
 };
 use mt_outside::Outlet;
-use mt_rounds::mt_owners::{owners_are_exact, rows_have_begun};
-use mt_rounds::{sessions_follow, ticks_are_wakes};
+use mt_rounds::{owners_are_exact, rows_have_begun, sessions_follow, ticks_are_wakes};
 
 /// Where the threads of a served node each did their work, and got each place of its book once, what they got is one run of the written
 /// machine: each outlet was given what that sends over the sessions of its worker, and at status 0 its lines follow the answers of the intake.

@@ -8,7 +8,7 @@ ghost use Rattle.mt_serving.specs.Record.{Writes, event_lines, record_of};
 use mt_files::write_event;
 use mt_model::{Event, ExactCopy};
 use mt_outside::{Sink, write_all, writings_add_up};
-use mt_starting::mt_shared::Entry;
+use mt_starting::Entry;
 use std::alloc::{AllocError, Global};
 
 /// Why a record is not written whole.

@@ -7,12 +7,10 @@ ghost use Rattle.mt_serving.specs.Serves.{Course, IsServed, Ran};
 
 use crate::ending::{ServeFault, finish_serving};
 use crate::recording::{RecordFault, write_record};
-use mt_crew::mt_served::crews_serve;
-use mt_crew::{reserve, run};
+use mt_crew::{crews_serve, reserve, run};
 use mt_model::Config;
 use mt_outside::{Disk, Gate, Intake, Outlet, Progress, Sink};
-use mt_starting::mt_shared::{Entry, SharedNode};
-use mt_starting::{Started, start_on};
+use mt_starting::{Entry, SharedNode, Started, start_on};
 use std::alloc::Global;
 use std::sync::Wait;
 use std::thread::Threads;

@@ -9,8 +9,7 @@ ghost use Rattle.mt_shared.specs.Acts.{AdmitsStates};
 ghost use Rattle.mt_shared.specs.Replay.{map_of};
 
 use mt_durable::Keeper;
-use mt_interactions::mt_lasting::maps_are_maps;
-use mt_interactions::{InteractionOutcome, Interactions, commits_lead_on};
+use mt_interactions::{InteractionOutcome, Interactions, commits_lead_on, maps_are_maps};
 use mt_keeping::states_may_be_committed;
 use mt_outside::Failed;
 

@@ -22,7 +22,10 @@ mod shared;
 pub use crossing::shared_nodes_are_lent;
 pub use entry::{ActFault, Answer, Call, Entry, Stamped, Stop};
 pub use held::Held;
-pub use mt_interactions;
-pub use mt_interactions::{mt_machine, mt_regained, mt_runs};
-pub use mt_keeping;
+pub use mt_interactions::{
+    Deed, Interactions, asked, dated, deadline_set, durable_maps_are_kept, ends_are_by_time,
+    fault_reply, one_leaves, reopened_nodes_may_start, reopenings_roll_back, states_are_regained,
+    ticks_let_the_failsafe_expire, wholes_are_valid,
+};
+pub use mt_keeping::{Store, states_are_reopened, states_may_be_committed};
 pub use shared::{NodePass, SharedNode};

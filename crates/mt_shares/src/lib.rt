@@ -4,6 +4,11 @@
 
 ghost use Rattle.mt_shares.specs.Laws.{AccountsAreTheirSessions, AccountsAreTheirs, MergedCallsAreMade, SharesAreMerged, WorkersSendTheirOwn};
 
+pub use mt_worker::{
+    begun_talks_serve, datagrams_are_lines, reports_are_lines, resends_are_lines, ticks_are_lines,
+    wholes_are_valid,
+};
+
 /// Where each place of a book was got once, by one thread, and each thread's places rise, what all of them got is one list in the order
 /// of the book, and what each of them got is what there is of it in that list.
 pub fn shares_are_merged()
@@ -26,5 +31,3 @@ pub fn merged_calls_are_made()
 pub fn workers_send_their_own()
     ensures { WorkersSendTheirOwn }
 {}
-
-pub use mt_worker::{mt_layer, mt_runs};

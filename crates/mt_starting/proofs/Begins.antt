@@ -1,5 +1,5 @@
 -- With what is recovered a valid node begins, and what it commits first may be committed.
-use Rattle.std.proofs.Common.{◌≡◌, ◌≢◌, ◌∙◌, refl, sym, ap, subst, ℕ, ◌+◌, ◌^◌, ◌<◌, ◌≤◌, Bool, true, false, List, [], ◌∷◌, Option, Some, None, nat_lt, nat_le, if◌then◌else◌, inl, inr, arith}
+use Rattle.std.proofs.Common.{◌≡◌, ◌≢◌, ◌∙◌, refl, sym, ap, subst, ℕ, ◌+◌, ◌^◌, ◌<◌, ◌≤◌, true, List, [], ◌∷◌, Option, Some, None, nat_lt, inl, inr, arith}
 use Rattle.std.proofs.lemmas.Bool.{cases_Bool, leb-true, le-leb}
 use Rattle.std.specs.List.{list_all}
 use Rattle.mt_durable.specs.Maps.{have_values, keys_ascend}
@@ -11,7 +11,7 @@ use Rattle.mt_grammar.specs.Facts.{facts_hold}
 use Rattle.mt_grammar.specs.declared.kept.MapContents.{MapContents}
 use Rattle.mt_shared.specs.mt_interactions.Configured.{ConfiguredInteractions, IsFirst, IsStarted}
 use Rattle.mt_shared.specs.mt_keeping.Laws.{BeginsReopened, FirstChangesAreSaid, MayCommit, StatesAreReopened, StatesHaveMaps, StatesMayBeCommitted}
-use Rattle.mt_shared.specs.mt_lasting.Contents.{durable, kept_of}
+use Rattle.mt_shared.specs.mt_lasting.Contents.{durable}
 use Rattle.mt_shared.specs.mt_ledger.Ledger.{Ledger, opened_at}
 use Rattle.mt_shared.specs.mt_machine.State.{IsValid}
 use Rattle.mt_model.specs.declared.node.state.NodeState.{NodeState}

@@ -5,5 +5,5 @@
 
 mod starting;
 
-pub use mt_shared;
+pub use mt_shared::{Entry, SharedNode};
 pub use starting::{StartFault, Started, start_on};

@@ -18,12 +18,10 @@ use mt_grammar::kept_in;
 use mt_journal::JournalFault;
 use mt_model::{Config, TableVerdicts};
 use mt_outside::Disk;
-use mt_shared::mt_interactions::Interactions;
-use mt_shared::mt_keeping::{Store, states_are_reopened, states_may_be_committed};
-use mt_shared::mt_regained::{
-    durable_maps_are_kept, reopened_nodes_may_start, reopenings_roll_back, states_are_regained,
+use mt_shared::{
+    Interactions, Store, durable_maps_are_kept, reopened_nodes_may_start, reopenings_roll_back,
+    states_are_regained, states_are_reopened, states_may_be_committed, wholes_are_valid,
 };
-use mt_shared::mt_runs::wholes_are_valid;
 use std::alloc::{AllocError, Global};
 
 /// Why no node starts on a disk.

@@ -1,12 +1,33 @@
 -- What serving comes to, by the words, the configuration and the disk.
-use Rattle.std.specs.Prelude.{◌≡◌, ℕ, List, Option, Some}
+use Rattle.std.specs.Prelude.{◌≡◌, ◌≢◌, ℕ, List, Option, Some, length}
 use Rattle.mt_endings.specs.Moments.{Input}
-use Rattle.mt_endings.specs.Parts.{Configured}
+use Rattle.mt_endings.specs.Parts.{Configured, Finishes, IsTold, StopsConfiguring}
+use Rattle.mt_endings.specs.declared.fault.Fault.{Fault}
+use Rattle.mt_endings.specs.declared.fault.Fault.TheVariants.{BadWords}
 use Rattle.mt_model.specs.declared.texts.config.Config.{Config}
-use Rattle.mt_serving.specs.Serves.{IsServed}
+use Rattle.mt_outside.specs.declared.network.Arrival.{Arrival}
+use Rattle.mt_outside.specs.declared.network.Parcel.{Parcel}
+use Rattle.mt_serving.specs.Serves.{Course, IsServed}
+use Rattle.mt_words.specs.Words.{serve_words}
+use Rattle.mt_words.specs.declared.serve.ServeWords.{ServeWords}
 
--- The source held this configuration; and where the disk tells what it had, a node was started with that and served, and its record was written.
-pub record HasServed (old new : Input) (told : Option (List ℕ)) (before after : Option (List ℕ)) : Type 0 where
-  pub config : Config
-  pub configured : Configured config old new
-  pub served : (file : List ℕ) → told ≡ Some file → IsServed config file before after
+module _ {I O : Type 0} (held : I → Option (List Arrival)) (clock : I → ℕ) (given : O → Option (List Parcel)) where
+  -- A NODE WAS SERVED as the words ask, with the configuration that the source held: where the disk tells what it had, the node was started with that, and
+  -- its record was written.
+  pub record HasServed (words : List (List ℕ)) (old new : Input) (told : Option (List ℕ)) (lent returned : List O) (intake left : I) (before after : Option (List ℕ)) : Type 0 where
+    pub found : ServeWords
+    pub words_are : serve_words words ≡ Some found
+    pub config : Config
+    pub configured : Configured config old new
+    pub served : (file : List ℕ) → told ≡ Some file → IsServed held clock given config file found.asked.datagrams lent returned intake left before after
+
+  -- THE COURSE of what the words ask, at every status: there is another number of outlets than of workers; or the source held no configuration; or it held one,
+  -- and where the disk tells what it had, all that came then is told.
+  pub data HasCourse (found : ServeWords) (old new : Input) (told : Option (List ℕ)) (lent returned : List O) (intake left : I) (status : ℕ) (before after : Option (List ℕ)) (faults now : ℕ) : Type 0 where
+    miscounted : length lent ≢ found.asked.workers → returned ≡ lent → left ≡ intake → IsTold BadWords status before after faults now
+        → HasCourse found old new told lent returned intake left status before after faults now
+    unread : (fault : Fault) → StopsConfiguring fault old new → returned ≡ lent → left ≡ intake → Finishes fault status before after faults now
+        → HasCourse found old new told lent returned intake left status before after faults now
+    read : (config : Config) → Configured config old new
+        → ((file : List ℕ) → told ≡ Some file → Course held clock given config file found.asked.datagrams lent returned intake left status before after faults now)
+        → HasCourse found old new told lent returned intake left status before after faults now

@@ -5,9 +5,9 @@ ghost use Rattle.mt_top.specs.Compared.{ComparisonsAreExact};
 ghost use Rattle.mt_top.specs.Denials.{DenialsAreExact};
 ghost use Rattle.mt_top.specs.Isolated.{RunsAreIsolated};
 
-use mt_compare::mt_marks::equal_marks_do_not_differ;
-use mt_compare::mt_runs::{
-    equal_marks_have_equal_messages, runs_are_their_messages, wholes_are_valid,
+use mt_compare::{
+    equal_marks_do_not_differ, equal_marks_have_equal_messages, runs_are_their_messages,
+    wholes_are_valid,
 };
 use mt_files::recordings_are_read;
 

@@ -7,7 +7,7 @@ ghost use Rattle.mt_compare.specs.mt_play.Plays.{IsOnJournal};
 ghost use Rattle.mt_soak.specs.Summary.{IsTallyOf};
 ghost use Rattle.mt_top.specs.Begun.{Begun, Plays, Steps, Tells};
 
-use mt_compare::mt_play::Playing;
+use mt_compare::Playing;
 use mt_files::write_sent;
 use mt_model::{Event, Sent};
 use mt_soak::Tally;

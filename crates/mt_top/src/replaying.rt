@@ -17,8 +17,7 @@ ghost use Rattle.mt_top.specs.Asked.{played, replayed};
 
 use crate::isolation::{denials_are_exact, runs_are_isolated};
 use crate::playing::step;
-use mt_compare::mt_play::Playing;
-use mt_compare::mt_runs::{expiries_are_rollbacks, reopenings_are_exact, replies_are_exact};
+use mt_compare::{Playing, expiries_are_rollbacks, reopenings_are_exact, replies_are_exact};
 use mt_endings::{Fault, endings_add_up, finish, read_recording, tell_memory};
 use mt_model::{Config, Events};
 use mt_outside::{Sink, Source, write_all, writings_add_up};

@@ -16,7 +16,7 @@ use crate::isolation::{
 use crate::replaying::replay_with;
 use crate::soaking::soak_with;
 use mt_asking::{ask_with, asked_is_opened, show_with, shown_is_exact};
-use mt_compare::mt_runs::{expiries_are_rollbacks, reopenings_are_exact, replies_are_exact};
+use mt_compare::{expiries_are_rollbacks, reopenings_are_exact, replies_are_exact};
 use mt_endings::{
     endings_add_up, endings_on_disk_add_up, finish, read_configuration, tell_bad_words, tell_memory,
 };

@@ -1,11 +1,12 @@
 //! Serving, from the words of the command line to the record.
 
-ghost use Rattle.std.specs.Prelude.{◌≡◌, None, length};
+ghost use Rattle.std.specs.Prelude.{◌≡◌, None, Some, length};
 ghost use Rattle.mt_endings.specs.Moments.{input};
 ghost use Rattle.mt_endings.specs.Parts.{IsTold};
 ghost use Rattle.mt_endings.specs.declared.fault.Fault.TheVariants.{BadWords};
 ghost use Rattle.mt_words.specs.Words.{serve_words, words_of};
-ghost use Rattle.mt_top.specs.Serving.{HasServed};
+ghost use Rattle.mt_words.specs.declared.serve.ServeWords.{ServeWords};
+ghost use Rattle.mt_top.specs.Serving.{HasCourse, HasServed};
 
 use mt_endings::{finish, read_configuration, tell_bad_words};
 use mt_outside::{Disk, Gate, Intake, Outlet, Progress, Sink, Source, Unwatched};
@@ -44,7 +45,11 @@ pub fn serve<
     ensures words { serve_words (words_of words.now) ≡ None → IsTold BadWords result.status (W.written out.old) (W.written out.new) (W.faults out.old) (W.faults out.new) }
     ensures untouched { serve_words (words_of words.now) ≡ None → (result.disk ≡ disk) × (result.intake ≡ intake) × (result.outlets ≡ outlets) }
     ensures outlets { length result.outlets.items ≡ length outlets.items }
-    ensures served { result.status ≡ 0 → HasServed (input (C.left config.old) (C.faults config.old)) (input (C.left config.new) (C.faults config.new)) (D.contents disk) (W.written out.old) (W.written out.new) }
+    ensures served { result.status ≡ 0 → HasServed I.held I.clock O.given (words_of words.now) (input (C.left config.old) (C.faults config.old)) (input (C.left config.new) (C.faults config.new)) (D.contents disk)
+        outlets.items result.outlets.items intake result.intake (W.written out.old) (W.written out.new) }
+    ensures course { (found : ServeWords) → serve_words (words_of words.now) ≡ Some found
+        → HasCourse I.held I.clock O.given found (input (C.left config.old) (C.faults config.old)) (input (C.left config.new) (C.faults config.new)) (D.contents disk)
+        outlets.items result.outlets.items intake result.intake result.status (W.written out.old) (W.written out.new) (W.faults out.old) (W.faults out.new) }
 {
     serve_watched(
         rt, alloc, words, config, disk, intake, outlets, gate, Unwatched, out,
@@ -76,7 +81,11 @@ pub fn serve_watched<
     ensures words { serve_words (words_of words.now) ≡ None → IsTold BadWords result.status (W.written out.old) (W.written out.new) (W.faults out.old) (W.faults out.new) }
     ensures untouched { serve_words (words_of words.now) ≡ None → (result.disk ≡ disk) × (result.intake ≡ intake) × (result.outlets ≡ outlets) }
     ensures outlets { length result.outlets.items ≡ length outlets.items }
-    ensures served { result.status ≡ 0 → HasServed (input (C.left config.old) (C.faults config.old)) (input (C.left config.new) (C.faults config.new)) (D.contents disk) (W.written out.old) (W.written out.new) }
+    ensures served { result.status ≡ 0 → HasServed I.held I.clock O.given (words_of words.now) (input (C.left config.old) (C.faults config.old)) (input (C.left config.new) (C.faults config.new)) (D.contents disk)
+        outlets.items result.outlets.items intake result.intake (W.written out.old) (W.written out.new) }
+    ensures course { (found : ServeWords) → serve_words (words_of words.now) ≡ Some found
+        → HasCourse I.held I.clock O.given found (input (C.left config.old) (C.faults config.old)) (input (C.left config.new) (C.faults config.new)) (D.contents disk)
+        outlets.items result.outlets.items intake result.intake result.status (W.written out.old) (W.written out.new) (W.faults out.old) (W.faults out.new) }
 {
     let Ok(asked) = serve_of(words) else {
         return not_served(tell_bad_words(out), disk, intake, outlets);

@@ -14,7 +14,7 @@ ghost use Rattle.mt_endings.specs.Run.{Ends};
 ghost use Rattle.mt_top.specs.Asked.{soaked, summarized};
 
 use crate::playing::tell;
-use mt_compare::mt_play::Playing;
+use mt_compare::Playing;
 use mt_endings::{Fault, endings_add_up, finish, tell_memory};
 use mt_model::Config;
 use mt_outside::{Progress, Sink, write_all, writings_add_up};

@@ -27,10 +27,16 @@ mod talks;
 mod whole;
 
 pub use laws::{closed_sessions_are_those_that_end, own_parts_are_standings_and_talks};
-pub use mt_interactions;
-pub use mt_interactions::{mt_lasting, mt_machine, mt_regained, mt_runs};
-pub use mt_marks;
-pub use mt_marks::{Descriptor, Descriptors, Mark, Recent};
+pub use mt_interactions::{
+    commits_lead_on, equal_marks_have_equal_messages, expiries_are_rollbacks,
+    lines_make_calls_where_what_lasts_changes, maps_are_maps, raised_ceilings_come_first,
+    reopened_nodes_may_start, reopenings_are_exact, reopenings_roll_back, replies_are_exact,
+    runs_are_their_messages, states_are_valid, stops_leave_all, wholes_are_valid,
+};
+pub use mt_marks::{
+    Descriptor, Descriptors, Mark, Mark, Note, Part, Recent, ToldTalks, Unanswered,
+    equal_marks_do_not_differ, first_difference, parts_come_in_order,
+};
 pub use mt_talk::session_named;
 pub use outcome::WholeOutcome;
 pub use whole::Whole;

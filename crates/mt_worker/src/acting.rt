@@ -10,7 +10,7 @@ ghost use Rattle.mt_worker.specs.Faults.{IsDenied};
 
 use crate::fault::WorkFault;
 use mt_durable::Keeper;
-use mt_layer::mt_shared::{Call, NodePass, SharedNode, Stamped};
+use mt_layer::{Call, NodePass, SharedNode, Stamped};
 use mt_model::Verdicts;
 use mt_outside::{Gate, Point};
 use std::sync::Wait;

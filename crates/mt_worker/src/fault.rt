@@ -4,7 +4,7 @@ ghost use Rattle.std.specs.Prelude.{◌≡◌};
 ghost use Rattle.mt_worker.specs.Faults.{fault_of, status_in};
 ghost use Rattle.mt_worker.specs.declared.fault.WorkFault.TheVariants.{Memory};
 
-use mt_layer::mt_shared::ActFault;
+use mt_layer::ActFault;
 use std::alloc::AllocError;
 
 /// Why a worker or the reporter stopped working. From then on it takes jobs and does nothing, until the end message.

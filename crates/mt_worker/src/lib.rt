@@ -21,8 +21,10 @@ mod sitting;
 mod working;
 
 pub use fault::WorkFault;
-pub use mt_layer;
-pub use mt_layer::{mt_runs, mt_shared};
+pub use mt_layer::{
+    Held, NodePass, SharedNode, begun_talks_serve, datagrams_are_lines, reports_are_lines,
+    resends_are_lines, shared_nodes_are_lent, ticks_are_lines, wholes_are_valid,
+};
 pub use reporting::reporter;
 pub use seat::Subscription;
 pub use working::{Done, worker};

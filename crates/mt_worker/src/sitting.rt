@@ -14,9 +14,7 @@ ghost use Rattle.mt_worker.specs.Seats.{IsSeatOf};
 
 use crate::seat::{Seat, Subscription};
 use mt_exchange::EndTime;
-use mt_layer::mt_interactions::Deed;
-use mt_layer::mt_shared::{Answer, Call};
-use mt_layer::{Answering, SessionTalk};
+use mt_layer::{Answer, Answering, Call, Deed, SessionTalk};
 use mt_model::limits::LAST_FABRIC;
 use mt_model::{Event, ExactCopy, Reply, SentList, SessionRow};
 use mt_outside::Peer;

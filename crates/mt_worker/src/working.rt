@@ -15,7 +15,7 @@ use crate::fault::WorkFault;
 use crate::hand::Hand;
 use crate::seat::Seat;
 use mt_durable::Keeper;
-use mt_layer::mt_shared::{NodePass, SharedNode};
+use mt_layer::{NodePass, SharedNode};
 use mt_model::{SessionRow, SessionRows, Verdicts};
 use mt_outside::{Gate, Outlet};
 use mt_queue::{Job, Jobs, QueuePass};

@@ -1,5 +1,5 @@
-use Rattle.std.proofs.Common.{subst, sym, List, ℕ}
-use Rattle.mt_starting.specs.Starts.{HasFailedFor, IsBegunWith, IsStartCause, IsStartedOn, IsWornCause}
+use Rattle.std.proofs.Common.{subst, sym}
+use Rattle.mt_starting.specs.Starts.{HasFailedFor, IsStartCause}
 use Rattle.mt_starting.proofs.Faults.{cause_of, err_more, failed_for, ok_more, started_on, worn_cause}
 use Rattle.mt_starting.proofs.starting.start_on.Goals as goal
 

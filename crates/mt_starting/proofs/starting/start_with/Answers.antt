@@ -1,4 +1,4 @@
-use Rattle.std.proofs.Common.{rules, ◌≡◌, ◌∙◌, ap, sym, subst, List, Some, true}
+use Rattle.std.proofs.Common.{rules, ◌≡◌, ◌∙◌, ap, sym, subst, List, true}
 use Rattle.std.specs.List.{list_all}
 use Rattle.mt_durable.specs.Maps.{have_values, keys_ascend}
 use Rattle.mt_durable.specs.declared.durable.Entry.{Entry}

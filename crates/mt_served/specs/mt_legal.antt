@@ -1,0 +1,2 @@
+-- What this crate passes on of mt_legal to those above it.
+pub use Rattle.mt_legal.specs.Laws
