@@ -118,7 +118,7 @@ of_thread node pass given own is = subst (IsOfThread node) (sym is) (own, refl)
 
 -- A THREAD has ended, and left a pass of the same node.
 pub still_of_thread : (node : SharedView) (pass after : NodePass) → IsOfThread node pass → IsOutsideAgain pass after → IsOfThread node after
-still_of_thread node pass after own out = ((out.0 ∙ own.0.0, (out.3 ∙ own.0.1, out.1)), out.2 ∙ own.1)
+still_of_thread node pass after own out = ((out.0 ∙ own.0.0, out.3 ∙ own.0.1, out.1), out.2 ∙ own.1)
 
 start_is : {O : Type 0} (post : Post O) (pass : NodePass) (jobs : Taken) (outlet : O) → start_of post ≡ Some (pass, jobs, outlet) → post ≡ Waits pass jobs outlet
 start_is {O} (Waits other others another) pass jobs outlet is =

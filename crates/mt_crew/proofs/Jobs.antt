@@ -18,7 +18,7 @@ use Rattle.mt_owners.specs.mt_receiver.Rounds.{is_for, jobs_for, take_jobs, take
 use Rattle.mt_owners.specs.mt_worker.Done.{Done}
 use Rattle.mt_crew.specs.Gathering.{TookAll, TookOfAll, queue_left}
 use Rattle.mt_crew.specs.Ready.{IsUnput, queue_put}
-use Rattle.mt_crew.proofs.Lists.{first_in, map_same, zip_at}
+use Rattle.mt_crew.proofs.Lists.{map_same, zip_at}
 
 -- NO END is among the jobs that answers give.
 

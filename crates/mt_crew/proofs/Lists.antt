@@ -17,9 +17,6 @@ module _ {A B : Type 0} (R : A → B → Type 0) where
   pub zip_more : (all : List A) (all' : List B) (xs : List A) (ys : List B) (x : A) (y : B) → all ≡ xs ++ x ∷ [] → all' ≡ ys ++ y ∷ [] → AllZip R xs ys → R x y → AllZip R all all'
   zip_more all all' xs ys x y is is' z r = subst (λ (p : List A × List B). AllZip R p.0 p.1) (λ i. (sym is i, sym is' i)) (zip_push xs ys x y z r)
 
-  pub zip_none : (xs : List A) (ys : List B) → xs ≡ [] → ys ≡ [] → AllZip R xs ys
-  zip_none xs ys is is' = subst (λ (p : List A × List B). AllZip R p.0 p.1) (λ i. (sym is i, sym is' i)) tt
-
   pub zip_at : (xs : List A) (ys : List B) → AllZip R xs ys → (k : ℕ) (d : A) (e : B) → k < length xs → R (get_or xs k d) (get_or ys k e)
   zip_at [] [] z k d e lt = absurd (omega arith)
   zip_at [] (b ∷ ys) z k d e lt = absurd z
@@ -27,16 +24,12 @@ module _ {A B : Type 0} (R : A → B → Type 0) where
   zip_at (a ∷ xs) (b ∷ ys) z zero d e lt = z.0
   zip_at (a ∷ xs) (b ∷ ys) z (suc k) d e lt = zip_at xs ys z.1 k d e (omega arith)
 
-  pub zip_from : (xs : List A) (ys : List B) → length ys ≡ length xs → ((k : ℕ) (d : A) (e : B) → k < length xs → R (get_or xs k d) (get_or ys k e)) → AllZip R xs ys
-  zip_from [] [] len h = tt
-  zip_from [] (b ∷ ys) len h = absurd (omega arith)
-  zip_from (a ∷ xs) [] len h = absurd (omega arith)
-  zip_from (a ∷ xs) (b ∷ ys) len h = (h 0 a b (omega arith), zip_from xs ys (omega arith) (λ k d e lt. h (suc k) d e (omega arith)))
-
--- a list that has an element has a first one
-pub first_in : {A : Type 0} {k : ℕ} (xs : List A) → k < length xs → A
-first_in [] lt = absurd (omega arith)
-first_in (x ∷ xs) lt = x
+-- of two lists, by the place
+pub zip_each : {A : Type 0} (R : A → A → Type 0) (xs ys : List A) → length ys ≡ length xs → ((k : ℕ) (d : A) → k < length xs → R (get_or xs k d) (get_or ys k d)) → AllZip R xs ys
+zip_each R [] [] len h = tt
+zip_each R [] (y ∷ ys) len h = absurd (omega arith)
+zip_each R (x ∷ xs) [] len h = absurd (omega arith)
+zip_each R (x ∷ xs) (y ∷ ys) len h = (h 0 x (omega arith), zip_each R xs ys (omega arith) (λ k d lt. h (suc k) d (omega arith)))
 
 -- what is the same of the elements at each place
 pub map_same : {A C : Type 0} (f : A → C) (xs ys : List A) → length ys ≡ length xs → ((k : ℕ) (d : A) → k < length xs → f (get_or ys k d) ≡ f (get_or xs k d)) → map f ys ≡ map f xs
@@ -66,3 +59,8 @@ kept_push {B = B} f all xs x ys zs y is kept so_far more =
 
 pub mapped_push : {A B : Type 0} (f : A → B) (all xs : List A) (x : A) (ys zs : List B) → all ≡ xs ++ x ∷ [] → map f xs ≡ ys → zs ≡ ys ++ f x ∷ [] → map f all ≡ zs
 mapped_push {B = B} f all xs x ys zs is so_far more = ap (map f) is ∙ (map_push f xs x ∙ (ap (λ (l : List B). l ++ f x ∷ []) so_far ∙ sym more))
+
+-- one function behind another
+pub map_map : {A B C : Type 0} (f : B → C) (g : A → B) (xs : List A) → map f (map g xs) ≡ map (λ (x : A). f (g x)) xs
+map_map f g [] = refl
+map_map {C = C} f g (x ∷ xs) = ap (λ (l : List C). f (g x) ∷ l) (map_map f g xs)

@@ -13,7 +13,7 @@ use Rattle.mt_queue.specs.declared.job.Job.{Job}
 use Rattle.mt_queue.specs.declared.job.Job.TheVariants.{End}
 use Rattle.mt_owners.specs.Rows.{AreRowsOf, rows_in}
 use Rattle.mt_owners.specs.mt_receiver.Received as of_receiver
-use Rattle.mt_owners.specs.mt_receiver.Receives.{AllPut, Received, workers_of}
+use Rattle.mt_owners.specs.mt_receiver.Receives.{AllPut, Counts, Received, workers_of}
 use Rattle.mt_owners.specs.mt_receiver.Rounds.{jobs_for}
 use Rattle.mt_owners.specs.mt_shared.Entry.{Entry}
 use Rattle.mt_owners.specs.mt_shared.Shared.{NodePass, SharedView}
@@ -24,16 +24,17 @@ use Rattle.mt_served.specs.Crews as crews
 use Rattle.mt_served.specs.Crews.{DidItsWork, IsCrew, Service, TookTheirJobs, begun_pass, lent_of, returned_of, times_got}
 use Rattle.mt_served.specs.mt_shares.Merging.{upto}
 use Rattle.mt_turn.specs.Counts.{how_often, total}
-use Rattle.mt_crew.specs.Gathering.{GatheredAll, TookOfAll, queue_left, times_left}
-use Rattle.mt_crew.specs.Members.{HasReported, jobs_in, lefts, number_of, rows_of}
+use Rattle.mt_crew.specs.Gathering.{GatheredAll, TookOfAll, first_fault, first_of, outlet_left, queue_left, status_left, times_left}
+use Rattle.mt_crew.specs.Members.{HasReported, HasWorked, jobs_in, lefts, number_of, rows_of}
 use Rattle.mt_crew.specs.Ready.{AreReady, AreSeated, HaveSessions, IsUnput, queue_put, queue_taken}
-use Rattle.mt_crew.specs.Serves.{HasReceived, TookWhatCame}
+use Rattle.mt_crew.specs.Serves.{HasReceived, HasServed, TookWhatCame, status_in, status_of}
 use Rattle.mt_crew.specs.declared.member.Member.{Member}
 use Rattle.mt_crew.specs.declared.seating.Places.{Places}
 use Rattle.mt_crew.specs.declared.seating.Seated.{Seated}
 use Rattle.mt_crew.specs.declared.threads.Reception.{Reception}
-use Rattle.mt_crew.proofs.Crews.{Serviced, total_map, upto_at}
+use Rattle.mt_crew.proofs.Crews.{Serviced, serviced, total_map, upto_at}
 use Rattle.mt_crew.proofs.Jobs.{TookEach, jobs_no_end, same_queues, took_each}
+use Rattle.mt_crew.proofs.Lists.{map_map, zip_each}
 
 -- of each whose part is so
 pub each_of : {A B : Type 0} (P : B → Type 0) (f : A → B) (xs : List A) (ys : List B) → map f xs ≡ ys → All P ys → All (λ (x : A). P (f x)) xs
@@ -155,6 +156,39 @@ module _ {O : Type 0} (given : O → Option (List Parcel)) (faults : O → ℕ) 
     took_is boot sessions received s seats ready have senders ids got took =
         let same : before.senders.items ≡ places.senders.items = ap (λ it. it.items) senders ∙ ap (λ it. it.items) seats.senders in
         on_ok received.ended (came_and_taken s seats (map id_of (rows_in boot sessions)) (ap (λ it. it.items) ids ∙ (ap (λ it. it.items) seats.ids ∙ have.ids)) (ap length same ∙ ready.senders) (All-same IsUnput before.senders.items places.senders.items same ready.unput) took) got.put
+
+    -- SERVING IN WHOLE, between the pass that was split and the one that had taken all in again.
+    pub has_served : (boot : ℕ) (sessions : List SessionRow) (limit : ℕ) (returned : List O) (intake left : I) (received : of_receiver.Received) (split joined : NodePass) (book : List Entry) (status last : ℕ) (s : Crewed)
+        → AllSeated → AreReady (length lent) places → HaveSessions boot (length lent) sessions places → HasReported node seated.pass seated.ticks clerk
+        → before.senders ≡ seated.senders → before.ids ≡ seated.ids → before.limit ≡ limit → before.intake ≡ intake → after.intake ≡ left
+        → HasReceived held clock failures before after received → TookOfAll after.senders.items (lefts afters) clerk
+        → split.places ≡ [] → GatheredAll split joined (lefts afters) clerk → book ≡ joined.seen
+        → ((k : ℕ) → k < length joined.seen → how_often k joined.places ≡ 1) → ((k : ℕ) → length joined.seen ≤ k → how_often k joined.places ≡ 0)
+        → returned ≡ map outlet_left (lefts afters) → last ≡ first_fault (map status_left (lefts afters) ++ clerk.status ∷ []) → status ≡ first_of (status_of received.ended) last
+        → HasServed held clock failures given faults node boot sessions limit lent returned intake left received book status
+    has_served boot sessions limit returned intake left received split joined book status last s seats ready have reported senders ids limit_is intake_is left_is got took none gathered seen once no_other outlets last_is status_is =
+        let same : map (λ (service : Service O). service.left) s.services ≡ lefts afters = s.left in
+        let statuses : map status_in s.services ≡ map status_left (lefts afters) = sym (map_map (status_left {O = O}) (λ (service : Service O). service.left) s.services) ∙ ap (map status_left) same in
+        let lent_is : map lent_of s.services ≡ lent = s.lent ∙ seats.outlets_are in
+        let returned_is : map returned_of s.services ≡ returned = sym (map_map (outlet_left {O = O}) (λ (service : Service O). service.left) s.services) ∙ (ap (map outlet_left) same ∙ sym outlets) in
+        record {
+          services = s.services;
+          clerk = clerk;
+          lent_are = lent_is;
+          returned_are = returned_is;
+          crew = crew_is boot sessions split joined book s seats have reported none gathered seen once no_other;
+          took = subst (λ (p : ℕ × I × I). OnOk received.ended (TookWhatCame held clock failures (map id_of (rows_in boot sessions)) p.0 p.1 p.2 s.services clerk)) (λ i. (limit_is i, intake_is i, left_is i))
+              (took_is boot sessions received s seats ready have senders ids got took);
+          counts = subst (λ (p : I × I). Counts received.ended (failures p.0) (failures p.1)) (λ i. (intake_is i, left_is i)) got.counts;
+          status_is = status_is ∙ ap (first_of (status_of received.ended)) (last_is ∙ ap (λ (l : List ℕ). first_fault (l ++ clerk.status ∷ [])) (sym statuses));
+        }
+
+-- all services, one after the other
+pub crewed : {O : Type 0} (given : O → Option (List Parcel)) (faults : O → ℕ) (node : SharedView) (pass : NodePass) (lent : List O) (places : Places O) (seated : Seated O) (afters : List (Member O))
+    → AreSeated node pass places lent seated → length afters ≡ length seated.members.items
+    → ((k : ℕ) (d : Member O) → k < length seated.members.items → HasWorked given faults node (get_or seated.members.items k d) (get_or afters k d))
+    → Serviced given faults node pass seated.members.items afters
+crewed given faults node pass lent places seated afters seats len each = serviced given faults node pass seated.members.items afters (zip_each (HasWorked given faults node) seated.members.items afters len each) seats.begins
 
 -- WHICH QUEUES came back: those to which the threads belong.
 pub queues_are : {O I P : Type 0} (held : I → Option (List Arrival)) (clock failures : I → ℕ) (before after : Reception I P) (received : of_receiver.Received) (given : O → Option (List Parcel)) (faults : O → ℕ) (node : SharedView) (pass : NodePass) (lent : List O) (places : Places O) (seated : Seated O) (afters : List (Member O)) (clerk : Done ⊤)

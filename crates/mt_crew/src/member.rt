@@ -111,19 +111,20 @@ impl<O: Outlet + Drop> Member<O> {
         requires ready { MayWork node.now self.old }
         ensures worked { HasWorked O.given O.faults node.now self.old self.new }
     {
-        let start = mem::replace(&mut self.post, Post::Serves).into_start();
-        if let Some((pass, jobs, outlet)) = start {
-            self.post = Post::Left(worker(
-                rt,
-                alloc,
-                node,
-                pass,
-                self.number,
-                &self.rows,
-                jobs,
-                outlet,
-                gate,
-            ));
-        }
+        let Some((pass, jobs, outlet)) = mem::replace(&mut self.post, Post::Serves).into_start()
+        else {
+            unreachable!()
+        };
+        self.post = Post::Left(worker(
+            rt,
+            alloc,
+            node,
+            pass,
+            self.number,
+            &self.rows,
+            jobs,
+            outlet,
+            gate,
+        ));
     }
 }
