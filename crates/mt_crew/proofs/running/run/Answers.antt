@@ -1,4 +1,4 @@
-use Rattle.std.proofs.Common.{◌≡◌, ◌∙◌, ap, arith, length, map, sym, subst, List, ℕ}
+use Rattle.std.proofs.Common.{◌∙◌, ap, arith, length, map, sym, subst, List, ℕ}
 use Rattle.std.specs.Prelude.{is_some}
 use Rattle.mt_queue.specs.Ends.{Put}
 use Rattle.mt_owners.specs.mt_shared.Acts.{IsHalted}
