@@ -1,9 +1,9 @@
 -- What threads have left, one after the other.
-use Rattle.std.proofs.Common.{◌≡◌, ◌∙◌, ℕ, ◌+◌, List, [], ◌∷◌, ◌++◌, Option, Some, map, length, get_or, refl, sym, ap, subst, append-nil, append_assoc, arith}
+use Rattle.std.proofs.Common.{◌≡◌, ◌∙◌, ℕ, ◌+◌, List, [], ◌∷◌, ◌++◌, Option, Some, map, refl, sym, ap, subst, append-nil, append_assoc, arith}
 use Rattle.std.specs.Prelude.{⊤}
 use Rattle.std.proofs.lemmas.List.{map_push, same_from_push}
 use Rattle.std.proofs.lemmas.List.Elements.{All-nil, All-push, All-weaker, filter_map-append}
-use Rattle.std.specs.List.{All, cons_option, filter_map}
+use Rattle.std.specs.List.{cons_option}
 use mathlib.Core.List.{IsPrefix}
 use Rattle.mt_queue.specs.Ends.{Put}
 use Rattle.mt_owners.specs.mt_shared.Shared.{NodePass, SharedView}

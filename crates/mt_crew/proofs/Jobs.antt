@@ -1,14 +1,14 @@
 -- What a queue was given and what was taken of it.
-use Rattle.std.proofs.Common.{◌≡◌, ◌<◌, ◌∙◌, ℕ, ◌+◌, ◌-◌, Bool, true, false, List, [], ◌∷◌, ◌++◌, Option, Some, None, map, length, get_or, refl, sym, ap, subst, arith, if◌then◌else◌, length-append}
+use Rattle.std.proofs.Common.{◌≡◌, ◌<◌, ◌∙◌, ℕ, ◌+◌, Bool, true, false, List, [], ◌∷◌, ◌++◌, Option, Some, None, map, length, get_or, refl, sym, ap, arith, if◌then◌else◌, length-append}
 use Rattle.std.specs.Prelude.{⊤}
-use Rattle.std.proofs.lemmas.List.{get_or_append_left, get_or_push, map_push, same_from_push}
+use Rattle.std.proofs.lemmas.List.{get_or_append_left, get_or_push}
 use Rattle.std.proofs.lemmas.List.Elements.{All-append, All-cons, All-nil}
-use Rattle.std.specs.List.{All, AllZip}
+use Rattle.std.specs.List.{All}
 use Rattle.mt_outside.specs.declared.network.Arrival.{Arrival}
 use Rattle.mt_outside.specs.declared.network.Arrival.TheVariants.{Datagram, Quiet}
 use Rattle.mt_outside.specs.declared.network.Peer.{Peer}
 use Rattle.mt_outside.specs.Network.{time_of}
-use Rattle.mt_queue.specs.Ends.{Put, QueueId}
+use Rattle.mt_queue.specs.Ends.{Put}
 use Rattle.mt_queue.specs.Jobs.{HasNoEnd, is_end}
 use Rattle.mt_queue.specs.declared.job.Job.{Job}
 use Rattle.mt_queue.specs.declared.job.Job.TheVariants.{End, Take, Wake}
@@ -16,7 +16,7 @@ use Rattle.mt_owners.specs.mt_receiver.Receives.{AllPut, AreSame, with_jobs}
 use Rattle.mt_owners.specs.mt_runs.Datagrams.{session_named}
 use Rattle.mt_owners.specs.mt_receiver.Rounds.{is_for, jobs_for, take_jobs, take_named, wake_jobs, wakes, woken_behind}
 use Rattle.mt_owners.specs.mt_worker.Done.{Done}
-use Rattle.mt_crew.specs.Gathering.{TookAll, TookOfAll, queue_left}
+use Rattle.mt_crew.specs.Gathering.{TookAll, TookOfAll}
 use Rattle.mt_crew.specs.Ready.{IsUnput, queue_put}
 use Rattle.mt_crew.proofs.Lists.{map_same, zip_at}
 

@@ -1,5 +1,5 @@
 -- From what the threads did and left to what serving has come to.
-use Rattle.std.proofs.Common.{◌≡◌, ◌<◌, ◌≤◌, ◌∙◌, ℕ, ◌+◌, ◌-◌, List, [], ◌∷◌, ◌++◌, Option, Result, Ok, Err, OnOk, map, length, get_or, refl, sym, ap, subst, arith, length-append}
+use Rattle.std.proofs.Common.{◌≡◌, ◌<◌, ◌≤◌, ◌∙◌, ℕ, ◌+◌, List, [], ◌∷◌, ◌++◌, Option, Result, Ok, Err, OnOk, map, length, get_or, sym, ap, subst, arith}
 use Rattle.std.specs.Prelude.{⊤}
 use Rattle.std.proofs.lemmas.List.{get_or-map, length-map, map_push}
 use Rattle.std.proofs.lemmas.List.Elements.{All-same}
@@ -8,8 +8,7 @@ use mathlib.Core.List.{IsPrefix}
 use Rattle.mt_model.specs.declared.texts.config.SessionRow.{SessionRow}
 use Rattle.mt_outside.specs.declared.network.Arrival.{Arrival}
 use Rattle.mt_outside.specs.declared.network.Parcel.{Parcel}
-use Rattle.mt_queue.specs.Ends.{Put, QueueId}
-use Rattle.mt_queue.specs.declared.job.Job.{Job}
+use Rattle.mt_queue.specs.Ends.{QueueId}
 use Rattle.mt_queue.specs.declared.job.Job.TheVariants.{End}
 use Rattle.mt_owners.specs.Rows.{AreRowsOf, rows_in}
 use Rattle.mt_owners.specs.mt_receiver.Received as of_receiver
@@ -25,7 +24,7 @@ use Rattle.mt_served.specs.Crews.{DidItsWork, IsCrew, Service, TookTheirJobs, be
 use Rattle.mt_served.specs.mt_shares.Merging.{upto}
 use Rattle.mt_turn.specs.Counts.{how_often, total}
 use Rattle.mt_crew.specs.Gathering.{GatheredAll, TookOfAll, first_fault, first_of, outlet_left, queue_left, status_left, times_left}
-use Rattle.mt_crew.specs.Members.{HasReported, HasWorked, jobs_in, lefts, number_of, rows_of}
+use Rattle.mt_crew.specs.Members.{HasReported, HasWorked, jobs_in, lefts, number_of}
 use Rattle.mt_crew.specs.Ready.{AreReady, AreSeated, HaveSessions, IsUnput, queue_put, queue_taken}
 use Rattle.mt_crew.specs.Serves.{HasReceived, HasServed, TookWhatCame, status_in, status_of}
 use Rattle.mt_crew.specs.declared.member.Member.{Member}

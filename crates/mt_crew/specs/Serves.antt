@@ -1,6 +1,5 @@
 -- What serving has come to: what came, what each thread did with it, and what each has left.
 use Rattle.std.specs.Prelude.{◌≡◌, ◌⊎◌, ℕ, List, [], ◌∷◌, ◌++◌, Option, Result, Ok, Err, OnOk, map, ⊤}
-use Rattle.atomic_table.specs.Seated.{TableId}
 use Rattle.mt_model.specs.declared.texts.config.SessionRow.{SessionRow}
 use Rattle.mt_outside.specs.Network.{AreInOrder}
 use Rattle.mt_outside.specs.declared.network.Arrival.{Arrival}

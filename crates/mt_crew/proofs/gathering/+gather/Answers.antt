@@ -1,8 +1,7 @@
-use Rattle.std.proofs.Common.{ap, sym, ◌++◌, ◌∷◌, [], List, Some, ◌≡◌}
+use Rattle.std.proofs.Common.{ap, sym, Some}
 use Rattle.std.proofs.lemmas.List.Elements.{All-pop}
-use Rattle.mt_owners.specs.mt_worker.Done.{Done}
 use Rattle.mt_crew.specs.Gathering.{TookAll}
-use Rattle.mt_crew.specs.Members.{HasLeft, left_of, lefts}
+use Rattle.mt_crew.specs.Members.{HasLeft}
 use Rattle.mt_crew.proofs.Gatherings.{back_left, gathered_on, left_is, lefts_push, outlets_more, queues_more, status_more}
 use Rattle.mt_crew.proofs.Lists.{zip_more}
 use Rattle.mt_crew.proofs.gathering.+gather.Goals as goal
