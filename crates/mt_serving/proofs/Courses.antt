@@ -3,7 +3,7 @@ use Rattle.std.proofs.Common.{◌≡◌, ◌∙◌, refl, sym, ap, subst, ℕ, �
 use Rattle.std.proofs.lemmas.Bool.{cases_Bool, eqb-true}
 use lib.ListN.{length-map}
 use Rattle.std.proofs.lemmas.List.Elements.{All-cons, All-nil}
-use Rattle.std.specs.Prelude.{All, OnOk, ⊤}
+use Rattle.std.specs.Prelude.{All, None, OnOk, Some, is_some, ⊤}
 use Rattle.mt_model.specs.declared.texts.config.SessionRow.{SessionRow}
 use Rattle.mt_model.specs.texts.Config.{are_sessions}
 use Rattle.mt_outside.specs.declared.network.Arrival.{Arrival}
@@ -18,10 +18,18 @@ use Rattle.mt_crew.specs.mt_legal.Laws.{IsServable}
 use Rattle.mt_crew.specs.mt_served.Laws.{CrewsServe}
 use Rattle.mt_crew.specs.mt_served.Served.{SendsTheRun, run_to}
 use Rattle.mt_crew.specs.mt_worker.Giving.{Gave}
-use Rattle.mt_starting.specs.mt_shared.Book.{are_in_time, is_timed}
+use Rattle.mt_starting.specs.Crashes.{AlwaysTells, IsSafe}
+use Rattle.mt_starting.specs.mt_interactions.Configured.{ConfiguredInteractions}
+use Rattle.mt_starting.specs.mt_keeping.Recovered.{RecoversFrom}
+use Rattle.mt_starting.specs.mt_keeping.States.{KeepingState, told_map}
+use Rattle.mt_starting.specs.mt_shared.Book.{are_in_time, is_timed, stop_in}
 use Rattle.mt_starting.specs.mt_shared.Entry.{Entry}
+use Rattle.mt_starting.specs.mt_shared.Replay.{map_of, replay}
 use Rattle.mt_starting.specs.mt_shared.Shared.{SharedView}
-use Rattle.mt_serving.specs.Serves.{Serves, ServesAll}
+use Rattle.mt_serving.specs.Serves.{KeepsTheEnd, Ran, Serves, ServesAll}
+
+some_same : {X : Type 0} (a b : X) → Some a ≡ Some b → a ≡ b
+some_same a b same = cc
 
 -- THE FIRST STATUS that is not 0: where it is 0, all are.
 
@@ -79,3 +87,24 @@ module _ {I O : Type 0} (held : I → Option (List Arrival)) (clock faults : I �
         ended = took.ended;
         follows = serves.run.follows took.arrivals well.0 well.1 took.took;
       }
+
+module _ {I O D : Type 0} (held : I → Option (List Arrival)) (clock : I → ℕ) (given : O → Option (List Parcel)) (contents : D → Option (List ℕ)) (images : D → List ℕ → Type 0) where
+  -- What a crash leaves of the disk of a store that is safe, behind a book that has no stop.
+  pub keeps_the_end : (origin node : ConfiguredInteractions) (book : List Entry) (store : KeepingState D) (disk : D)
+      → (AlwaysTells contents → store.store.journal.failed ≡ false → IsSafe contents images disk store.store.journal.place (told_map store))
+      → store.store.journal.failed ≡ is_some (stop_in book) → (stop_in book ≡ None → Some (told_map store) ≡ Some (map_of node)) → node ≡ replay origin book
+      → KeepsTheEnd held clock given contents images origin book disk
+  keeps_the_end origin node book store disk safe failed kept is always runs config file left =
+      let map : told_map store ≡ map_of (replay origin book) = some_same (told_map store) (map_of node) (kept runs) ∙ ap map_of is in
+      subst (λ entries. RecoversFrom config entries file) map ((safe always (failed ∙ ap is_some runs)).recovers config file left)
+
+  -- The same course, of what is equal.
+  pub same_course : (limit : ℕ) (lent : List O) (intake : I) (before after : Option (List ℕ)) (old new : ℕ) (origin o : ConfiguredInteractions) (returned r : List O) (left l : I) (disk d : D) (status s : ℕ)
+      → origin ≡ o → returned ≡ r → left ≡ l → disk ≡ d → status ≡ s
+      → Ran held clock given contents images origin limit lent returned intake left disk status before after old new → Ran held clock given contents images o limit lent r intake l d s before after old new
+  same_course limit lent intake before after old new origin o returned r left l disk d status s origins returns lefts disks statuses course =
+      subst (λ (x : ConfiguredInteractions). Ran held clock given contents images x limit lent r intake l d s before after old new) origins
+      (subst (λ (x : List O). Ran held clock given contents images origin limit lent x intake l d s before after old new) returns
+      (subst (λ (x : I). Ran held clock given contents images origin limit lent returned intake x d s before after old new) lefts
+      (subst (λ (x : D). Ran held clock given contents images origin limit lent returned intake left x s before after old new) disks
+      (subst (λ (x : ℕ). Ran held clock given contents images origin limit lent returned intake left disk x before after old new) statuses course))))
