@@ -26,24 +26,24 @@ returns-clause-ran g c =
     let rows : c.args.config.now.sessions ≡ origin.config.sessions = ap (λ it. it.sessions) (sym c.requires.configured) ∙ ap (λ (n : ConfiguredInteractions). n.config.sessions) (sym began) in
     let workers : c.len-workers.result ≡ length c.args.outlets.items = search rules in
     let have : HaveSessions origin.state.node.boot (length c.args.outlets.items) origin.config.sessions c.in-Ok.places =
-        subst (λ (b : ℕ). HaveSessions b (length c.args.outlets.items) origin.config.sessions c.in-Ok.places) boots
-        (subst (λ (n : ℕ). HaveSessions c.state.result.now.boot n origin.config.sessions c.in-Ok.places) workers
-        (subst (λ (all : List SessionRow). HaveSessions c.state.result.now.boot c.len-workers.result all c.in-Ok.places) (c.as_slice.ensures ∙ rows) c.in-Ok.ensures.sessions)) in
+    subst (λ (b : ℕ). HaveSessions b (length c.args.outlets.items) origin.config.sessions c.in-Ok.places) boots
+    (subst (λ (n : ℕ). HaveSessions c.state.result.now.boot n origin.config.sessions c.in-Ok.places) workers
+    (subst (λ (all : List SessionRow). HaveSessions c.state.result.now.boot c.len-workers.result all c.in-Ok.places) (c.as_slice.ensures ∙ rows) c.in-Ok.ensures.sessions)) in
     let its = c.run-ended.ensures.crew origin.state.node.boot origin.config.sessions have in
     let servable : IsServable origin = subst IsServable (sym began) (record { rules = c.args.started.serves.rules; valid = c.args.started.serves.valid }) in
     let fit : are_sessions origin.config.sessions ≡ true = ap are_sessions (sym rows) ∙ c.args.config.now.sessions_are_valid in
     let there = serves g.I.Intake.held g.I.Intake.clock g.I.Intake.faults g.O.Outlet.given g.O.Outlet.faults c.crews_serve.ensures shared c.args.limit c.args.outlets.items ended.outlets.items c.args.intake ended.intake ended.received book ended.status
-        servable fit c.run-ended.ensures.in_time c.run-ended.ensures.timed c.requires.several.0 its in
+    servable fit c.run-ended.ensures.in_time c.run-ended.ensures.timed c.requires.several.0 its in
     let all = serves_all g.I.Intake.held g.I.Intake.clock g.I.Intake.faults g.O.Outlet.given g.O.Outlet.faults c.crews_serve.ensures shared c.args.limit c.args.outlets.items ended.outlets.items c.args.intake ended.intake ended.received book ended.status
-        servable fit c.run-ended.ensures.in_time c.run-ended.ensures.timed c.requires.several.0 its in
+    servable fit c.run-ended.ensures.in_time c.run-ended.ensures.timed c.requires.several.0 its in
     let keeper : c.into_keeper.result ≡ ended.held.keeper = c.into_keeper.ensures ∙ ap (λ it. it.1.keeper) c.into_parts-status.ensures in
     let end = keeps_the_end g.I.Intake.held g.I.Intake.clock g.O.Outlet.given g.D.Disk.contents g.D.Disk.images origin ended.held.node book c.into_keeper.result c.into_disk-2.result c.into_disk-2.ensures.safe
-        (ap (λ s. s.store.journal.failed) keeper ∙ c.run-ended.ensures.failed) (λ runs. ap (λ s. Some (told_map s)) keeper ∙ c.run-ended.ensures.kept runs) c.run-ended.ensures.node in
+    (ap (λ s. s.store.journal.failed) keeper ∙ c.run-ended.ensures.failed) (λ runs. ap (λ s. Some (told_map s)) keeper ∙ c.run-ended.ensures.kept runs) c.run-ended.ensures.node in
     let books : c.deref.result.now ≡ book = c.deref.ensures.value ∙ ap (λ it. it.1.book.items) c.into_parts-status.ensures in
     let stopped : c.into_parts-status.result.0 ≡ ended.status = ap (λ it. it.0) c.into_parts-status.ensures in
     let told : TellsEnd book ended.status c.tell_end-status.result (written c.args.out.now) (written c.tell_end-status.new.out) (faults c.args.out.now) (faults c.tell_end-status.new.out) =
-        subst (λ (b : List Entry). TellsEnd b ended.status c.tell_end-status.result (written c.args.out.now) (written c.tell_end-status.new.out) (faults c.args.out.now) (faults c.tell_end-status.new.out)) books
-        (subst (λ (n : ℕ). TellsEnd c.deref.result.now n c.tell_end-status.result (written c.args.out.now) (written c.tell_end-status.new.out) (faults c.args.out.now) (faults c.tell_end-status.new.out)) stopped c.tell_end-status.ensures) in
+    subst (λ (b : List Entry). TellsEnd b ended.status c.tell_end-status.result (written c.args.out.now) (written c.tell_end-status.new.out) (faults c.args.out.now) (faults c.tell_end-status.new.out)) books
+    (subst (λ (n : ℕ). TellsEnd c.deref.result.now n c.tell_end-status.result (written c.args.out.now) (written c.tell_end-status.new.out) (faults c.args.out.now) (faults c.tell_end-status.new.out)) stopped c.tell_end-status.ensures) in
     same_course g.I.Intake.held g.I.Intake.clock g.O.Outlet.given g.D.Disk.contents g.D.Disk.images c.args.limit c.args.outlets.items c.args.intake (written c.args.out.now) (written c.tell_end-status.new.out) (faults c.args.out.now) (faults c.tell_end-status.new.out)
     origin c.args.started.node ended.outlets.items c.new-2.result.outlets.items ended.intake c.new-2.result.intake c.into_disk-2.result c.new-2.result.disk c.tell_end-status.result c.new-2.result.status
     began (sym (ap (λ v. v.items) c.new-2.ensures.outlets ∙ ap (λ it. it.3.items) c.into_parts-status.ensures)) (sym (c.new-2.ensures.intake ∙ ap (λ it. it.2) c.into_parts-status.ensures)) (sym c.new-2.ensures.disk) (sym c.new-2.ensures.status)
