@@ -1,23 +1,20 @@
 -- What the threads of a started node did is serving.
-use Rattle.std.proofs.Common.{◌≡◌, ◌∙◌, refl, sym, ap, subst, ℕ, ◌<◌, ◌==◌, Bool, true, false, inl, inr, if◌then◌else◌, List, [], ◌∷◌, ◌++◌, Option, Result, Ok, Err, length, map, arith}
+use Rattle.std.proofs.Common.{◌≡◌, ◌∙◌, sym, ap, subst, ℕ, ◌<◌, ◌==◌, Bool, true, false, inl, inr, if◌then◌else◌, List, [], ◌∷◌, ◌++◌, Option, Result, Ok, Err, length, map, arith}
 use Rattle.std.proofs.lemmas.Bool.{cases_Bool, eqb-true}
 use lib.ListN.{length-map}
 use Rattle.std.proofs.lemmas.List.Elements.{All-cons, All-nil}
 use Rattle.std.specs.Prelude.{All, None, OnOk, Some, is_some, ⊤}
-use Rattle.mt_model.specs.declared.texts.config.SessionRow.{SessionRow}
 use Rattle.mt_model.specs.texts.Config.{are_sessions}
 use Rattle.mt_outside.specs.declared.network.Arrival.{Arrival}
 use Rattle.mt_outside.specs.declared.network.Parcel.{Parcel}
 use Rattle.mt_crew.specs.Gathering.{first_fault, first_of}
-use Rattle.mt_crew.specs.Serves.{HasServed, TookWhatCame, status_in, status_of}
+use Rattle.mt_crew.specs.Serves.{HasServed, status_in, status_of}
 use Rattle.mt_crew.specs.mt_receiver.ReceiveFault.{ReceiveFault}
 use Rattle.mt_crew.specs.mt_receiver.TheVariants.{Memory, Link}
 use Rattle.mt_crew.specs.mt_receiver.Received as of_receiver
 use Rattle.mt_crew.specs.mt_served.Crews.{Service, lent_of}
 use Rattle.mt_crew.specs.mt_legal.Laws.{IsServable}
 use Rattle.mt_crew.specs.mt_served.Laws.{CrewsServe}
-use Rattle.mt_crew.specs.mt_served.Served.{SendsTheRun, run_to}
-use Rattle.mt_crew.specs.mt_worker.Giving.{Gave}
 use Rattle.mt_starting.specs.Crashes.{AlwaysTells, IsSafe}
 use Rattle.mt_starting.specs.mt_interactions.Configured.{ConfiguredInteractions}
 use Rattle.mt_starting.specs.mt_keeping.Recovered.{RecoversFrom}

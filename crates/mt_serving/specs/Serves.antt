@@ -1,5 +1,5 @@
 -- What serving comes to, from the disk to the record.
-use Rattle.std.specs.Prelude.{◌≡◌, ◌⊎◌, ℕ, true, List, Option, None, Some, All, length, map, ⊤}
+use Rattle.std.specs.Prelude.{◌≡◌, ◌⊎◌, ℕ, true, List, Option, None, All, length, map, ⊤}
 use Rattle.mt_model.specs.declared.texts.config.Config.{Config}
 use Rattle.mt_model.specs.texts.Contents.{Contents}
 use Rattle.mt_outside.specs.Network.{AreInOrder}

@@ -1,5 +1,5 @@
 use Rattle.std.proofs.Common.{rules, ◌≡◌, ◌∙◌, sym, ap, subst, ℕ, List, true}
-use Rattle.std.specs.Prelude.{None, Some, length}
+use Rattle.std.specs.Prelude.{Some, length}
 use Rattle.mt_crew.specs.Ready.{HaveSessions}
 use Rattle.mt_crew.specs.mt_legal.Laws.{IsServable}
 use Rattle.mt_model.specs.texts.Config.{are_sessions}
