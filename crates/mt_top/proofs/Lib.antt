@@ -1,6 +1,7 @@
 pub mod Asks
 pub mod Compared
 pub mod Faults
+pub mod Found
 pub mod Isolated
 pub mod Plays
 pub mod Secret
