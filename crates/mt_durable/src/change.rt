@@ -1,6 +1,6 @@
 //! A change as bytes.
 
-ghost use Rattle.std.specs.Prelude.{◌≡◌, ◌++◌, IfOk, IsTrue, OnOk};
+ghost use Rattle.std.specs.Prelude.{◌≡◌, ◌++◌, IfOk, IsTrue, OnErr, OnOk};
 ghost use Rattle.mt_durable.specs.Changes.{change_bytes, entry_tree, entry_trees};
 ghost use Rattle.mt_durable.specs.Maps.{have_values, keys_ascend};
 ghost use Rattle.mt_tlv.specs.View.{elements, tree};
@@ -12,6 +12,7 @@ use std::alloc::{AllocError, Global};
 /// Writes the bytes of a change at the end. It takes the change apart for it.
 pub fn write_change(alloc: Global, change: Change, out: &mut Vec<u8>) -> Result<(), AllocError>
     ensures written { OnOk result (out.new.items ≡ out.old.items ++ change_bytes change) }
+    ensures restored { OnErr result (out.new.items ≡ out.old.items) }
 {
     let mut structures = Vec::new(alloc);
     for entry in change.into_vec() {
@@ -27,6 +28,7 @@ pub fn write_image(alloc: Global, map: &Durable, out: &mut Vec<u8>) -> Result<()
     ensures written { OnOk result (out.new.items ≡ out.old.items ++ change_bytes map.now) }
     ensures ascend { OnOk result (IsTrue (keys_ascend map.now)) }
     ensures whole { OnOk result (IsTrue (have_values map.now)) }
+    ensures restored { OnErr result (out.new.items ≡ out.old.items) }
 {
     write_change(alloc, map.copy()?.into_change(), out)
 }

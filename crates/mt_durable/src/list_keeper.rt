@@ -1,8 +1,9 @@
 //! A keeper in memory, some of whose calls fail: for tests, and for runs that keep nothing.
 
-ghost use Rattle.std.specs.Prelude.{◌≡◌, ◌≤◌, ◌↔◌, ◌⊎◌, Some, false, is_err, length, Contains, IfOk, IsErr, IsTrue, OnErr, OnOk};
+ghost use Rattle.std.specs.Prelude.{◌≡◌, ◌≤◌, ◌↔◌, ◌⊎◌, List, Some, false, is_err, length, Contains, IfOk, IsErr, IsTrue, OnErr, OnOk};
 ghost use Rattle.mt_durable.specs.Keepers.{ListKeeperState, any_map, new_keeper};
 ghost use Rattle.mt_durable.specs.Keeping.{Committed, HasRoom, IsAdmitted, IsChange, LeadsTo, WasOrCommitted};
+ghost use Rattle.mt_durable.specs.declared.durable.Entry.{Entry};
 ghost use Rattle.mt_outside.specs.Stream.{HasCause, one_more};
 
 use crate::durable::Durable;
@@ -109,6 +110,8 @@ impl Keeper for ListKeeper {
 
     ghost faults = { λ keeper. keeper.faults };
 
+    ghost stands_between = { λ keeper before after. (keeper.map ≡ before) ⊎ (keeper.map ≡ after) };
+
     /// A call that is not listed fails too where no memory is left for the change.
     fn commit(&mut self, change: &[u8]) -> Result<(), Failed>
         requires form { IsChange change.now }
@@ -119,6 +122,8 @@ impl Keeper for ListKeeper {
         ensures failed { self.new.failed ≡ is_err result }
         ensures stays { IsTrue self.old.failed → IsErr result × (Some self.new.map ≡ Some self.old.map) × (self.new.faults ≡ self.old.faults) }
         ensures cause { self.old.failed ≡ false → HasCause self.old.faults self.new.faults result }
+        ensures between { (before : List Entry) (after : List Entry) → self.old.failed ≡ false → Some self.old.map ≡ Some before → LeadsTo change.now before after
+            → OnErr result ((self.new.map ≡ before) ⊎ (self.new.map ≡ after)) }
 
         // A call that fails leaves the map without the change, and one behind it leaves all.
         ensures unchanged { OnErr result (self.new.map ≡ self.old.map) }

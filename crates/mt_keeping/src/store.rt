@@ -1,10 +1,11 @@
 //! Recovering a state, and committing a change of it.
 
-ghost use Rattle.std.specs.Prelude.{◌≡◌, ℕ, List, None, Ok, Err, Some, false, is_err, option_map, IfErr, IfOk, OnErr, OnOk, IsErr, IsTrue};
+ghost use Rattle.std.specs.Prelude.{◌≡◌, ◌⊎◌, ℕ, List, None, Ok, Err, Some, false, is_err, option_map, IfErr, IfOk, OnErr, OnOk, IsErr, IsTrue};
 ghost use Rattle.std.specs.Borrow.{Lends, sem};
-ghost use Rattle.mt_durable.specs.Keeping.{Committed, HasRoom, IsAdmitted, IsChange, WasOrCommitted};
+ghost use Rattle.mt_durable.specs.Keeping.{Committed, HasRoom, IsAdmitted, IsChange, LeadsTo, WasOrCommitted};
 ghost use Rattle.mt_durable.specs.Reading.{said};
 ghost use Rattle.mt_durable.specs.Setting.{with_all};
+ghost use Rattle.mt_durable.specs.declared.durable.Entry.{Entry};
 ghost use Rattle.mt_grammar.specs.Grammar.{is_in_grammar};
 ghost use Rattle.mt_journal.specs.Recovering.{FaultHasCause, HasPlace, HasReadCause, IfNotAJournal, OnlyRead};
 ghost use Rattle.mt_journal.specs.Standing.{fits_at, switch_calls};
@@ -202,6 +203,8 @@ impl<D: Disk> Keeper for Store<D> {
 
     ghost faults = { λ store. D.faults store.store.journal.disk };
 
+    ghost stands_between = { λ store before after. (told_map store ≡ before) ⊎ (told_map store ≡ after) };
+
     /// It takes no memory. The first commit carries the rollback: what goes to the disk is the change from the map that the
     /// journal has to the one to which the commit leads.
     fn commit(&mut self, change: &[u8]) -> Result<(), Failed>
@@ -213,6 +216,8 @@ impl<D: Disk> Keeper for Store<D> {
         ensures failed { self.new.store.journal.failed ≡ is_err result }
         ensures stays { IsTrue self.old.store.journal.failed → IsErr result × (Some (told_map self.new) ≡ Some (told_map self.old)) × (D.faults self.new.store.journal.disk ≡ D.faults self.old.store.journal.disk) }
         ensures cause { self.old.store.journal.failed ≡ false → HasCause (D.faults self.old.store.journal.disk) (D.faults self.new.store.journal.disk) result }
+        ensures between { (before : List Entry) (after : List Entry) → self.old.store.journal.failed ≡ false → Some (told_map self.old) ≡ Some before → LeadsTo change.now before after
+            → OnErr result ((told_map self.new ≡ before) ⊎ (told_map self.new ≡ after)) }
 
         // Where a call has failed, none is made.
         ensures still { IsTrue self.old.store.journal.failed → self.new ≡ self.old }

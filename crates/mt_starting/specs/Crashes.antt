@@ -17,6 +17,10 @@ pub record IsSafe {D : Type 0} (contents : D → Option (List ℕ)) (images : D 
   pub keeps : KeepsMap contents images disk place map
   pub recovers : (config : Contents) (file : List ℕ) → images disk file → RecoversFrom config map file
 
+-- of each file that a crash now leaves is recovered what a node goes on with behind the one map or the other
+abbrev pub IsBetween : {D : Type 0} → (D → List ℕ → Type 0) → D → List Entry → List Entry → Type 0
+IsBetween images disk before after = (config : Contents) (file : List ℕ) → images disk file → RecoversEither config before after file
+
 -- A COMMIT HAS FAILED: of each file that a crash now leaves is recovered what a node goes on with behind the map from before it, or behind the one
 -- to which its change leads. The map that is told is one of both.
 pub record IsEither {D : Type 0} (images : D → List ℕ → Type 0) (disk : D) (map : List Entry) : Type 0 where
@@ -25,7 +29,7 @@ pub record IsEither {D : Type 0} (images : D → List ℕ → Type 0) (disk : D)
   pub change : List ℕ
   pub leads : LeadsTo change before after
   pub told : (map ≡ before) ⊎ (map ≡ after)
-  pub recovers : (config : Contents) (file : List ℕ) → images disk file → RecoversEither config before after file
+  pub recovers : IsBetween images disk before after
 
 -- WHAT A STORE KEEPS to which was committed since it was recovered. Of the crashes of disks that cannot tell their contents nothing is said.
 pub record KeepsSafe {D : Type 0} (contents : D → Option (List ℕ)) (images : D → List ℕ → Type 0) (state : KeepingState D) : Type 0 where

@@ -1,9 +1,10 @@
 //! A store of states that keeps what a crash leaves of its disk.
 
 ghost use Rattle.std.specs.Prelude.{◌≡◌, ℕ, List, None, Some, false, true, is_err, OnErr, OnOk, IsErr, IsTrue};
-ghost use Rattle.mt_durable.specs.Keeping.{Committed, HasRoom, IsAdmitted, IsChange, WasOrCommitted};
+ghost use Rattle.mt_durable.specs.Keeping.{Committed, HasRoom, IsAdmitted, IsChange, LeadsTo, WasOrCommitted};
 ghost use Rattle.mt_durable.specs.Reading.{said};
 ghost use Rattle.mt_durable.specs.Setting.{with_all};
+ghost use Rattle.mt_durable.specs.declared.durable.Entry.{Entry};
 ghost use Rattle.mt_grammar.specs.Grammar.{is_in_grammar};
 ghost use Rattle.mt_journal.specs.Standing.{switch_calls};
 ghost use Rattle.mt_journal.specs.Stopping.{Outlasts};
@@ -13,7 +14,7 @@ ghost use Rattle.mt_outside.specs.Logs.{fewer};
 ghost use Rattle.mt_outside.specs.Stream.{HasCause};
 ghost use Rattle.mt_shared.specs.mt_keeping.Recovered.{KeepsMap, RecoversEither, RecoversFrom, StopHoldsMap};
 ghost use Rattle.mt_shared.specs.mt_keeping.States.{told_map};
-ghost use Rattle.mt_starting.specs.Crashes.{AlwaysTells, IsEither, IsSafe};
+ghost use Rattle.mt_starting.specs.Crashes.{AlwaysTells, IsBetween, IsEither, IsSafe};
 
 use mt_durable::{Keeper, bytes_of_a_change_are_read, changes_lead_on};
 use mt_outside::{Disk, Failed};
@@ -81,6 +82,9 @@ impl<D: Disk> Keeper for SafeStore<D> {
 
     ghost faults = { λ store. D.faults store.store.journal.disk };
 
+    // Over a disk that can always tell its contents: of what a crash leaves one of both is recovered.
+    ghost stands_between = { λ store before after. AlwaysTells D.contents → IsBetween D.images store.store.journal.disk before after };
+
     /// It commits as a store does.
     fn commit(&mut self, change: &[u8]) -> Result<(), Failed>
         requires form { IsChange change.now }
@@ -91,6 +95,8 @@ impl<D: Disk> Keeper for SafeStore<D> {
         ensures failed { self.new.store.journal.failed ≡ is_err result }
         ensures stays { IsTrue self.old.store.journal.failed → IsErr result × (Some (told_map self.new) ≡ Some (told_map self.old)) × (D.faults self.new.store.journal.disk ≡ D.faults self.old.store.journal.disk) }
         ensures cause { self.old.store.journal.failed ≡ false → HasCause (D.faults self.old.store.journal.disk) (D.faults self.new.store.journal.disk) result }
+        ensures between { (before : List Entry) (after : List Entry) → self.old.store.journal.failed ≡ false → Some (told_map self.old) ≡ Some before → LeadsTo change.now before after
+            → OnErr result (AlwaysTells D.contents → IsBetween D.images self.new.store.journal.disk before after) }
         // Beyond what a keeper says: as of a store.
         ensures still { IsTrue self.old.store.journal.failed → self.new ≡ self.old }
         ensures in_use { OnOk result (self.new.rolled ≡ None) }

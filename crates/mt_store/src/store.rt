@@ -1,10 +1,10 @@
 //! Recovering a map, and committing a change of it.
 
-ghost use Rattle.std.specs.Prelude.{◌≡◌, ◌<◌, ◌≤◌, ℕ, List, Some, Err, false, true, is_err, length, IfErr, IfOk, OnErr, OnOk, IsErr, IsTrue};
+ghost use Rattle.std.specs.Prelude.{◌≡◌, ◌<◌, ◌≤◌, ◌⊎◌, ℕ, List, Some, Err, false, true, is_err, length, IfErr, IfOk, OnErr, OnOk, IsErr, IsTrue};
 ghost use Rattle.std.specs.Borrow.{Lends, sem};
 ghost use Rattle.mt_durable.specs.Changes.{change_bytes, entry_trees};
 ghost use Rattle.mt_durable.specs.Images.{IsImage};
-ghost use Rattle.mt_durable.specs.Keeping.{Committed, HasRoom, IsAdmitted, IsChange, WasOrCommitted};
+ghost use Rattle.mt_durable.specs.Keeping.{Committed, HasRoom, IsAdmitted, IsChange, LeadsTo, WasOrCommitted};
 ghost use Rattle.mt_durable.specs.Reading.{said};
 ghost use Rattle.mt_durable.specs.Readings.{Gives};
 ghost use Rattle.mt_durable.specs.Setting.{with_all};
@@ -244,6 +244,8 @@ impl<D: Disk, F: MapForm> Keeper for Store<D, F> {
 
     ghost faults = { λ store. D.faults store.journal.disk };
 
+    ghost stands_between = { λ store before after. (store.image ≡ before) ⊎ (store.image ≡ after) };
+
     /// It takes no memory. A change that does not fit into the current slot of the journal goes into the
     /// other, as the image of the map after it.
     fn commit(&mut self, change: &[u8]) -> Result<(), Failed>
@@ -255,6 +257,8 @@ impl<D: Disk, F: MapForm> Keeper for Store<D, F> {
         ensures failed { self.new.journal.failed ≡ is_err result }
         ensures stays { IsTrue self.old.journal.failed → IsErr result × (Some self.new.image ≡ Some self.old.image) × (D.faults self.new.journal.disk ≡ D.faults self.old.journal.disk) }
         ensures cause { self.old.journal.failed ≡ false → HasCause (D.faults self.old.journal.disk) (D.faults self.new.journal.disk) result }
+        ensures between { (before : List Entry) (after : List Entry) → self.old.journal.failed ≡ false → Some self.old.image ≡ Some before → LeadsTo change.now before after
+            → OnErr result ((self.new.image ≡ before) ⊎ (self.new.image ≡ after)) }
 
         // Where a call has failed, none is made.
         ensures still { IsTrue self.old.journal.failed → self.new ≡ self.old }

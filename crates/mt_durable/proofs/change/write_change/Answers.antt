@@ -36,4 +36,7 @@ returns c =
     let none_left : c.loop-entry.entry-iterator.rest.items ≡ [] = grind (arith, common_steps) in
     let all : elements c.loop-entry.structures.items ≡ entry_trees c.args.change =
     sym (all_of c.loop-entry.structures.items) ∙ ap (λ (l : List Entry). followed_by c.loop-entry.structures.items (entry_trees l)) (sym none_left) ∙ c.loop-entry.invariant.rest in
-    record { written = subst (λ (es : Elements). OnOk c.write.result (c.write.new.out.items ≡ c.args.out.now.items ++ narrow Anonymous (array es))) (c.from_vec.ensures ∙ all) c.write.ensures.written }
+    record {
+      written = subst (λ (es : Elements). OnOk c.write.result (c.write.new.out.items ≡ c.args.out.now.items ++ narrow Anonymous (array es))) (c.from_vec.ensures ∙ all) c.write.ensures.written;
+      restored = c.write.ensures.restored;
+    }
