@@ -24,9 +24,6 @@ index_missing fabric fabrics refused = rw refused refl
 table_there : (fabric : Fabric) (fabrics : List Fabric) → is_none (add_refusal fabric fabrics) ≡ true → with_joined fabric fabrics ≡ added fabric fabrics
 table_there fabric fabrics free = rw free refl
 
-table_kept : (fabric : Fabric) (fabrics : List Fabric) → is_none (add_refusal fabric fabrics) ≡ false → with_joined fabric fabrics ≡ fabrics
-table_kept fabric fabrics refused = rw refused refl
-
 -- the table took the fabric under this index
 pub joined_under : (asking : Option Actor) (fabric copy : Fabric) (index : ℕ) (fabrics : List Fabric) (s : NodeState)
     → may_note_added s.armed ≡ true → Some index ≡ index_for fabric s.fabrics → fabrics ≡ with_joined fabric s.fabrics → copy ≡ fabric
@@ -42,12 +39,8 @@ joined_under asking fabric copy index fabrics s may under table same = elim (cas
 ]
 
 -- the table refused it
-pub joined_not : (asking : Option Actor) (fabric : Fabric) (fabrics : List Fabric) (s : NodeState)
-    → may_note_added s.armed ≡ true → None ≡ index_for fabric s.fabrics → fabrics ≡ with_joined fabric s.fabrics
-    → record s { fabrics = fabrics } ≡ joined asking fabric s
-joined_not asking fabric fabrics s may under table = elim (cases_Bool (is_none (add_refusal fabric s.fabrics))) [
+pub joined_not : (asking : Option Actor) (fabric : Fabric) (s : NodeState) → may_note_added s.armed ≡ true → None ≡ index_for fabric s.fabrics → s ≡ joined asking fabric s
+joined_not asking fabric s may under = elim (cases_Bool (is_none (add_refusal fabric s.fabrics))) [
   | inl free ↦ absurd (cc (under ∙ index_there fabric s.fabrics free))
-  | inr refused ↦
-      let there : fabrics ≡ s.fabrics = table ∙ table_kept fabric s.fabrics refused in
-      (λ i. record s { fabrics = there i }) ∙ joins_not asking fabric s (rw (may, refused) refl)
+  | inr refused ↦ joins_not asking fabric s (rw (may, refused) refl)
 ]

@@ -1,2 +1,3 @@
 pub mod Expired
+pub mod Partly
 pub mod Table

@@ -27,12 +27,13 @@ with_updated index given fabrics = if is_none (update_refusal index given fabric
 abbrev pub with_removed : ℕ → List Fabric → List Fabric
 with_removed index fabrics = if is_used index fabrics then removed index fabrics else fabrics
 
--- the state of a table that a fabric has left, without all else that is its own
-abbrev pub left : ℕ → NodeState → NodeState
-left index s = record s {
+-- the state with the table that a fabric has left, without all else that is its own
+abbrev pub left : ℕ → List Fabric → NodeState → NodeState
+left index fabrics s = record s {
   rows = filter (λ (row : Row). stays (Some index) row.fabric) s.rows;
   entries = filter (λ (entry : AclEntry). stays (Some index) entry.fabric) s.entries;
-  roots = filter (states.is_used s.fabrics s.armed) s.roots;
+  fabrics = fabrics;
+  roots = filter (states.is_used fabrics s.armed) s.roots;
   sessions = map (session_without index) s.sessions;
   plain = plain_without index s.plain;
 }

@@ -1,6 +1,6 @@
 //! What an expiry of the fail-safe makes of a state: the state behind it is made whole, beside the one that stands.
 
-ghost use Rattle.std.specs.Prelude.{◌≡◌, ◌∷◌, [], IfOk, OnOk, filter, map};
+ghost use Rattle.std.specs.Prelude.{◌≡◌, ◌∷◌, [], IfOk, OnErr, OnOk, filter, map};
 ghost use Rattle.std.specs.List.{list_any};
 ghost use Rattle.mt_tlv.specs.declared.value.Value.TheVariants.{Uint};
 ghost use Rattle.mt_failsafe.specs.Calls.{undo_of};
@@ -52,7 +52,8 @@ pub fn rolled_back(alloc: Global, state: &NodeState) -> Result<NodeState, AllocE
 /// The fail-safe expires: what was done under it is taken back.
 pub(crate) fn expire(alloc: Global, state: &mut NodeState) -> Result<(), AllocError>
     requires { IsValid state.old }
-    ensures { OnOk result (state.new ≡ rollback state.old) }
+    ensures made { OnOk result (state.new ≡ rollback state.old) }
+    ensures kept { OnErr result (state.new ≡ state.old) }
 {
     *state = rolled_back(alloc, state)?;
     Ok(())

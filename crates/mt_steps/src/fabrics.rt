@@ -1,6 +1,6 @@
 //! What steps make of the table of fabrics, and of what follows from it.
 
-ghost use Rattle.std.specs.Prelude.{◌≡◌, IfOk, IsTrue, OnOk, filter, map, option_map};
+ghost use Rattle.std.specs.Prelude.{◌≡◌, IfOk, IsTrue, OnErr, OnOk, filter, map, option_map};
 ghost use Rattle.std.specs.List.{list_any};
 ghost use Rattle.mt_fabrics.specs.Table.{IsTable, is_used};
 ghost use Rattle.mt_failsafe.specs.Facts.{keeps_facts};
@@ -29,14 +29,16 @@ pub(crate) fn add_fabric(
 ) -> Result<(), AllocError>
     requires table { IsTable state.old.fabrics }
     requires facts { IsTrue (keeps_facts state.old.armed) }
-    ensures { OnOk result (state.new ≡ joined asking fabric state.old) }
+    ensures made { OnOk result (state.new ≡ joined asking fabric state.old) }
+    ensures kept { OnErr result (state.new ≡ state.old) }
 {
     if !may_note_added(state.armed.as_ref()) {
         return Ok(());
     }
     let joining = fabric.copy()?;
-    match put_fabric(alloc, fabric, &mut state.fabrics)? {
-        Some(index) => join(alloc, asking, index, &joining, state),
+    let mut fabrics = state.fabrics.copy()?;
+    match put_fabric(alloc, fabric, &mut fabrics)? {
+        Some(index) => join(alloc, asking, index, &joining, fabrics, state),
         None => Ok(()),
     }
 }
@@ -65,20 +67,23 @@ fn put_fabric(
     }
 }
 
-// What follows from a fabric that has joined under this index.
+// What follows from a fabric that has joined under this index, in the table that is now this.
 fn join(
     alloc: Global,
     asking: Option<Actor>,
     index: u8,
     fabric: &Fabric,
+    fabrics: Fabrics,
     state: &mut NodeState,
 ) -> Result<(), AllocError>
     requires facts { IsTrue (keeps_facts state.old.armed) }
     requires may { IsTrue (may_note_added state.old.armed) }
-    ensures { OnOk result (state.new ≡ record state.old { armed = option_map (with_added index (is_pase asking)) state.old.armed; sessions = map (session_joined asking index fabric.now) state.old.sessions; plain = plain_joined asking index state.old.plain }) }
+    ensures kept { OnErr result (state.new ≡ state.old) }
+    ensures made { OnOk result (state.new ≡ record state.old { fabrics = fabrics; armed = option_map (with_added index (is_pase asking)) state.old.armed; sessions = map (session_joined asking index fabric.now) state.old.sessions; plain = plain_joined asking index state.old.plain }) }
 {
     let sessions = sessions_joined(alloc, asking, index, fabric, state.sessions.as_slice())?;
     note_added(index, is_pase(asking), &mut state.armed);
+    state.fabrics = fabrics;
     state.sessions = sessions;
     state.plain = plain_joined(asking, index, state.plain);
     Ok(())
@@ -149,15 +154,17 @@ pub(crate) fn remove_fabric(
     state: &mut NodeState,
 ) -> Result<(), AllocError>
     requires { IsTable state.old.fabrics }
-    ensures { OnOk result (state.new ≡ without_fabric index state.old) }
+    ensures made { OnOk result (state.new ≡ without_fabric index state.old) }
+    ensures kept { OnErr result (state.new ≡ state.old) }
 {
     if is_context(index, state.armed.as_ref()) {
         return Ok(());
     }
-    if !take_out(alloc, index, &mut state.fabrics) {
+    let mut fabrics = state.fabrics.copy()?;
+    if !take_out(alloc, index, &mut fabrics) {
         return Ok(());
     }
-    leave(alloc, index, state)
+    leave(alloc, index, fabrics, state)
 }
 
 // Takes the fabric of this index out of the table, and answers whether there was one.
@@ -179,21 +186,28 @@ fn take_out(alloc: Global, index: u8, fabrics: &mut Fabrics) -> bool
     }
 }
 
-// What follows for a fabric that has left the table.
-fn leave(alloc: Global, index: u8, state: &mut NodeState) -> Result<(), AllocError>
-    ensures { OnOk result (state.new ≡ left index state.old) }
+// What follows for a fabric that has left the table, which is now this.
+fn leave(
+    alloc: Global,
+    index: u8,
+    fabrics: Fabrics,
+    state: &mut NodeState,
+) -> Result<(), AllocError>
+    ensures made { OnOk result (state.new ≡ left index fabrics state.old) }
+    ensures kept { OnErr result (state.new ≡ state.old) }
 {
     let rows = state.rows.copy_without(Some(index))?;
     let entries = entries_behind(alloc, state.entries.as_slice(), Some(index))?;
     let roots = roots_in_use(
         alloc,
-        state.fabrics.as_slice(),
+        fabrics.as_slice(),
         &state.armed,
         state.roots.as_slice(),
     )?;
     let sessions = sessions_without(alloc, index, state.sessions.as_slice())?;
     state.rows = rows;
     state.entries = entries;
+    state.fabrics = fabrics;
     state.roots = roots;
     state.sessions = sessions;
     state.plain = plain_without(index, state.plain);

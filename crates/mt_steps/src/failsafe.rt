@@ -1,6 +1,6 @@
 //! What steps make of the fail-safe, and of what is done under it but for the table of fabrics.
 
-ghost use Rattle.std.specs.Prelude.{◌≡◌, IsTrue, OnOk, bytes_eq, option_map};
+ghost use Rattle.std.specs.Prelude.{◌≡◌, IsTrue, OnErr, OnOk, bytes_eq, option_map};
 ghost use Rattle.std.specs.List.{list_any};
 ghost use Rattle.mt_failsafe.specs.Calls.{renewed};
 ghost use Rattle.mt_failsafe.specs.Facts.{keeps_facts};
@@ -23,7 +23,8 @@ pub(crate) fn arm(
     seconds: u16,
     state: &mut NodeState,
 ) -> Result<(), AllocError>
-    ensures { OnOk result (state.new ≡ record state.old { armed = armed_behind owner state.old.clock seconds state.old.networks state.old.armed }) }
+    ensures made { OnOk result (state.new ≡ record state.old { armed = armed_behind owner state.old.clock seconds state.old.networks state.old.armed }) }
+    ensures kept { OnErr result (state.new ≡ state.old) }
 {
     if state.armed.is_some() {
         return Ok(());
@@ -60,7 +61,8 @@ pub(crate) fn renew(now: u64, seconds: u16, armed: &mut Option<Armed>)
 /// Ends it, where it is armed: what was done under it stays, sessions of PASE that have the fabric for which
 /// commissioning went on end, and roots that no fabric uses go.
 pub(crate) fn complete(alloc: Global, state: &mut NodeState) -> Result<(), AllocError>
-    ensures { OnOk result (state.new ≡ completed state.old.armed state.old) }
+    ensures made { OnOk result (state.new ≡ completed state.old.armed state.old) }
+    ensures kept { OnErr result (state.new ≡ state.old) }
 {
     let Some(armed) = &state.armed else {
         return Ok(());
@@ -78,7 +80,8 @@ pub(crate) fn complete(alloc: Global, state: &mut NodeState) -> Result<(), Alloc
 /// Trusts this root certificate, and notes it, where that may be.
 pub(crate) fn trust(cert: Bytes, state: &mut NodeState) -> Result<(), AllocError>
     requires { IsTrue (keeps_facts state.old.armed) }
-    ensures { OnOk result (state.new ≡ trusting cert state.old) }
+    ensures made { OnOk result (state.new ≡ trusting cert state.old) }
+    ensures kept { OnErr result (state.new ≡ state.old) }
 {
     if !may_note_root(state.armed.as_ref()) {
         return Ok(());
@@ -89,7 +92,8 @@ pub(crate) fn trust(cert: Bytes, state: &mut NodeState) -> Result<(), AllocError
 }
 
 fn add_root(root: &Bytes, roots: &mut Roots) -> Result<(), AllocError>
-    ensures { OnOk result (roots.new ≡ with_root roots.old root.now) }
+    ensures roots { OnOk result (roots.new ≡ with_root roots.old root.now) }
+    ensures kept { OnErr result (roots.new ≡ roots.old) }
 {
     if is_root_among(root.as_slice(), roots.as_slice()) {
         return Ok(());

@@ -1,5 +1,5 @@
-//! What steps make of a state: the code of the definitions of `Effects` in mt_machine. A caller makes them on a
-//! copy, since they take memory as they go, and where there is none the state is in part made.
+//! What steps make of a state: the code of the definitions of `Effects` in mt_machine. They take memory as they go. A
+//! step for which there is none changes nothing, and of several the first are made then.
 //!
 //! - `values`: stored attributes and the access control list;
 //! - `networks`: the networks;
@@ -9,10 +9,11 @@
 //! - `expiry`: what an expiry takes back.
 #![tactic(auto)]
 
-ghost use Rattle.std.specs.Prelude.{◌≡◌, true, OnOk};
+ghost use Rattle.std.specs.Prelude.{◌≡◌, true, OnErr, OnOk};
 ghost use Rattle.mt_machine.specs.Effects.{after, after_all};
 ghost use Rattle.mt_machine.specs.State.{IsValid};
 ghost use Rattle.mt_machine.specs.Taking.{may_take, may_take_all};
+ghost use Rattle.mt_steps.specs.Partly.{IsMadeInPart};
 
 mod expiry;
 mod fabrics;
@@ -33,7 +34,7 @@ use std::alloc::{AllocError, Global};
 use values::{put_entries, set_row};
 
 /// Makes steps of a state, one after the other, where this actor is taken as asking. Where there is no memory for
-/// one the state is in part made, and must be let go.
+/// one, the state is that behind those before it: whoever wants all or none makes them on a copy.
 pub fn make_all(
     alloc: Global,
     asking: Option<Actor>,
@@ -42,7 +43,8 @@ pub fn make_all(
 ) -> Result<(), AllocError>
     requires valid { IsValid state.old }
     requires taken { may_take_all asking steps state.old ≡ true }
-    ensures { OnOk result (state.new ≡ after_all asking steps state.old) }
+    ensures made { OnOk result (state.new ≡ after_all asking steps state.old) }
+    ensures part { OnErr result (IsMadeInPart asking steps state.old state.new) }
 {
     steps_leave_states_valid();
     for step in steps.into_vec() {
@@ -52,8 +54,7 @@ pub fn make_all(
 }
 
 /// Makes a step of a state, where this actor is taken as asking. A step that the fail-safe, the table of fabrics or
-/// the limit on networks refuses changes nothing. Where there is no memory the state is in part made, and must be
-/// let go.
+/// the limit on networks refuses changes nothing, nor does one for which there is no memory.
 pub fn make(
     alloc: Global,
     asking: Option<Actor>,
@@ -62,7 +63,8 @@ pub fn make(
 ) -> Result<(), AllocError>
     requires valid { IsValid state.old }
     requires taken { may_take state.old step ≡ true }
-    ensures { OnOk result (state.new ≡ after asking step state.old) }
+    ensures made { OnOk result (state.new ≡ after asking step state.old) }
+    ensures kept { OnErr result (state.new ≡ state.old) }
 {
     stored_places_are_those_of_the_model();
     match step {

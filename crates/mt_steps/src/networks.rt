@@ -1,6 +1,6 @@
 //! What steps make of the networks.
 
-ghost use Rattle.std.specs.Prelude.{◌≡◌, IfOk, OnOk, filter, map};
+ghost use Rattle.std.specs.Prelude.{◌≡◌, IfOk, OnErr, OnOk, filter, map};
 ghost use Rattle.std.specs.List.{list_any};
 ghost use Rattle.mt_commission.specs.NetworkCommissioning.{has_id};
 ghost use Rattle.mt_machine.specs.Effects.{connected_to, moved_to, others_than, with_network, with_new, with_secret};
@@ -18,7 +18,8 @@ pub(crate) fn put_network(
     secret: Bytes,
     networks: &mut Networks,
 ) -> Result<(), AllocError>
-    ensures { OnOk result (networks.new ≡ with_network id secret networks.old) }
+    ensures networks { OnOk result (networks.new ≡ with_network id secret networks.old) }
+    ensures kept { OnErr result (networks.new ≡ networks.old) }
 {
     if is_among(id.as_slice(), networks.as_slice()) {
         *networks = with_secrets(alloc, id.as_slice(), secret.as_slice(), networks.as_slice())?;
@@ -28,7 +29,8 @@ pub(crate) fn put_network(
 }
 
 fn put_new(id: Bytes, secret: Bytes, networks: &mut Networks) -> Result<(), AllocError>
-    ensures { OnOk result (networks.new ≡ with_new id secret networks.old) }
+    ensures networks { OnOk result (networks.new ≡ with_new id secret networks.old) }
+    ensures kept { OnErr result (networks.new ≡ networks.old) }
 {
     if networks.len() >= NETWORKS {
         return Ok(());
@@ -85,7 +87,8 @@ pub(crate) fn remove_network(
     id: &Bytes,
     networks: &mut Networks,
 ) -> Result<(), AllocError>
-    ensures { OnOk result (networks.new ≡ others_than id.now networks.old) }
+    ensures networks { OnOk result (networks.new ≡ others_than id.now networks.old) }
+    ensures kept { OnErr result (networks.new ≡ networks.old) }
 {
     *networks = others_than(alloc, id.as_slice(), networks.as_slice())?;
     Ok(())
@@ -109,7 +112,8 @@ pub(crate) fn connect_network(
     id: &Bytes,
     networks: &mut Networks,
 ) -> Result<(), AllocError>
-    ensures { OnOk result (networks.new ≡ map (connected_to id.now) networks.old) }
+    ensures networks { OnOk result (networks.new ≡ map (connected_to id.now) networks.old) }
+    ensures kept { OnErr result (networks.new ≡ networks.old) }
 {
     *networks = connected_to(alloc, id.as_slice(), networks.as_slice())?;
     Ok(())
@@ -136,7 +140,8 @@ pub(crate) fn move_network(
     index: u8,
     networks: &mut Networks,
 ) -> Result<(), AllocError>
-    ensures { OnOk result (networks.new ≡ moved_to id.now index networks.old) }
+    ensures networks { OnOk result (networks.new ≡ moved_to id.now index networks.old) }
+    ensures kept { OnErr result (networks.new ≡ networks.old) }
 {
     let mut behind = others_than(alloc, id.as_slice(), networks.as_slice())?.into_vec();
     let mut moved = with_id(alloc, id.as_slice(), networks.as_slice())?.into_vec();

@@ -1,6 +1,6 @@
 //! What steps make of stored attributes and of the access control list.
 
-ghost use Rattle.std.specs.Prelude.{◌≡◌, true, IsTrue, OnOk};
+ghost use Rattle.std.specs.Prelude.{◌≡◌, true, IsTrue, OnErr, OnOk};
 ghost use Rattle.mt_model.specs.rows.Setting.{with_entries, with_rows};
 ghost use Rattle.mt_model.specs.rows.Stored.{is_stored_place};
 ghost use Rattle.mt_model.specs.texts.Config.{ascend_from};
@@ -18,7 +18,8 @@ pub(crate) fn set_row(
     rows: &mut StoredRows,
 ) -> Result<(), AllocError>
     requires { is_stored_place place.now ≡ true }
-    ensures { OnOk result (rows.new ≡ with_rows place.now fabric values rows.old) }
+    ensures set { OnOk result (rows.new ≡ with_rows place.now fabric values rows.old) }
+    ensures kept { OnErr result (rows.new ≡ rows.old) }
 {
     let Some(needed) = rows.others_at(place, fabric).checked_add(values.len()) else {
         return Err(AllocError);
@@ -36,14 +37,18 @@ pub(crate) fn put_entries(
     entries: &mut AclEntries,
 ) -> Result<(), AllocError>
     requires { IsTrue (ascend_from 0 entries.old) }
-    ensures { OnOk result (entries.new ≡ with_entries fabric new entries.old) }
+    ensures set { OnOk result (entries.new ≡ with_entries fabric new entries.old) }
+    ensures kept { OnErr result (entries.new ≡ entries.old) }
 {
     let Some(needed) = entries.len().checked_add(new.len()) else {
         return Err(AllocError);
     };
     let mut room = Vec::with_capacity(alloc, needed)?;
     let mut there = replace(entries, AclEntries::new(alloc)).into_vec();
-    room.append(&mut there)?;
+    // There is room for them.
+    let Ok(()) = room.append(&mut there) else {
+        unreachable!()
+    };
     set_entries(&mut room, fabric, new);
     *entries = AclEntries::from_vec(room);
     Ok(())

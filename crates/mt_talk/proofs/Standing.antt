@@ -14,7 +14,7 @@ use Rattle.mt_exchange.specs.declared.exchanges.Exchanges.{Exchanges}
 use Rattle.mt_exchange.specs.Receiving.{Taken, key_of, taken}
 use Rattle.mt_exchange.specs.Runs.{Happening, IsRunOf, IsSessionOf, Run, after, answer_of, answered, arrived, dropped, report_of, reported, resend_step, run}
 use Rattle.mt_exchange.specs.Shown.{ArrivalsAreShown, MessagesAreShown, MoreIsShown, RunsGoOn, arrivals_in, messages_in, shown_by}
-use Rattle.mt_talk.specs.Hearing.{Said, acknowledging, after_received, nothing, received_in, said_again, said_as, said_in}
+use Rattle.mt_talk.specs.Hearing.{IsHeardInPart, Said, acknowledging, after_datagram, after_received, nothing, received_in, said_again, said_as, said_in}
 use Rattle.mt_talk.specs.Talks.{IsTalkOf, Talk, after_answer, after_drop, after_report, after_resend, answer_in, behind, behind_unless_refused, behind_unless_too_long, report_in, run_in}
 use Rattle.mt_talk.specs.declared.talk.Talk as code
 
@@ -165,3 +165,24 @@ heard_live arrivals messages more goes_on talk session exchanges row t live from
     stands_behind arrivals messages more goes_on talk later row t (arrived true a) (Some from) s (session_behind goes_on session row s.happenings true a stands) runs refl in
     subst (λ (x : Result Arrival Dropped). IsTalkOf later row (after_received live from x t)) is
     (subst (λ (b : Bool). IsTalkOf later row (after_received b from (Ok a) t)) (sym lives) told)
+
+-- there was no memory: the exchange is as it was, or it has taken the message
+pub waits_in_part : ArrivalsAreShown → MessagesAreShown → MoreIsShown → RunsGoOn → (talk : code.Talk) (session : Session) (exchanges : Exchanges) (row : SessionRow) (t : Talk) (from : Peer) (bytes : List ℕ) (a : Arrival)
+    (s : IsTalkOf talk row t) → Ok a ≡ received_in row t bytes
+    → StandsFor session row ((run row s.happenings).arrivals ++ a ∷ []) (run row s.happenings).messages → exchanges ≡ talk.exchanges
+    → IsHeardInPart (record talk { session = session; exchanges = exchanges; latest = Some from }) row from bytes t
+waits_in_part arrivals messages more goes_on talk session exchanges row t from bytes a s is stands same = record {
+  taken = false;
+  stands =
+      subst (λ (x : Exchanges). IsTalkOf (record talk { session = session; exchanges = x; latest = Some from }) row (after_datagram row false from bytes t)) (sym same)
+      (heard_waiting arrivals messages more goes_on talk session row t false from a (received_in row t bytes) s refl is stands);
+}
+
+pub taken_in_part : ArrivalsAreShown → MessagesAreShown → MoreIsShown → RunsGoOn → (talk : code.Talk) (session : Session) (exchanges : Exchanges) (row : SessionRow) (t : Talk) (from : Peer) (bytes : List ℕ) (a : Arrival)
+    (s : IsTalkOf talk row t) → Ok a ≡ received_in row t bytes
+    → StandsFor session row ((run row s.happenings).arrivals ++ a ∷ []) (run row s.happenings).messages → IsRunOf exchanges row (s.happenings ++ arrived true a ∷ [])
+    → IsHeardInPart (record talk { session = session; exchanges = exchanges; latest = Some from }) row from bytes t
+taken_in_part arrivals messages more goes_on talk session exchanges row t from bytes a s is stands runs = record {
+  taken = true;
+  stands = heard_live arrivals messages more goes_on talk session exchanges row t true from a (received_in row t bytes) s refl is stands runs;
+}

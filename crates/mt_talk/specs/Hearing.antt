@@ -17,7 +17,8 @@ use Rattle.mt_exchange.specs.declared.exchange.Key.{Key}
 use Rattle.mt_exchange.specs.Receiving.{Taken, acknowledged, ask, busy, closed, confirmed, ended, key_of, next, taken}
 use Rattle.mt_exchange.specs.Receiving as receiving
 use Rattle.mt_exchange.specs.Shown.{heard}
-use Rattle.mt_talk.specs.Talks.{Talk, open_in, run_in}
+use Rattle.mt_talk.specs.Talks.{IsTalkOf, Talk, open_in, run_in}
+use Rattle.mt_talk.specs.declared.talk.Talk as code
 use Rattle.mt_talk.specs.declared.hearing.Heard.{Heard}
 use Rattle.mt_talk.specs.declared.hearing.Heard.TheVariants as heards
 
@@ -95,3 +96,9 @@ fresh_by (Err dropped) = None
 abbrev pub fresh_as : Option Opened → Option Arrival
 fresh_as None = None
 fresh_as (Some opened) = Some (arrival opened)
+
+-- A talk behind a datagram for which there is no memory: the message counts, and its exchange has taken it or is as it was, as while the
+-- session is not live.
+pub record IsHeardInPart (talk : code.Talk) (row : SessionRow) (from : Peer) (bytes : List ℕ) (t : Talk) : Type 0 where
+  pub taken : Bool
+  pub stands : IsTalkOf talk row (after_datagram row taken from bytes t)

@@ -1,10 +1,10 @@
 //! What a datagram says.
 
-ghost use Rattle.std.specs.Prelude.{◌≡◌, ◌<◌, ◌^◌, [], length, IfOk, OnOk, if◌then◌else◌};
+ghost use Rattle.std.specs.Prelude.{◌≡◌, ◌<◌, ◌^◌, [], length, true, IfOk, OnErr, OnOk, if◌then◌else◌};
 ghost use Rattle.mt_model.specs.declared.texts.config.SessionRow.{SessionRow};
 ghost use Rattle.mt_session.specs.Opening.{arrival};
 ghost use Rattle.mt_exchange.specs.Receiving.{key_of as key_of_header, taken_by};
-ghost use Rattle.mt_talk.specs.Hearing.{acknowledging, after_datagram, answers, busy_payloads, nothing, fresh_as, fresh_by, received_in, said, said_again as said_again_by, said_as, said_by};
+ghost use Rattle.mt_talk.specs.Hearing.{IsHeardInPart, acknowledging, after_datagram, answers, busy_payloads, nothing, fresh_as, fresh_by, received_in, said, said_again as said_again_by, said_as, said_by};
 ghost use Rattle.mt_talk.specs.Talks.{IsTalkOf, Talk as Told};
 
 use crate::talk::Talk;
@@ -61,7 +61,9 @@ pub struct Hearing<'a> {
 
 impl Talk {
     /// Hears a datagram of at most 65,535 bytes, which is opened in place, from this address. While the session is not
-    /// live a fresh message counts in the window alone. Where there is no memory the talk must be let go.
+    /// live a fresh message counts in the window alone. Where there is no memory a fresh message has come on a live
+    /// session: it counts in the window, and its exchange has taken it or is as it was. Said again it is a copy, so whoever
+    /// is to hear it then keeps a copy of the talk.
     pub fn hear<'a>(
         &mut self,
         live: bool,
@@ -75,6 +77,9 @@ impl Talk {
             → IfOk result (λ hearing. fresh_as hearing.fresh ≡ fresh_by (received_in row t datagram.old)) }
         ensures stands { (row : SessionRow) (t : Told) → IsTalkOf self.old row t
             → OnOk result (IsTalkOf self.new row (after_datagram row live from datagram.old t)) }
+        ensures counts { (row : SessionRow) (t : Told) → IsTalkOf self.old row t
+            → OnErr result (IsHeardInPart self.new row from datagram.old t) }
+        ensures while_live { OnErr result (live ≡ true) }
     {
         shown_runs();
         match self.session.unseal(datagram) {

@@ -28,7 +28,7 @@ differing_between-requires c =
     let s = c.args.node.now.state in
     let there : c.node.inside.state ≡ s = ap (λ (kept : ConfiguredNode). kept.state) c.node.view_is in
     made_valid c.states_are_valid.ensures.times c.steps_leave_states_valid.ensures.all c.args.asking c.args.steps c.args.now s c.in_ok-behind.behind c.make_all.new.state
-    (subst IsValid there c.node.invariant) c.requires (c.in_ok-behind.ensures ∙ there) c.in_ok-make_all.ensures
+    (subst IsValid there c.node.invariant) c.requires (c.in_ok-behind.ensures ∙ there) c.in_ok-make_all.ensures.made
 
 pub change_to-requires-clause-before : goal.change_to-requires-clause-before
 change_to-requires-clause-before c = c.node.invariant
@@ -38,7 +38,7 @@ change_to-requires-clause-behind c =
     let s = c.args.node.now.state in
     let there : c.node.inside.state ≡ s = ap (λ (kept : ConfiguredNode). kept.state) c.node.view_is in
     made_valid c.states_are_valid.ensures.times c.steps_leave_states_valid.ensures.all c.args.asking c.args.steps c.args.now s c.in_ok-behind.behind c.make_all.new.state
-    (subst IsValid there c.node.invariant) c.requires (c.in_ok-behind.ensures ∙ there) c.in_ok-make_all.ensures
+    (subst IsValid there c.node.invariant) c.requires (c.in_ok-behind.ensures ∙ there) c.in_ok-make_all.ensures.made
 
 pub settle-requires-clause-stand : goal.settle-requires-clause-stand
 settle-requires-clause-stand c =
@@ -46,7 +46,7 @@ settle-requires-clause-stand c =
     let t = c.make_all.new.state in
     let there : c.node.inside.state ≡ s = ap (λ (kept : ConfiguredNode). kept.state) c.node.view_is in
     let valid : IsValid t = made_valid c.states_are_valid.ensures.times c.steps_leave_states_valid.ensures.all c.args.asking c.args.steps c.args.now s c.in_ok-behind.behind t
-    (subst IsValid there c.node.invariant) c.requires (c.in_ok-behind.ensures ∙ there) c.in_ok-make_all.ensures in
+    (subst IsValid there c.node.invariant) c.requires (c.in_ok-behind.ensures ∙ there) c.in_ok-make_all.ensures.made in
     valid.changes_stand
 
 pub settle-requires-clause-newest : goal.settle-requires-clause-newest
@@ -55,7 +55,7 @@ settle-requires-clause-newest c =
     let t = c.make_all.new.state in
     let there : c.node.inside.state ≡ s = ap (λ (kept : ConfiguredNode). kept.state) c.node.view_is in
     let valid : IsValid t = made_valid c.states_are_valid.ensures.times c.steps_leave_states_valid.ensures.all c.args.asking c.args.steps c.args.now s c.in_ok-behind.behind t
-    (subst IsValid there c.node.invariant) c.requires (c.in_ok-behind.ensures ∙ there) c.in_ok-make_all.ensures in
+    (subst IsValid there c.node.invariant) c.requires (c.in_ok-behind.ensures ∙ there) c.in_ok-make_all.ensures.made in
     newest_up_to t valid
 
 pub returns-clause-made : goal.returns-clause-made
@@ -65,7 +65,7 @@ returns-clause-made c =
     let t = c.make_all.new.state in
     let there : c.node.inside.state ≡ s = ap (λ (kept : ConfiguredNode). kept.state) c.node.view_is in
     let copied : c.in_ok-behind.behind ≡ s = c.in_ok-behind.ensures ∙ there in
-    let made : t ≡ after_all c.args.asking c.args.steps (at_time now s) = c.in_ok-make_all.ensures ∙ ap (λ (x : NodeState). after_all c.args.asking c.args.steps (at_time now x)) copied in
+    let made : t ≡ after_all c.args.asking c.args.steps (at_time now s) = c.in_ok-make_all.ensures.made ∙ ap (λ (x : NodeState). after_all c.args.asking c.args.steps (at_time now x)) copied in
     let places : c.as_slice.result.now ≡ differing (at_time now s) t = c.as_slice.ensures ∙ c.in_ok-places.ensures in
     settled_is c.args.asking c.args.steps (at_time now s) t c.settle.new.state c.as_slice.result.now made places c.settle.ensures
 
@@ -76,7 +76,7 @@ returns-clause-change c = λ ceiling.
     let t = c.make_all.new.state in
     let there : c.node.inside.state ≡ s = ap (λ (kept : ConfiguredNode). kept.state) c.node.view_is in
     let copied : c.in_ok-behind.behind ≡ s = c.in_ok-behind.ensures ∙ there in
-    let made : t ≡ after_all c.args.asking c.args.steps timed = c.in_ok-make_all.ensures ∙ ap (λ (x : NodeState). after_all c.args.asking c.args.steps (at_time c.args.now x)) copied in
+    let made : t ≡ after_all c.args.asking c.args.steps timed = c.in_ok-make_all.ensures.made ∙ ap (λ (x : NodeState). after_all c.args.asking c.args.steps (at_time c.args.now x)) copied in
     c.in_ok-change.ensures ceiling
     ∙ ap (λ (x : NodeState). change_between x ceiling t ceiling) there
     ∙ c.only_what_lasts_changes.ensures.alone s t (after_steps c.args.asking c.args.steps timed) ceiling ceiling (ap what_lasts made)
