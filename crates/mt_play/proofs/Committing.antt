@@ -1,7 +1,8 @@
 -- Commits of what a planned line changes: what may be committed, and what the journal has behind it.
-use Rattle.std.proofs.Common.{◌≡◌, ◌≢◌, ◌⊎◌, ◌∙◌, refl, sym, ap, subst, inl, inr, ℕ, ◌+◌, ◌^◌, ◌<◌, ◌≤◌, Bool, true, false, true≢false, List, [], ◌∷◌, Option, nat_lt, nat_le, if◌then◌else◌, unwrap_or, arith}
+use Rattle.std.proofs.Common.{◌≡◌, ◌≢◌, ◌⊎◌, ◌∙◌, refl, sym, ap, subst, inl, inr, ℕ, ◌+◌, ◌^◌, ◌<◌, ◌≤◌, Bool, true, false, true≢false, List, [], ◌∷◌, Option, Some, nat_lt, nat_le, if◌then◌else◌, unwrap_or, arith}
 use Rattle.std.proofs.lemmas.Bool.{cases_Bool, leb-false, leb-true, le-ltb, lt-ltb}
-use Rattle.std.specs.Prelude.{IsTrue, OnOk, Result, Ok, Err}
+use Rattle.std.specs.Prelude.{IsTrue, OnErr, OnOk, Result, Ok, Err}
+use Rattle.mt_durable.specs.Keeping.{Committed, WasOrCommitted}
 use Rattle.mt_durable.specs.Maps.{have_values, keys_ascend}
 use Rattle.mt_durable.specs.Reading.{Says}
 use Rattle.mt_durable.specs.Setting.{with_all}
@@ -158,3 +159,13 @@ module _ (lead : CommitsLeadOn) (may : StatesMayBeCommitted) (are_maps : MapsAre
 pub on_ok_then : {T E : Type 0} (result : Result T E) (P Q : Type 0) → (P → Q) → OnOk result P → OnOk result Q
 on_ok_then (Ok x) P Q weaker p = weaker p
 on_ok_then (Err e) P Q weaker p = tt
+
+pub on_err_then : {T E : Type 0} (result : Result T E) (P Q : Type 0) → (P → Q) → OnErr result P → OnErr result Q
+on_err_then (Ok x) P Q weaker p = tt
+on_err_then (Err e) P Q weaker p = weaker p
+
+-- what is committed is so while the map is still told
+pub still_committed : {T E : Type 0} (result : Result T E) (bytes : List ℕ) (before : Option (List Entry)) (between now : List Entry) → Committed bytes before (Some between) → OnErr result (now ≡ between)
+    → OnErr result (WasOrCommitted bytes before (Some now))
+still_committed (Ok x) bytes before between now done told = tt
+still_committed (Err e) bytes before between now done told = inr (subst (λ (map : List Entry). Committed bytes before (Some map)) (sym told) done)

@@ -1,6 +1,9 @@
 -- For which written run on its way a node stands that plays, and what a line makes of it.
-use Rattle.std.specs.Prelude.{◌≡◌, ◌≢◌, ◌<◌, ◌≤◌, ◌^◌, ℕ, Bool, true, false, not, List, [], ◌∷◌, Option, Some, None, IfSome, is_some, if◌then◌else◌}
+use Rattle.std.specs.Prelude.{◌≡◌, ◌≢◌, ◌<◌, ◌≤◌, ◌⊎◌, ◌^◌, ℕ, Bool, true, false, not, List, [], ◌∷◌, Option, Some, None, IfSome, is_some, if◌then◌else◌}
+use Rattle.mt_durable.specs.Keeping.{WasOrCommitted}
 use Rattle.mt_durable.specs.declared.durable.Entry.{Entry}
+use Rattle.mt_keeping.specs.States.{KeepingState, told_map}
+use Rattle.mt_outside.specs.MemoryDisk.{DiskState}
 use Rattle.mt_whole.specs.mt_lasting.Contents.{durable}
 use Rattle.mt_model.specs.declared.node.state.NodeState.{NodeState}
 use Rattle.mt_model.specs.declared.texts.config.Config.{Config}
@@ -133,3 +136,22 @@ pub record MayBoot (config : Config) (map : List Entry) : Type 0 where
 pub record IsReopened (s : NodeState) (ceiling : ℕ) (new : Playing) : Type 0 where
   pub whole : IsWholeOf new.whole (whole_from (reopened_node new.config.now.sessions ceiling s) ceiling new.config.now.sessions)
   pub none : new.stop ≡ None
+
+-- WHERE MEMORY IS WANTING the journal has the map from before, or the one with what the line changes.
+abbrev pub HasChangeOrNot : Option WholeOutcome → KeepingState DiskState → KeepingState DiskState → Type 0
+HasChangeOrNot None old new = new ≡ old
+HasChangeOrNot (Some outcome) old new = WasOrCommitted outcome.interactions.change (Some (told_map old)) (Some (told_map new))
+
+-- So it is unless the disk was to stop in the line: then nothing is said, since the node may have begun to be reopened.
+abbrev pub IsLeft : code.Course → Option WholeOutcome → KeepingState DiskState → KeepingState DiskState → Type 0
+IsLeft (codes.Goes stop) outcome old new = HasChangeOrNot outcome old new
+IsLeft (codes.Stops by survives) outcome old new = Unit {0}
+
+-- of a line that could be planned; else nothing has changed
+pub record IsLeftInPart (old : Playing) (event : Event) (new : Playing) : Type 0 where
+  pub planned : Planned
+  pub line : (given : Environment) (sessions : List SessionRow) (g : Going) → IsPlaying old given sessions g → IsPlannedLine given g event planned
+  pub journal : IsLeft planned.course planned.outcome old.store new.store
+
+abbrev pub IsLeftBy : Playing → Event → Playing → Type 0
+IsLeftBy old event new = (new ≡ old) ⊎ IsLeftInPart old event new

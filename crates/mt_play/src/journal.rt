@@ -1,7 +1,7 @@
 //! What goes to the journal of a node that plays, on a disk in memory: commits, and one in which the disk stops.
 
-ghost use Rattle.std.specs.Prelude.{◌≡◌, ◌≢◌, ◌<◌, ◌≤◌, ◌^◌, List, [], None, Some, IfOk, IsTrue, OnOk};
-ghost use Rattle.mt_durable.specs.Keeping.{HasRoom, IsAdmitted, IsChange};
+ghost use Rattle.std.specs.Prelude.{◌≡◌, ◌≢◌, ◌<◌, ◌≤◌, ◌^◌, List, [], None, Some, IfOk, IsTrue, OnErr, OnOk};
+ghost use Rattle.mt_durable.specs.Keeping.{Committed, HasRoom, IsAdmitted, IsChange, WasOrCommitted};
 ghost use Rattle.mt_durable.specs.Maps.{have_values, keys_ascend};
 ghost use Rattle.mt_durable.specs.Reading.{Says};
 ghost use Rattle.mt_durable.specs.Setting.{with_all};
@@ -33,8 +33,9 @@ pub(crate) fn commit(store: &mut Store<MemDisk>, change: &[u8]) -> Result<(), Al
     requires form { IsChange change.now }
     requires room { HasRoom change.now (Some (told_map store.old)) }
     requires admitted { IsAdmitted is_in_grammar change.now (Some (told_map store.old)) }
-    ensures { (entries : List Entry) → IsReady store.old → IsTrue (keys_ascend (told_map store.old)) → IsTrue (have_values (told_map store.old)) → Says entries change.now
+    ensures keeps { (entries : List Entry) → IsReady store.old → IsTrue (keys_ascend (told_map store.old)) → IsTrue (have_values (told_map store.old)) → Says entries change.now
         → OnOk result (Keeps store.new (with_all entries (told_map store.old))) }
+    ensures part { OnErr result (WasOrCommitted change.now (Some (told_map store.old)) (Some (told_map store.new))) }
 {
     commit_behind(store, change)?;
     compact_if_long(store)
@@ -47,6 +48,8 @@ fn commit_behind(store: &mut Store<MemDisk>, change: &[u8]) -> Result<(), AllocE
     requires admitted { IsAdmitted is_in_grammar change.now (Some (told_map store.old)) }
     ensures keeps { (entries : List Entry) → IsReady store.old → IsTrue (keys_ascend (told_map store.old)) → IsTrue (have_values (told_map store.old)) → Says entries change.now
         → OnOk result (Keeps store.new (with_all entries (told_map store.old))) }
+    ensures committed { OnOk result (Committed change.now (Some (told_map store.old)) (Some (told_map store.new))) }
+    ensures part { OnErr result (WasOrCommitted change.now (Some (told_map store.old)) (Some (told_map store.new))) }
     ensures in_use { OnOk result (store.new.rolled ≡ None) }
     ensures admitted { OnOk result (IsTrue (is_in_grammar store.new.store.image)) }
 {
@@ -65,7 +68,8 @@ fn commit_behind(store: &mut Store<MemDisk>, change: &[u8]) -> Result<(), AllocE
 fn compact_if_long(store: &mut Store<MemDisk>) -> Result<(), AllocError>
     requires in_use { store.old.rolled ≡ None }
     requires admitted { IsTrue (is_in_grammar store.old.store.image) }
-    ensures { (map : List Entry) → Keeps store.old map → OnOk result (Keeps store.new map) }
+    ensures keeps { (map : List Entry) → Keeps store.old map → OnOk result (Keeps store.new map) }
+    ensures told { OnErr result (told_map store.new ≡ told_map store.old) }
 {
     if !is_long(store) {
         return Ok(());
@@ -89,6 +93,7 @@ pub(crate) fn commit_if_any(store: &mut Store<MemDisk>, change: &[u8]) -> Result
     ensures none { change.now ≡ [] → store.new ≡ store.old }
     ensures some { (entries : List Entry) → change.now ≢ [] → IsReady store.old → IsTrue (keys_ascend (told_map store.old)) → IsTrue (have_values (told_map store.old)) → Says entries change.now
         → OnOk result (Keeps store.new (with_all entries (told_map store.old))) }
+    ensures part { OnErr result (WasOrCommitted change.now (Some (told_map store.old)) (Some (told_map store.new))) }
 {
     if change.is_empty() {
         return Ok(());

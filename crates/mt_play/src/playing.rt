@@ -15,7 +15,7 @@ ghost use Rattle.mt_whole.specs.Plan.{IsPlanned, IsStarted};
 ghost use Rattle.mt_keeping.specs.States.{told_map};
 ghost use Rattle.mt_play.specs.Courses.{IsTold, coming, course_by, course_in, stop_in};
 ghost use Rattle.mt_play.specs.Journal.{IsReady, Keeps};
-ghost use Rattle.mt_play.specs.Plays.{Brings, GoesTo, IsAtRest, IsMade, IsOnJournal, IsPlannedLine, IsPlaying, IsReopened, MayBoot, ReopensTo, RestsSomehow, StepsTo, StopsAt, has_change, left_ceiling, left_node};
+ghost use Rattle.mt_play.specs.Plays.{Brings, GoesTo, HasChangeOrNot, IsAtRest, IsLeft, IsLeftBy, IsMade, IsOnJournal, IsPlannedLine, IsPlaying, IsReopened, MayBoot, ReopensTo, RestsSomehow, StepsTo, StopsAt, has_change, left_ceiling, left_node};
 
 use crate::course::{ComingStop, Course, course_of_line, course_of_stop};
 use crate::journal::{commit, commit_if_any, commit_stopped, counts_one_more};
@@ -115,13 +115,15 @@ impl<'a> Playing<'a> {
 
     /// Makes of the node what a line of a recording makes of it, and gives what is sent. A change that lasts is committed before it is put in
     /// place. Where the disk stops in the line nothing is sent, and the node is reopened with what the disk has. Where memory is
-    /// wanting the node stays as it is; its journal may then have the change, and no more is committed to it.
+    /// wanting the node stays as it is, and its journal has what it had or that with the line's change, unless the disk was to
+    /// stop in the line: then the reopening may have begun. No more is committed to it.
     pub fn step(&mut self, event: &Event) -> Result<SentList, AllocError>
         requires { IsOnJournal self.old }
         ensures journal { OnOk result (IsOnJournal self.new) }
         ensures config { self.new.config ≡ self.old.config }
         ensures steps { (given : Environment) (sessions : List SessionRow) (g : Going) → IsPlaying self.old given sessions g → IfOk result (StepsTo given sessions g event.now self.new) }
         ensures stays { OnErr result (self.new.whole ≡ self.old.whole) }
+        ensures left { OnErr result (IsLeftBy self.old event.now self.new) }
     {
         let planned = self.plan(event)?;
         self.carry_out(planned)
@@ -149,6 +151,7 @@ impl<'a> Playing<'a> {
         ensures steps { (given : Environment) (sessions : List SessionRow) (g : Going) (event : Line) → IsPlaying self.old given sessions g → IsPlannedLine given g event planned
             → IfOk result (StepsTo given sessions g event self.new) }
         ensures stays { OnErr result (self.new.whole ≡ self.old.whole) }
+        ensures left { OnErr result (IsLeft planned.course planned.outcome self.old.store self.new.store) }
     {
         let (outcome, course) = planned.into_parts();
         match course {
@@ -170,6 +173,7 @@ impl<'a> Playing<'a> {
         ensures goes { (given : Environment) (sessions : List SessionRow) (g : Going) (event : Line) → IsPlaying self.old given sessions g → Brings given g event outcome
             → IfOk result (GoesTo given sessions g event (coming stop) self.new) }
         ensures stays { OnErr result (self.new.whole ≡ self.old.whole) }
+        ensures left { OnErr result (HasChangeOrNot outcome self.old.store self.new.store) }
     {
         stops_leave_all();
         commits_lead_on();

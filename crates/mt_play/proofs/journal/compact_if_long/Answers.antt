@@ -5,8 +5,8 @@ use Rattle.mt_journal.specs.Standing.{switch_calls}
 use Rattle.mt_play.proofs.Disks.{kept_held}
 use Rattle.mt_play.proofs.journal.compact_if_long.Goals as goal
 
-pub returns : goal.returns
-returns c map keeps =
+pub returns-clause-keeps : goal.returns-clause-keeps
+returns-clause-keeps c map keeps =
     let old = c.args.store.now in
     let journal = c.compact.new.self.store.journal in
     let now = c.forget.new.self in

@@ -26,7 +26,7 @@ returns-clause-keeps c =
     let one = c.in_ok-whole.whole.interactions in
     let first : IsFirst c.args.map one c.as_slice.result.now = subst (IsFirst c.args.map one) (sym c.as_slice.ensures) c.in_ok-whole.ensures.first in
     keeps_first c.args.config.now c.args.map one c.requires.may fits.0 fits.1 c.in_ok-whole.ensures.started.begun c.states_may_be_committed.ensures.may c.states_may_be_committed.ensures.first c.maps_are_maps.ensures
-    c.as_slice.result.now first c.args.store.now c.requires.told c.commit.new.store c.requires.ready c.in_ok-commit.ensures
+    c.as_slice.result.now first c.args.store.now c.requires.told c.commit.new.store c.requires.ready c.in_ok-commit.ensures.keeps
 
 pub returns-clause-valid : goal.returns-clause-valid
 returns-clause-valid c =

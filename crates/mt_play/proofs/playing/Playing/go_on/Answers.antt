@@ -1,5 +1,7 @@
-use Rattle.std.proofs.Common.{◌≡◌, ◌≤◌, ◌^◌, ◌∙◌, Option, ap, refl, subst, sym}
+use Rattle.std.proofs.Common.{◌≡◌, ◌≤◌, ◌^◌, ◌∙◌, ℕ, List, Option, Some, ap, refl, subst, sym}
 use Rattle.std.specs.Prelude.{IfSome}
+use Rattle.mt_durable.specs.Keeping.{WasOrCommitted}
+use Rattle.mt_keeping.specs.States.{told_map}
 use Rattle.mt_whole.specs.mt_lasting.Contents.{durable}
 use Rattle.mt_whole.specs.mt_machine.State.{IsValid}
 use Rattle.mt_whole.specs.mt_interactions.Configured as configured
@@ -9,9 +11,9 @@ use Rattle.mt_whole.specs.Plan.{IsPlanned}
 use Rattle.mt_whole.specs.Talks.{IsWholeOf}
 use Rattle.mt_whole.specs.declared.outcome.WholeOutcome.{WholeOutcome}
 use Rattle.mt_play.specs.Journal.{Keeps}
-use Rattle.mt_play.specs.Plays.{Brings}
+use Rattle.mt_play.specs.Plays.{Brings, HasChangeOrNot}
 use Rattle.mt_play.proofs.Committing.{fits_behind, keeps_behind, may_commit, valid_behind}
-use Rattle.mt_play.proofs.Coursing.{no_outcome, none_is, sends_nothing}
+use Rattle.mt_play.proofs.Coursing.{no_outcome, none_is, on_err, sends_nothing}
 use Rattle.mt_play.proofs.playing.Playing.go_on.Goals as goal
 
 pub commit_if_any-requires : goal.commit_if_any-requires
@@ -75,3 +77,11 @@ returns-in_default-clause-goes c given sessions g event is brings =
         stop = refl;
       };
     }
+
+pub returns-in_err-commit_if_any-clause-left : goal.returns-in_err-commit_if_any-clause-left
+returns-in_err-commit_if_any-clause-left c =
+    let old = c.args.self.now.store in
+    let new = c.commit_if_any.new.store in
+    on_err c.from_residual.result (HasChangeOrNot c.args.outcome old new)
+    (subst (λ (o : Option WholeOutcome). HasChangeOrNot o old new) (sym c.in-Some.is)
+    (subst (λ (bytes : List ℕ). WasOrCommitted bytes (Some (told_map old)) (Some (told_map new))) c.change.ensures c.in_err-commit_if_any.ensures.part))
