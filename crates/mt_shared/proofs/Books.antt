@@ -2,6 +2,7 @@
 use Rattle.std.proofs.Common.{◌≡◌, ◌∙◌, refl, sym, ap, subst, ℕ, ◌+◌, max, Bool, true, false, cond, true≢false, List, [], ◌∷◌, ◌++◌, length, Option, Some, None, slice_get, arith, eq-eqb, length-append}
 use Rattle.std.proofs.lemmas.Bool.{and_from, and_parts, le-leb, leb-true}
 use Rattle.std.specs.Prelude.{◌==◌, ◌≤◌, is_some, nat_le, unwrap_or}
+use Rattle.mt_durable.specs.declared.durable.Entry as kept
 use Rattle.mt_files.specs.Form.{HasForm}
 use Rattle.mt_model.specs.declared.limits.TheConstants.{LAST_TIME}
 use Rattle.mt_model.specs.declared.texts.recording.Event.{Event}
@@ -11,8 +12,11 @@ use Rattle.mt_outside.specs.Stream.{one_more}
 use Rattle.mt_interactions.specs.mt_machine.State.{State}
 use Rattle.mt_interactions.specs.mt_ledger.Ledger.{Ledger}
 use Rattle.mt_interactions.specs.Configured.{ConfiguredInteractions, behind}
-use Rattle.mt_shared.specs.Book.{are_in_time, asked, done, failed, first_of, is_timed, last_time, stop_in}
-use Rattle.mt_shared.specs.Replay.{answer_at, next, replay, told}
+use Rattle.std.proofs.Math.Logic.{∥∥₁_map}
+use Rattle.std.proofs.lemmas.List.Elements.{All-push}
+use Rattle.mt_shared.specs.Acts.{StandsBetween}
+use Rattle.mt_shared.specs.Book.{AreFormed, are_in_time, asked, done, failed, first_of, is_timed, last_time, stop_in}
+use Rattle.mt_shared.specs.Replay.{answer_at, behind_deed, map_of, next, replay, told}
 use Rattle.mt_shared.specs.declared.entry.Answer.{Answer}
 use Rattle.mt_shared.specs.declared.entry.Call.{Call}
 use Rattle.mt_shared.specs.declared.entry.Entry.{Entry}
@@ -80,6 +84,11 @@ stop_in-failed (e ∷ book) call ms stop none =
     let both : (o : Option Stop) → Goal o = elim [ None ↦ λ h. stop_in-failed book call ms stop h | Some other ↦ λ h. absurd (true≢false (ap is_some h)) ] in
     both e.stop none
 
+-- Each call is one that a line can tell.
+pub still_formed : (book longer : List Entry) (entry : Entry) → ∥ AreFormed book ∥₁ → longer ≡ book ++ entry ∷ [] → HasForm entry.call.event → ∥ AreFormed longer ∥₁
+still_formed book longer entry formed is form =
+    subst (λ (b : List Entry). ∥ AreFormed b ∥₁) (sym is) (∥∥₁_map formed (λ (all : AreFormed book). All-push (λ (e : Entry). HasForm e.call.event) book entry all form))
+
 -- WHAT A HELD NODE KEEPS.
 
 pub still_replays : (origin node after : ConfiguredInteractions) (book longer : List Entry) (entry : Entry) → replay origin book ≡ node → longer ≡ book ++ entry ∷ [] → after ≡ next node entry → replay origin longer ≡ after
@@ -129,3 +138,12 @@ pub stop_there : (book longer : List Entry) (entry : Entry) (stop it : Stop) →
 stop_there book longer entry stop it is at same =
     let placed : it.place ≡ length book = sym (ap (λ (s : Stop). s.place) (some_same stop it same)) ∙ at in
     ap (λ (b : List Entry). slice_get b it.place) is ∙ ap (slice_get (book ++ entry ∷ [])) placed ∙ last_there book entry
+
+-- what is found of the keeper, where the entry with the stop stands at its place
+pub stands_there : (Between : List kept.Entry → List kept.Entry → Type 0) (node : ConfiguredInteractions) (last : Option Entry) (entry : Entry) → last ≡ Some entry
+    → Between (map_of node) (map_of (behind_deed node entry.call.deed entry.ms)) → StandsBetween Between node last
+stands_there Between node last entry is stands = subst (StandsBetween Between node) (sym is) stands
+
+-- the count of faults is that of the stop
+pub now_counted : (faults : ℕ) (stop it : Stop) → faults ≡ stop.after → Some stop ≡ Some it → faults ≡ it.after
+now_counted faults stop it counted same = counted ∙ ap (λ (s : Stop). s.after) (some_same stop it same)

@@ -1,7 +1,9 @@
 -- Commits of what a planned deed changes: what may be committed, and what the keeper has behind it.
 use Rattle.std.proofs.Common.{◌≡◌, ◌≢◌, ◌⊎◌, ◌∙◌, refl, sym, ap, subst, inl, inr, ⊎_elim, ℕ, Bool, true, false, true≢false, List, [], ◌∷◌, Option, Some, arith, eqb-true, length}
 use Rattle.std.specs.Prelude.{◌==◌, OnErr, OnOk, Result, Ok, Err}
-use Rattle.mt_durable.specs.Keeping.{Committed, HasRoom, IsAdmitted, IsChange, WasOrCommitted}
+use Rattle.mt_durable.specs.Keeping.{Committed, HasRoom, IsAdmitted, IsChange, LeadsTo, WasOrCommitted}
+use Rattle.mt_durable.specs.Maps.{Merged, have_values, keys_ascend}
+use Rattle.mt_durable.specs.Setting.{with_all}
 use Rattle.mt_durable.specs.Reading.{Says}
 use Rattle.mt_durable.specs.declared.durable.Entry.{Entry}
 use Rattle.mt_interactions.specs.mt_lasting.Changes.{change_between}
@@ -32,6 +34,10 @@ on_ok_then (Err e) P Q weaker p = tt
 pub on_err_then : {T E : Type 0} (result : Result T E) (P Q : Type 0) → (P → Q) → OnErr result P → OnErr result Q
 on_err_then (Ok x) P Q weaker p = tt
 on_err_then (Err e) P Q weaker p = weaker p
+
+-- a change leads from a map to that with its entries set
+abbrev pub ChangesMerge : Type 0
+ChangesMerge = (change map : List Entry) → keys_ascend change ≡ true → keys_ascend map ≡ true → have_values map ≡ true → Merged change map (with_all change map)
 
 module _ (lead : CommitsLeadOn) (may : StatesMayBeCommitted) (one : ChangesLeadToOne) (are_maps : MapsAreMaps) (s : State) (l : Ledger) (outcome : InteractionOutcome) (planned : IsPlanned s l outcome) where
   -- the state behind the outcome, and the ceiling before and behind it
@@ -81,6 +87,17 @@ module _ (lead : CommitsLeadOn) (may : StatesMayBeCommitted) (one : ChangesLeadT
 
   pub one_of : (bytes : List ℕ) → bytes ≡ outcome.change → bytes ≢ [] → (told now : Option (List Entry)) → told ≡ Some (durable s.node ceiling) → WasOrCommitted bytes told now → (now ≡ told) ⊎ (now ≡ Some (durable behind later))
   one_of bytes is some told now has either = ⊎_elim (λ same. inl same) (λ committed. inr (leads_on bytes is some told now has committed)) either
+
+  -- Its bytes lead from the map before it to that behind it.
+  pub leads_to : ChangesMerge → (bytes : List ℕ) → bytes ≡ outcome.change → bytes ≢ [] → LeadsTo bytes (durable s.node ceiling) (durable behind later)
+  leads_to merges bytes is some =
+      let full : outcome.change ≢ [] = subst (λ (b : List ℕ). b ≢ []) is some in
+      let maps = are_maps s.node ceiling in
+      let said : Says change outcome.change = says full in
+      let merged : Merged change (durable s.node ceiling) (with_all change (durable s.node ceiling)) = merges change (durable s.node ceiling) said.ascend maps.0 maps.1 in
+      let its : LeadsTo outcome.change (durable s.node ceiling) (durable behind later) =
+      record { entries = change; says = said; merged = subst (Merged change (durable s.node ceiling)) leads.leads merged } in
+      subst (λ (b : List ℕ). LeadsTo b (durable s.node ceiling) (durable behind later)) (sym is) its
 
   -- Where there is nothing to commit it has that map already.
   pub stays : (bytes : List ℕ) → bytes ≡ outcome.change → bytes ≡ [] → (told : Option (List Entry)) → told ≡ Some (durable s.node ceiling) → told ≡ Some (durable behind later)

@@ -1,5 +1,6 @@
 -- A planned deed, where what is given is what the configuration gives.
 use Rattle.std.proofs.Common.{◌≡◌, ◌∙◌, ap, subst, sym, ℕ, List}
+use Rattle.std.specs.Prelude.{Err, IfErr, OnErr, Result}
 use Rattle.mt_interactions.specs.mt_machine.Environment.{Environment, given_by}
 use Rattle.mt_model.specs.declared.texts.config.CsrRow.{CsrRow}
 use Rattle.mt_model.specs.declared.texts.config.JoinRow.{JoinRow}
@@ -40,3 +41,11 @@ behind_is node deed ms outcome done =
     let state = done.state in
     let ledger = done.ledger in
     λ i. behind (state i) (ledger i) node
+
+-- WHAT IS TOLD OF A REFUSAL.
+
+pub err_is : {T E : Type 0} (Told : E → Type 0) (result : Result T E) (error : E) → result ≡ Err error → IfErr result Told → Told error
+err_is Told result error is told = subst (λ (r : Result _ _). IfErr r Told) is told
+
+pub on_err : {T E : Type 0} (Told : Type 0) (result : Result T E) (error : E) → result ≡ Err error → OnErr result Told → Told
+on_err Told result error is told = subst (λ (r : Result _ _). OnErr r Told) is told

@@ -1,7 +1,7 @@
 -- The recording of a book that is one entry longer.
 use Rattle.std.proofs.Common.{◌≡◌, ◌∙◌, refl, sym, ap, ℕ, ◌+◌, ◌≤◌, ◌<◌, ◌⊎◌, inl, inr, max, min, subst, Bool, true, false, true≢false, List, [], ◌∷◌, ◌++◌, length, map, Option, Some, None, arith, length-append}
 use Rattle.std.specs.Prelude.{◌||◌, nat_le, nat_lt, is_some}
-use Rattle.std.proofs.lemmas.Bool.{le-leb, le-ltb, lt-leb, lt-ltb, ltb-false}
+use Rattle.std.proofs.lemmas.Bool.{leb-false, le-leb, le-ltb, lt-leb, lt-ltb, ltb-false}
 use Rattle.mt_files.specs.Event.{at_time, event_line, line_size}
 use Rattle.mt_files.specs.Lines.{ended, text_of}
 use Rattle.mt_files.specs.Recording.{head, recording_text}
@@ -66,6 +66,14 @@ still_short book longer call ms is time full =
     let size : record_size longer ≡ record_size (book ++ done call (time_for book call) ∷ []) = ap record_size is ∙ ap (λ (t : ℕ). record_size (book ++ done call t ∷ [])) time in
     let within : record_size (book ++ done call (time_for book call) ∷ []) ≤ RECORDING_BYTES = ltb-false RECORDING_BYTES (record_size (book ++ done call (time_for book call) ∷ [])) both.1 in
     subst (λ (n : ℕ). n ≤ RECORDING_BYTES) (sym size) within
+
+pub still_few : (book longer : List Entry) (call : Call) (ms : ℕ) → longer ≡ book ++ done call ms ∷ [] → is_full book call ≡ false → length (lines_in longer) ≤ RECORDING_LINES
+still_few book longer call ms is full =
+    let both = or_no (nat_le RECORDING_LINES (length (lines_in book))) (nat_lt RECORDING_BYTES (record_size (book ++ done call (time_for book call) ∷ []))) full in
+    let under : length (lines_in book) < RECORDING_LINES = leb-false RECORDING_LINES (length (lines_in book)) both.0 in
+    let size : length (lines_in longer) ≡ length (lines_in book) + 1 =
+    ap (λ (b : List Entry). length (lines_in b)) is ∙ ap length (lines-done book call ms) ∙ length-append (lines_in book) (at_time ms call.event ∷ []) in
+    omega (arith, under, size)
 
 -- how the code tells it, where the book has no stop
 pub full_is : (book : List Entry) (call : Call) → stop_in book ≡ None

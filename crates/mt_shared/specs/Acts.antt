@@ -1,6 +1,7 @@
 -- What a call makes of the book and of the keeper.
-use Rattle.std.specs.Prelude.{◌≡◌, ◌+◌, ◌⊎◌, ℕ, Bool, true, false, List, [], ◌∷◌, ◌++◌, Option, Some, None, length, slice_get}
+use Rattle.std.specs.Prelude.{◌≡◌, ◌+◌, ◌⊎◌, ℕ, Bool, true, false, List, [], ◌∷◌, ◌++◌, Option, Some, None, length, slice_get, ⊤}
 use Rattle.mt_durable.specs.declared.durable.Entry as kept
+use Rattle.mt_files.specs.Form.{IsEvent}
 use Rattle.mt_grammar.specs.Grammar.{is_in_grammar}
 use Rattle.mt_model.specs.declared.texts.config.CsrRow.{CsrRow}
 use Rattle.mt_model.specs.declared.texts.config.JoinRow.{JoinRow}
@@ -40,9 +41,10 @@ pub record IsStopped (stop : Stop) (call : Call) (found book : List Entry) : Typ
   pub rose : stop.after ≡ one_more stop.before
   pub grown : (book ≡ found) ⊎ (book ≡ found ++ failed call (time_for found call) stop ∷ [])
 
--- The book has no room for this call. It is as it was, and these are the numbers of its lines and bytes.
+-- The book has no room for this call, which is one that a line can tell. It is as it was, and these are the numbers of its lines and bytes.
 pub record IsFull (entries bytes : ℕ) (call : Call) (found book : List Entry) : Type 0 where
   pub full : is_full found call ≡ true
+  pub typed : IsEvent call.event
   pub entries_are : entries ≡ length (lines_in book)
   pub bytes_are : bytes ≡ record_size book
   pub same : book ≡ found
@@ -69,6 +71,11 @@ HasOneOf node found call before now = (now ≡ before) ⊎ (now ≡ Some (map_of
 
 abbrev pub HasEither : ConfiguredInteractions → Option Entry → Option (List kept.Entry) → Type 0
 HasEither node last map = (map ≡ Some (map_of node)) ⊎ ((entry : Entry) × (last ≡ Some entry) × (map ≡ Some (map_of (behind_deed node entry.call.deed entry.ms))))
+
+-- What is found of a keeper then is the one map or the other, as far as it can tell.
+abbrev pub StandsBetween : (List kept.Entry → List kept.Entry → Type 0) → ConfiguredInteractions → Option Entry → Type 0
+StandsBetween between node None = ⊤
+StandsBetween between node (Some entry) = between (map_of node) (map_of (behind_deed node entry.call.deed entry.ms))
 
 pub record IsHalted (stop : Stop) (node : ConfiguredInteractions) (book : List Entry) (map : Option (List kept.Entry)) : Type 0 where
   pub place : length book ≡ stop.place + 1

@@ -1,7 +1,8 @@
 -- The entries of a book, their times, the stop that ends it, and the recording of its lines.
-use Rattle.std.specs.Prelude.{ℕ, ◌==◌, ◌||◌, nat_le, nat_lt, Bool, true, false, cond, List, [], ◌∷◌, ◌++◌, Option, Some, None, length, max, unwrap_or}
+use Rattle.std.specs.Prelude.{ℕ, ◌==◌, ◌||◌, nat_le, nat_lt, Bool, true, false, cond, List, [], ◌∷◌, ◌++◌, Option, Some, None, All, length, max, unwrap_or}
 use Rattle.std.specs.List.{list_all}
 use Rattle.mt_files.specs.Event.{at_time}
+use Rattle.mt_files.specs.Form.{HasForm}
 use Rattle.mt_files.specs.Recording.{recording_text}
 use Rattle.mt_model.specs.declared.limits.TheConstants.{LAST_TIME, RECORDING_BYTES, RECORDING_LINES}
 use Rattle.mt_model.specs.declared.texts.recording.Event.{Event}
@@ -61,6 +62,10 @@ onto_lines (Some stop) event events = events
 abbrev pub lines_in : List Entry → List Event
 lines_in [] = []
 lines_in (entry ∷ entries) = onto_lines entry.stop (at_time entry.ms entry.call.event) (lines_in entries)
+
+-- Each call is one that a line can tell.
+abbrev pub AreFormed : List Entry → Type 0
+AreFormed book = All (λ (entry : Entry). HasForm entry.call.event) book
 
 -- how many bytes it has
 abbrev pub record_size : List Entry → ℕ

@@ -1,5 +1,6 @@
 pub mod Acts
 pub mod Book
+pub mod Refused
 pub mod Replay
 pub mod Shared
 pub mod mt_interactions

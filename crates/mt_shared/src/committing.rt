@@ -1,14 +1,15 @@
 //! What lasts of a planned deed goes to the keeper.
 
-ghost use Rattle.std.specs.Prelude.{◌≡◌, ◌⊎◌, Some, false, is_err, OnErr, OnOk};
-ghost use Rattle.mt_durable.specs.Keeping.{Committed, HasRoom, IsAdmitted, IsChange, WasOrCommitted};
+ghost use Rattle.std.specs.Prelude.{◌≡◌, ◌⊎◌, List, Some, false, is_err, OnErr, OnOk};
+ghost use Rattle.mt_durable.specs.Keeping.{Committed, HasRoom, IsAdmitted, IsChange, LeadsTo, WasOrCommitted};
+ghost use Rattle.mt_durable.specs.declared.durable.Entry.{Entry};
 ghost use Rattle.mt_outside.specs.Stream.{HasCause};
 ghost use Rattle.mt_interactions.specs.Configured.{behind};
 ghost use Rattle.mt_interactions.specs.Plan.{IsPlanned, applied_ledger, applied_state};
 ghost use Rattle.mt_shared.specs.Acts.{AdmitsStates};
 ghost use Rattle.mt_shared.specs.Replay.{map_of};
 
-use mt_durable::Keeper;
+use mt_durable::{Keeper, changes_lead_on};
 use mt_interactions::{InteractionOutcome, Interactions, commits_lead_on, maps_are_maps};
 use mt_keeping::states_may_be_committed;
 use mt_outside::Failed;
@@ -29,7 +30,9 @@ pub(crate) fn commit_if_any<K: Keeper>(
         ⊎ (K.map keeper.new ≡ Some (map_of (behind (applied_state outcome.now node.now.state) (applied_ledger outcome.now node.now.state node.now.ledger) node.now)))) }
     ensures failed { K.failed keeper.new ≡ is_err result }
     ensures cause { HasCause (K.faults keeper.old) (K.faults keeper.new) result }
+    ensures between { OnErr result (K.stands_between keeper.new (map_of node.now) (map_of (behind (applied_state outcome.now node.now.state) (applied_ledger outcome.now node.now.state node.now.ledger) node.now))) }
 {
+    changes_lead_on();
     commits_lead_on();
     states_may_be_committed();
     maps_are_maps();
@@ -50,6 +53,8 @@ fn commit<K: Keeper>(keeper: &mut K, change: &[u8]) -> Result<(), Failed>
     ensures part { OnErr result (WasOrCommitted change.now (K.map keeper.old) (K.map keeper.new)) }
     ensures failed { K.failed keeper.new ≡ is_err result }
     ensures cause { K.failed keeper.old ≡ false → HasCause (K.faults keeper.old) (K.faults keeper.new) result }
+    ensures between { (before : List Entry) (after : List Entry) → K.failed keeper.old ≡ false → K.map keeper.old ≡ Some before → LeadsTo change.now before after
+        → OnErr result (K.stands_between keeper.new before after) }
 {
     keeper.commit(change)
 }

@@ -1,23 +1,23 @@
 //! The node beside its keeper and its book.
 
-ghost use Rattle.std.specs.Prelude.{◌≡◌, ◌≤◌, ◌+◌, ◌++◌, ◌∷◌, [], Err, List, None, Some, false, true, is_some, length, slice_get, IfErr, IfOk, OnErr, OnOk};
+ghost use Rattle.std.specs.Prelude.{◌≡◌, ◌≤◌, ◌+◌, ◌++◌, ◌∷◌, [], Err, List, None, Some, false, true, is_some, length, slice_get, vec_capacity, vec_len, IfErr, IfOk, OnErr, OnOk};
 ghost use Rattle.std.specs.Coded.{codes};
 ghost use Rattle.mt_tlv.specs.contracts.value.Value as values;
 ghost use Rattle.mt_durable.specs.declared.durable.Entry.{Entry as KeptEntry};
 ghost use Rattle.mt_files.specs.Form.{HasForm};
 ghost use Rattle.mt_grammar.specs.Grammar.{is_in_grammar};
-ghost use Rattle.mt_model.specs.declared.limits.TheConstants.{RECORDING_BYTES};
+ghost use Rattle.mt_model.specs.declared.limits.TheConstants.{RECORDING_BYTES, RECORDING_LINES};
 ghost use Rattle.mt_outside.specs.Stream.{one_more};
 ghost use Rattle.mt_interactions.specs.Deeds.{IsWithin};
-ghost use Rattle.mt_shared.specs.Acts.{AdmitsStates, HasEither, HasOneOf, HasVerdicts, IsEntered, Refuses};
-ghost use Rattle.mt_shared.specs.Book.{are_in_time, done, is_full, is_timed, last_time, lines_in, record_size, stop_in, time_for};
+ghost use Rattle.mt_shared.specs.Acts.{AdmitsStates, HasEither, HasOneOf, HasVerdicts, IsEntered, Refuses, StandsBetween};
+ghost use Rattle.mt_shared.specs.Book.{AreFormed, are_in_time, done, failed, is_full, is_timed, last_time, lines_in, record_size, stop_in, time_for};
 ghost use Rattle.mt_shared.specs.Replay.{map_of, replay};
 ghost use Rattle.mt_shared.specs.declared.entry.Stop.{Stop as AnyStop};
 
-use crate::committing::commit_if_any;
-use crate::entry::{ActFault, Answer, Call, Entry, Stamped, Stop};
-use crate::planning::{closed, plan};
+use crate::acting::{Refusal, act_on};
+use crate::entry::{ActFault, Call, Entry, Stamped, Stop};
 use crate::room::{Room, time_of};
+use crate::typing::events_have_types;
 use mt_durable::Keeper;
 use mt_files::line_size;
 use mt_interactions::Interactions;
@@ -49,12 +49,16 @@ pub struct Held<K: Keeper> {
     pub ghost timed: { is_timed 0 book.items ≡ true },
     pub ghost in_time: { are_in_time book.items ≡ true },
     pub ghost short: { record_size book.items ≤ RECORDING_BYTES },
+    pub ghost few: { length (lines_in book.items) ≤ RECORDING_LINES },
+    pub ghost formed: { ∥ AreFormed book.items ∥₁ },
     ghost bytes_are: { record_size book.items ≡ bytes },
     ghost last_is: { last_time 0 book.items ≡ last },
     ghost stop_is: { stop_in book.items ≡ stop },
     ghost stop_is_last: { (it : AnyStop) → stop ≡ Some it → length book.items ≡ it.place + 1 },
     ghost faults_rose: { (it : AnyStop) → stop ≡ Some it → it.after ≡ one_more it.before },
     ghost halted: { (it : AnyStop) → stop ≡ Some it → ∥ HasEither node (slice_get book.items it.place) (K.map keeper) ∥₁ },
+    ghost between: { (it : AnyStop) → stop ≡ Some it → ∥ StandsBetween (K.stands_between keeper) node (slice_get book.items it.place) ∥₁ },
+    ghost counted: { (it : AnyStop) → stop ≡ Some it → K.faults keeper ≡ it.after },
     ghost failed: { K.failed keeper ≡ is_some stop },
     ghost kept: { stop ≡ None → K.map keeper ≡ Some (map_of node) } by { Prim.hlevel (codes, values.the_row.coded) },
     ghost admits: { (map : List KeptEntry) → is_in_grammar map ≡ true → K.admits map ≡ true },
@@ -112,49 +116,46 @@ impl<K: Keeper + Drop> Held<K> {
         ensures stays { OnErr result (self.new.node ≡ self.old.node) }
         ensures part { OnErr result (HasOneOf self.old.node self.old.book.items call (K.map self.old.keeper) (K.map self.new.keeper)) }
     {
-        let room = self.room_for(&call)?;
-        let ms = room.ms;
+        let Room { ms, bytes } = match self.room_for(&call) {
+            Ok(room) => room,
+            Err(fault) => {
+                let_go(call);
+                return Err(fault);
+            }
+        };
         let place = self.book.len() as u64;
         let Ok(()) = self.book.reserve(1) else {
+            let_go(call);
             return Err(ActFault::Memory);
         };
-        let Ok(planned) = plan(&self.node, &call.deed, ms, verdicts) else {
-            return Err(ActFault::Memory);
+        let acted = act_on(
+            self.alloc,
+            &mut self.node,
+            &mut self.keeper,
+            &call.deed,
+            ms,
+            verdicts,
+        );
+        let answer = match acted {
+            Ok(answer) => answer,
+            Err(Refusal::Memory) => {
+                let_go(call);
+                return Err(ActFault::Memory);
+            }
+            Err(Refusal::Faults { before, after }) => {
+                let stop = enter_stop(&mut self.book, call, ms, before, after);
+                self.stop = Some(stop);
+                self.last = ms;
+                return Err(ActFault::Stopped(stop));
+            }
         };
-        let Ok(closed) = closed(self.alloc, &planned.outcome) else {
-            return Err(ActFault::Memory);
-        };
-        let before = self.keeper.faults();
-        let Ok(()) = commit_if_any(&self.node, &planned.outcome, &mut self.keeper) else {
-            let after = self.keeper.faults();
-            let stop = Stop {
-                place,
-                before,
-                after,
-            };
-            self.stop = Some(stop);
-            self.last = ms;
-            self.book.push_reserved(Entry {
-                call,
-                ms,
-                stop: Some(stop),
-            });
-            return Err(ActFault::Stopped(stop));
-        };
-        let (reply, fabric, _, outcome) = planned.into_parts();
-        self.node.apply(outcome);
-        self.bytes = room.bytes;
+        self.bytes = bytes;
         self.last = ms;
         self.book.push_reserved(Entry {
             call,
             ms,
             stop: None,
         });
-        let answer = Answer {
-            reply,
-            fabric,
-            closed,
-        };
         Ok(Stamped { place, ms, answer })
     }
 
@@ -193,6 +194,7 @@ impl<K: Keeper + Drop> Held<K> {
         let bytes = self.bytes.saturating_add(line_size(&call.event, ms));
         let entries = self.book.len();
         if entries >= RECORDING_LINES || bytes > RECORDING_BYTES {
+            events_have_types(&call.event);
             return Err(ActFault::RecordFull {
                 entries: entries as u64,
                 bytes: self.bytes as u64,
@@ -200,4 +202,34 @@ impl<K: Keeper + Drop> Held<K> {
         }
         Ok(Room { ms, bytes })
     }
+}
+
+// Lets a call go that is refused. It stands apart, and so does what enters a stop: a function fills all its memory with zeros as it
+// begins, and calls that are done make no room for this.
+#[cold]
+#[inline(never)]
+fn let_go(call: Call) {
+    let _gone = call;
+}
+
+// Enters a call whose commit failed, with the counts of the keeper's faults before and behind it. The stop that it is.
+#[cold]
+#[inline(never)]
+fn enter_stop(book: &mut Vec<Entry>, call: Call, ms: u64, before: u64, after: u64) -> Stop
+    requires { vec_len book.old + 1 ≤ vec_capacity book.old }
+    ensures place { result.place ≡ length book.old.items }
+    ensures counts { (result.before ≡ before) × (result.after ≡ after) }
+    ensures entered { book.new.items ≡ book.old.items ++ failed call ms result ∷ [] }
+{
+    let stop = Stop {
+        place: book.len() as u64,
+        before,
+        after,
+    };
+    book.push_reserved(Entry {
+        call,
+        ms,
+        stop: Some(stop),
+    });
+    stop
 }

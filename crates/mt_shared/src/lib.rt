@@ -6,11 +6,14 @@
 //! - `room`: when a call is done;
 //! - `planning`: what a deed is answered, what comes of it, and the sessions that end with it;
 //! - `committing`: what of it lasts goes to the keeper;
+//! - `acting`: one deed on a node beside its keeper;
+//! - `typing`: that the parts of an event are within their types;
 //! - `held`: the node beside its keeper and its book;
 //! - `crossing`: that it may go to another thread;
 //! - `shared`: the same under a lock.
 #![tactic(auto)]
 
+mod acting;
 mod committing;
 mod crossing;
 mod entry;
@@ -18,6 +21,7 @@ mod held;
 mod planning;
 mod room;
 mod shared;
+mod typing;
 
 pub use crossing::shared_nodes_are_lent;
 pub use entry::{ActFault, Answer, Call, Entry, Stamped, Stop};
@@ -29,3 +33,4 @@ pub use mt_interactions::{
 };
 pub use mt_keeping::{Store, states_are_reopened, states_may_be_committed};
 pub use shared::{NodePass, SharedNode};
+pub use typing::events_have_types;

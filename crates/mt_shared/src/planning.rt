@@ -29,6 +29,18 @@ pub(crate) fn plan<V: Verdicts>(
 pub(crate) fn closed(alloc: Global, outcome: &InteractionOutcome) -> Result<SessionIds, AllocError>
     ensures { IfOk result (λ closed. closed ≡ closed_by outcome.now) }
 {
-    let closed = Vec::from_slice(alloc, outcome.closed())?;
-    Ok(SessionIds::from_vec(closed))
+    let closed = outcome.closed();
+    if closed.is_empty() {
+        return Ok(SessionIds::from_vec(Vec::new(alloc)));
+    }
+    copied(alloc, closed)
+}
+
+// A copy of these. It stands apart, since few deeds end sessions.
+#[inline(never)]
+fn copied(alloc: Global, closed: &[u16]) -> Result<SessionIds, AllocError>
+    ensures { IfOk result (λ copied. copied ≡ closed.now) }
+{
+    let copied = Vec::from_slice(alloc, closed)?;
+    Ok(SessionIds::from_vec(copied))
 }

@@ -1,14 +1,15 @@
 //! The node under a lock: threads take turns with it, and each call stands in the one book.
 
-ghost use Rattle.std.specs.Prelude.{◌≡◌, ◌≤◌, ◌<◌, ◌⊎◌, ℕ, Err, None, Ok, Some, false, is_some, length, true, IfErr, IfOk};
+ghost use Rattle.std.specs.Prelude.{◌≡◌, ◌≤◌, ◌<◌, ◌⊎◌, ℕ, Err, None, Ok, Some, false, is_some, length, slice_get, true, IfErr, IfOk};
 ghost use mathlib.Core.List.{IsPrefix};
 ghost use Rattle.mt_files.specs.Form.{HasForm};
 ghost use Rattle.mt_interactions.specs.Deeds.{IsWithin};
+ghost use Rattle.mt_model.specs.declared.limits.TheConstants.{RECORDING_BYTES, RECORDING_LINES};
 ghost use Rattle.mt_turn.specs.Counts.{how_often};
 ghost use Rattle.mt_turn.specs.History.{IsOutsideAgain};
 ghost use Rattle.mt_turn.specs.Known.{first_pass, joined, part_given, part_kept};
-ghost use Rattle.mt_shared.specs.Acts.{AdmitsStates, HasVerdicts, IsHalted};
-ghost use Rattle.mt_shared.specs.Book.{are_in_time, is_timed, stop_in};
+ghost use Rattle.mt_shared.specs.Acts.{AdmitsStates, HasVerdicts, IsHalted, StandsBetween};
+ghost use Rattle.mt_shared.specs.Book.{AreFormed, are_in_time, is_timed, lines_in, record_size, stop_in};
 ghost use Rattle.mt_shared.specs.Replay.{map_of, replay};
 ghost use Rattle.mt_shared.specs.declared.entry.Stop.{Stop as AnyStop};
 ghost use Rattle.mt_shared.specs.Shared.{IsAnswered, IsPassOf, IsRefused};
@@ -151,6 +152,11 @@ impl<K: Keeper + Drop + Send, V: Verdicts + Drop> SharedNode<K, V> {
         ensures node { result.node ≡ replay self.origin pass.seen }
         ensures kept { stop_in pass.seen ≡ None → K.map result.keeper ≡ Some (map_of result.node) }
         ensures failed { K.failed result.keeper ≡ is_some (stop_in pass.seen) }
+        ensures few { length (lines_in pass.seen) ≤ RECORDING_LINES }
+        ensures short { record_size pass.seen ≤ RECORDING_BYTES }
+        ensures formed { ∥ AreFormed pass.seen ∥₁ }
+        ensures counted { (stop : AnyStop) → stop_in pass.seen ≡ Some stop → K.faults result.keeper ≡ stop.after }
+        ensures between { (stop : AnyStop) → stop_in pass.seen ≡ Some stop → ∥ StandsBetween (K.stands_between result.keeper) result.node (slice_get pass.seen stop.place) ∥₁ }
         ensures halted { (stop : AnyStop) → stop_in pass.seen ≡ Some stop → IsHalted stop result.node pass.seen (K.map result.keeper) }
     {
         origins_cross();

@@ -23,6 +23,7 @@ returns-then-entries-ge-RECORDING_LINES-clause-refused g c =
     } in
     record {
       full = full_by book call c.len-entries.result self.bytes c.line_size.result c.saturating_add-bytes.result counted c.then-entries-ge-RECORDING_LINES.either;
+      typed = c.events_have_types.ensures;
       entries_are = counted.entries_are ∙ sym (lines-all book counted.none);
       bytes_are = sym self.bytes_are;
       same = refl;

@@ -1,7 +1,8 @@
 use Rattle.std.proofs.Common.{◌≡◌, ◌∙◌, ap, sym, subst, List, length, ◌<◌, ◌≤◌}
-use Rattle.mt_shared.specs.Acts.{IsHalted}
-use Rattle.std.specs.Prelude.{is_some}
-use Rattle.mt_shared.specs.Book.{are_in_time, is_timed, stop_in}
+use Rattle.mt_shared.specs.Acts.{IsHalted, StandsBetween}
+use Rattle.std.specs.Prelude.{is_some, slice_get}
+use Rattle.mt_model.specs.declared.limits.TheConstants.{RECORDING_BYTES, RECORDING_LINES}
+use Rattle.mt_shared.specs.Book.{AreFormed, are_in_time, is_timed, lines_in, record_size, stop_in}
 use Rattle.mt_shared.specs.declared.entry.Entry.{Entry}
 use denote.Exit.{no}
 use denote.Param.{param}
@@ -55,3 +56,33 @@ returns-clause-halted g c stop is =
       rose = closed.faults_rose stop here;
       either = closed.halted stop here;
     })
+
+pub returns-clause-few : goal.returns-clause-few
+returns-clause-few g c =
+    let closed = c.into_inner.result in
+    let book : closed.book.items ≡ c.args.pass.seen = ap (λ held. held.book.items) c.into_inner.ensures ∙ c.close.ensures.book in
+    subst (λ (entries : List Entry). length (lines_in entries) ≤ RECORDING_LINES) book closed.few
+
+pub returns-clause-short : goal.returns-clause-short
+returns-clause-short g c =
+    let closed = c.into_inner.result in
+    let book : closed.book.items ≡ c.args.pass.seen = ap (λ held. held.book.items) c.into_inner.ensures ∙ c.close.ensures.book in
+    subst (λ (entries : List Entry). record_size entries ≤ RECORDING_BYTES) book closed.short
+
+pub returns-clause-formed : goal.returns-clause-formed
+returns-clause-formed g c =
+    let closed = c.into_inner.result in
+    let book : closed.book.items ≡ c.args.pass.seen = ap (λ held. held.book.items) c.into_inner.ensures ∙ c.close.ensures.book in
+    subst (λ (entries : List Entry). ∥ AreFormed entries ∥₁) book closed.formed
+
+pub returns-clause-counted : goal.returns-clause-counted
+returns-clause-counted g c stop is =
+    let closed = c.into_inner.result in
+    let book : closed.book.items ≡ c.args.pass.seen = ap (λ held. held.book.items) c.into_inner.ensures ∙ c.close.ensures.book in
+    closed.counted stop (sym closed.stop_is ∙ ap stop_in book ∙ is)
+
+pub returns-clause-between : goal.returns-clause-between
+returns-clause-between g c stop is =
+    let closed = c.into_inner.result in
+    let book : closed.book.items ≡ c.args.pass.seen = ap (λ held. held.book.items) c.into_inner.ensures ∙ c.close.ensures.book in
+    subst (λ (entries : List Entry). ∥ StandsBetween (g.K.Keeper.stands_between closed.keeper) closed.node (slice_get entries stop.place) ∥₁) book (closed.between stop (sym closed.stop_is ∙ ap stop_in book ∙ is))
