@@ -24,7 +24,6 @@ use Rattle.mt_shared.specs.mt_machine.Environment.{Environment}
 use Rattle.mt_shared.specs.mt_machine.Lines.{action_of}
 use Rattle.mt_shared.specs.mt_machine.Step.{live_actor, session_actor}
 use Rattle.mt_shared.specs.mt_ledger.Behind as doings
-use Rattle.mt_shared.specs.mt_ledger.Behind.{Activity}
 use Rattle.mt_shared.specs.mt_ledger.Ledger.{Ledger}
 use Rattle.mt_shared.specs.mt_runs.Datagrams.{activity_said, actor_on, answer_to, payloads_over}
 use Rattle.mt_shared.specs.mt_runs.Whole.{fabric_live, fabric_over, is_live}

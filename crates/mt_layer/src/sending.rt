@@ -1,6 +1,6 @@
 //! What is sent to the peer of a session.
 
-ghost use Rattle.std.specs.Prelude.{◌≡◌, IfOk};
+ghost use Rattle.std.specs.Prelude.{◌≡◌, ◌<◌, [], IfOk, vec_capacity, vec_len};
 ghost use Rattle.mt_shared.specs.mt_runs.Datagrams.{all_sent, if_any, sent_at};
 
 use mt_model::{Sent, SentList, To};
@@ -8,23 +8,25 @@ use mt_outside::Peer;
 use mt_tlv::Bytes;
 use std::alloc::{AllocError, Global};
 
-/// A datagram, where there is one, to where the peer was last heard from.
+/// A datagram, where there is one, to where the peer was last heard from, in this room. It takes no memory.
 pub(crate) fn one_sent(
-    alloc: Global,
     ms: u64,
     session: u16,
     peer: Option<Peer>,
     datagram: Option<Bytes>,
-) -> Result<SentList, AllocError>
-    ensures { IfOk result (λ sent. sent ≡ all_sent ms session peer (if_any datagram)) }
+    room: Vec<Sent>,
+) -> SentList
+    requires empty { room.items ≡ [] }
+    requires room { vec_len room < vec_capacity room }
+    ensures { result ≡ all_sent ms session peer (if_any datagram) }
 {
-    let mut sent = SentList::new(alloc);
+    let mut sent = room;
     if let Some(peer) = peer {
         if let Some(bytes) = datagram {
-            sent.push(sent_at(ms, session, peer, bytes))?;
+            sent.push_reserved(sent_at(ms, session, peer, bytes));
         }
     }
-    Ok(sent)
+    SentList::from_vec(sent)
 }
 
 /// Datagrams in their order, to where the peer was last heard from.
