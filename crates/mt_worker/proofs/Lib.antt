@@ -1,5 +1,6 @@
 mod Calls
 mod Ended
+mod Few
 mod Giving
 mod Made
 mod Passes

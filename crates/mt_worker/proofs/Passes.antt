@@ -159,7 +159,7 @@ got_none v u call session (Stopped stop) outside grows form is = elim is.refuses
   | inr more ↦ stops_here v u is.found session call (time_for is.found call) stop outside grows is.begins is.places more is.refuses.stands is.refuses.place
 ]
 got_none v u call session (RecordFull entries bytes) outside grows form is =
-    idle v u is.found session call faults.Full outside grows is.places is.refuses.same (λ same. cc) (call, form, ap (λ (b : List Entry). is_full b call) is.refuses.same ∙ is.refuses.full)
+    idle v u is.found session call faults.Full outside grows is.places is.refuses.same (λ same. cc) (call, form, is.refuses.typed, ap (λ (b : List Entry). is_full b call) is.refuses.same ∙ is.refuses.full)
 got_none v u call session Memory outside grows form is = idle v u is.found session call faults.Memory outside grows is.places is.refuses.same (λ same. cc) tt
 
 pub denied : (v u : NodePass) (call : Call) (session : ℕ) (fault : WorkFault) → IsOutsideAgain v u → IsPrefix v.seen u.seen → IsDenied v u call fault → GotNone session call v u fault

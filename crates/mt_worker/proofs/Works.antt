@@ -1,5 +1,5 @@
 -- Parts of a worker's work: one call, and one part after another.
-use Rattle.std.proofs.Common.{◌≡◌, ◌≢◌, ◌∙◌, refl, sym, ap, subst, ℕ, false, Some, List, [], ◌∷◌, ◌++◌, Option, Result, Ok, Err, OnOk, IfOk, IfErr}
+use Rattle.std.proofs.Common.{◌≡◌, ◌≢◌, ◌∙◌, refl, sym, ap, subst, ℕ, ◌≤◌, ◌+◌, false, Some, List, [], ◌∷◌, ◌++◌, Option, Result, Ok, Err, OnOk, IfOk, IfErr}
 use Rattle.mt_layer.specs.mt_interactions.Configured.{ConfiguredInteractions}
 use Rattle.mt_model.specs.declared.texts.recording.Sent.{Sent}
 use Rattle.mt_outside.specs.declared.network.Parcel.{Parcel}
@@ -13,6 +13,7 @@ use Rattle.mt_turn.specs.History.{IsOutsideAgain}
 use Rattle.mt_worker.specs.Accounts.{Account, account_over, sent_over}
 use Rattle.mt_worker.specs.Due.{Ticks, call_tick}
 use Rattle.mt_worker.specs.Faults.{Counts, IsCause, IsDenied}
+use Rattle.mt_worker.specs.Few.{AreAtMost}
 use Rattle.mt_worker.specs.Giving.{Gave, GavePart, parcels_in}
 use Rattle.mt_worker.specs.Gots.{Goes, Got}
 use Rattle.mt_worker.specs.Made.{IsMade, Makes}
@@ -22,6 +23,7 @@ use Rattle.mt_worker.specs.declared.fault.WorkFault.{WorkFault}
 use Rattle.mt_worker.specs.declared.fault.WorkFault.TheVariants.{Memory, Stopped, Link, Full}
 use Rattle.mt_worker.specs.declared.hand.Hand.{Hand}
 use Rattle.mt_worker.specs.declared.seat.Seat.{Seat}
+use Rattle.mt_worker.proofs.Few.{few_as, few_none, few_on, few_step, few_stops}
 use Rattle.mt_worker.proofs.Giving.{gave_none, gave_on, parcels_both, part_none, part_on}
 use Rattle.mt_worker.proofs.Made.{made_on, stops_made, stops_tick}
 use Rattle.mt_worker.proofs.Passes.{denied, goes_answered, goes_none, goes_on}
@@ -50,16 +52,17 @@ acts_of origin session call x y (Err fault) from outside grows answered denies =
 
 -- The reporter's part of that.
 
-pub ticked_denied : (T : Type 0) (Due : List Got → Type 0) (v u : NodePass) (now : ℕ) (fault : WorkFault) → IsOutsideAgain v u → IsPrefix v.seen u.seen → IsDenied v u (call_tick now) fault → TickedBy Due v u (err T fault)
-ticked_denied T Due v u now fault outside grows is =
+pub ticked_denied : (T : Type 0) (Due : List Got → Type 0) (steps : ℕ) (v u : NodePass) (now : ℕ) (fault : WorkFault) → IsOutsideAgain v u → IsPrefix v.seen u.seen → IsDenied v u (call_tick now) fault → TickedBy Due steps v u (err T fault)
+ticked_denied T Due steps v u now fault outside grows is =
     let none = denied v u (call_tick now) 0 fault outside grows is in
-    record { gots = none.gots; goes = none.goes; ticks = stops_tick now none.gots none.stops; did = tt; not_link = none.not_link; cause = none.cause }
+    record { gots = none.gots; goes = none.goes; ticks = stops_tick now none.gots none.stops; few = few_stops 0 steps 0 (call_tick now) none.gots none.stops; did = tt; not_link = none.not_link; cause = none.cause }
 
-pub ticked_once : (T : Type 0) (t : T) (origin : ConfiguredInteractions) (v u : NodePass) (now : ℕ) (stamped : Stamped) → v.origin ≡ Some origin → IsOutsideAgain v u → IsPrefix v.seen u.seen → IsAnswered origin v u (call_tick now) stamped → TickedBy (Ticks (Wake now)) v u (ok T t)
+pub ticked_once : (T : Type 0) (t : T) (origin : ConfiguredInteractions) (v u : NodePass) (now : ℕ) (stamped : Stamped) → v.origin ≡ Some origin → IsOutsideAgain v u → IsPrefix v.seen u.seen → IsAnswered origin v u (call_tick now) stamped → TickedBy (Ticks (Wake now)) 1 v u (ok T t)
 ticked_once T t origin v u now stamped from outside grows answered = record {
   gots = got_by 0 (call_tick now) stamped ∷ [];
   goes = goes_answered origin v u (call_tick now) stamped 0 from outside grows answered;
   ticks = (record { nobody = refl; now = now; call_is = refl }, tt);
+  few = few_step (got_by 0 (call_tick now) stamped) refl;
   did = (got_by 0 (call_tick now) stamped, [], refl, record { session_is = refl; call_is = refl; line = refl }, refl);
   not_link = tt;
   cause = tt;
@@ -67,8 +70,8 @@ ticked_once T t origin v u now stamped from outside grows answered = record {
 
 module _ {O : Type 0} (given : O → Option (List Parcel)) (faults : O → ℕ) where
   -- WHERE MEMORY FAILED FIRST nothing was done.
-  pub went_nowhere : (T : Type 0) (Due : Account → List Got → Type 0) (x y : Hand O) (seat : Seat) (a : Account) → x.pass.inside ≡ false → y.pass ≡ x.pass → y.outlet ≡ x.outlet → WentOver given faults Due x y seat (err T Memory) a
-  went_nowhere T Due x y seat a outside pass outlet = record {
+  pub went_nowhere : (T : Type 0) (Due : Account → List Got → Type 0) (heard steps : ℕ) (x y : Hand O) (seat : Seat) (a : Account) → x.pass.inside ≡ false → y.pass ≡ x.pass → y.outlet ≡ x.outlet → WentOver given faults Due heard steps x y seat (err T Memory) a
+  went_nowhere T Due heard steps x y seat a outside pass outlet = record {
     gots = [];
     went = record {
       goes = subst (λ (p : NodePass). Goes x.pass p []) (sym pass) (goes_none x.pass outside);
@@ -79,13 +82,14 @@ module _ {O : Type 0} (given : O → Option (List Parcel)) (faults : O → ℕ) 
     };
     over = tt;
     made = tt;
+    few = few_none heard steps;
     did = tt;
     stands = tt;
   }
 
   -- WHERE THE NODE REFUSED nothing was sent.
-  pub went_denied : (T : Type 0) (Due : Account → List Got → Type 0) (x y : Hand O) (seat : Seat) (a : Account) (call : Call) (fault : WorkFault) → Makes a.row.session a call call.event → GotNone a.row.session call x.pass y.pass fault → y.outlet ≡ x.outlet → WentOver given faults Due x y seat (err T fault) a
-  went_denied T Due x y seat a call fault makes none outlet = record {
+  pub went_denied : (T : Type 0) (Due : Account → List Got → Type 0) (heard steps : ℕ) (x y : Hand O) (seat : Seat) (a : Account) (call : Call) (fault : WorkFault) → Makes a.row.session a call call.event → GotNone a.row.session call x.pass y.pass fault → y.outlet ≡ x.outlet → WentOver given faults Due heard steps x y seat (err T fault) a
+  went_denied T Due heard steps x y seat a call fault makes none outlet = record {
     gots = none.gots;
     went = record {
       goes = none.goes;
@@ -96,13 +100,14 @@ module _ {O : Type 0} (given : O → Option (List Parcel)) (faults : O → ℕ) 
     };
     over = stops_over a.row.session call none.gots none.stops;
     made = stops_made a call none.gots makes none.stops;
+    few = few_stops heard steps a.row.session call none.gots none.stops;
     did = tt;
     stands = tt;
   }
 
   -- WHERE MEMORY FAILED BEHIND THE CALL nothing was given.
-  pub went_unsaid : (T : Type 0) (Due : Account → List Got → Type 0) (x y : Hand O) (seat : Seat) (a : Account) (got : Got) → Goes x.pass y.pass (got ∷ []) → got.session ≡ a.row.session → IsMade a got → y.outlet ≡ x.outlet → WentOver given faults Due x y seat (err T Memory) a
-  went_unsaid T Due x y seat a got goes session made outlet = record {
+  pub went_unsaid : (T : Type 0) (Due : Account → List Got → Type 0) (heard steps : ℕ) (x y : Hand O) (seat : Seat) (a : Account) (got : Got) → Goes x.pass y.pass (got ∷ []) → got.session ≡ a.row.session → IsMade a got → AreAtMost heard steps (got ∷ []) → y.outlet ≡ x.outlet → WentOver given faults Due heard steps x y seat (err T Memory) a
+  went_unsaid T Due heard steps x y seat a got goes session made few outlet = record {
     gots = got ∷ [];
     went = record {
       goes = goes;
@@ -113,6 +118,7 @@ module _ {O : Type 0} (given : O → Option (List Parcel)) (faults : O → ℕ) 
     };
     over = (session, tt);
     made = (made, tt);
+    few = few;
     did = tt;
     stands = tt;
   }
@@ -134,10 +140,10 @@ module _ {O : Type 0} (given : O → Option (List Parcel)) (faults : O → ℕ) 
   ok_as (Err e) P Q follows p = tt
 
   -- ELSE what the call sends was given, up to where the outlet failed.
-  pub went_said : (T : Type 0) (Due : Account → List Got → Type 0) (x y : Hand O) (seat : Seat) (a : Account) (got : Got) (sent : List Sent) (result : Result T WorkFault) → Goes x.pass y.pass (got ∷ []) → got.session ≡ a.row.session → IsMade a got → sent ≡ sent_over a (got ∷ [])
+  pub went_said : (T : Type 0) (Due : Account → List Got → Type 0) (heard steps : ℕ) (x y : Hand O) (seat : Seat) (a : Account) (got : Got) (sent : List Sent) (result : Result T WorkFault) → Goes x.pass y.pass (got ∷ []) → got.session ≡ a.row.session → IsMade a got → AreAtMost heard steps (got ∷ []) → sent ≡ sent_over a (got ∷ [])
       → OnOk result (Gave (given x.outlet) (given y.outlet) (parcels_in sent)) → GavePart (given x.outlet) (given y.outlet) (parcels_in sent) → IfErr result (λ fault. fault ≡ Link) → HasCause (faults x.outlet) (faults y.outlet) result
-      → Due a (got ∷ []) → IsSeatOf seat (account_over a (got ∷ [])) → WentOver given faults Due x y seat result a
-  went_said T Due x y seat a got sent result goes session made is all part link cause due stands = record {
+      → Due a (got ∷ []) → IsSeatOf seat (account_over a (got ∷ [])) → WentOver given faults Due heard steps x y seat result a
+  went_said T Due heard steps x y seat a got sent result goes session made few is all part link cause due stands = record {
     gots = got ∷ [];
     went = record {
       goes = goes;
@@ -148,15 +154,16 @@ module _ {O : Type 0} (given : O → Option (List Parcel)) (faults : O → ℕ) 
     };
     over = (session, tt);
     made = (made, tt);
+    few = few;
     did = on_ok result (Due a (got ∷ [])) due;
     stands = on_ok result (IsSeatOf seat (account_over a (got ∷ []))) stands;
   }
 
-  pub went_sent : (T : Type 0) (Due : Account → List Got → Type 0) (x z : Hand O) (seat : Seat) (a : Account) (got : Got) (messages sent : List Sent) (before : O) (result : Result T WorkFault) → Goes x.pass z.pass (got ∷ []) → got.session ≡ a.row.session → IsMade a got → before ≡ x.outlet → messages ≡ sent → sent ≡ sent_over a (got ∷ [])
+  pub went_sent : (T : Type 0) (Due : Account → List Got → Type 0) (heard steps : ℕ) (x z : Hand O) (seat : Seat) (a : Account) (got : Got) (messages sent : List Sent) (before : O) (result : Result T WorkFault) → Goes x.pass z.pass (got ∷ []) → got.session ≡ a.row.session → IsMade a got → AreAtMost heard steps (got ∷ []) → before ≡ x.outlet → messages ≡ sent → sent ≡ sent_over a (got ∷ [])
       → OnOk result (Gave (given before) (given z.outlet) (parcels_in messages)) → GavePart (given before) (given z.outlet) (parcels_in messages) → IfErr result (λ fault. fault ≡ Link) → HasCause (faults before) (faults z.outlet) result
-      → Due a (got ∷ []) → IsSeatOf seat (account_over a (got ∷ [])) → WentOver given faults Due x z seat result a
-  went_sent T Due x z seat a got messages sent before result goes session made same those is all part link cause due stands =
-      went_said T Due x z seat a got messages result goes session made (those ∙ is)
+      → Due a (got ∷ []) → IsSeatOf seat (account_over a (got ∷ [])) → WentOver given faults Due heard steps x z seat result a
+  went_sent T Due heard steps x z seat a got messages sent before result goes session made few same those is all part link cause due stands =
+      went_said T Due heard steps x z seat a got messages result goes session made few (those ∙ is)
       (subst (λ (o : O). OnOk result (Gave (given o) (given z.outlet) (parcels_in messages))) same all)
       (subst (λ (o : O). GavePart (given o) (given z.outlet) (parcels_in messages)) same part)
       link
@@ -164,12 +171,13 @@ module _ {O : Type 0} (given : O → Option (List Parcel)) (faults : O → ℕ) 
       due stands
 
   -- NOTHING WAS DUE.
-  pub went_idle : {T : Type 0} (t : T) (Due : Account → List Got → Type 0) (x : Hand O) (seat : Seat) (a : Account) → x.pass.inside ≡ false → Due a [] → IsSeatOf seat a → WentOver given faults Due x x seat (Ok t) a
-  went_idle t Due x seat a outside due stands = record {
+  pub went_idle : {T : Type 0} (t : T) (Due : Account → List Got → Type 0) (heard steps : ℕ) (x : Hand O) (seat : Seat) (a : Account) → x.pass.inside ≡ false → Due a [] → IsSeatOf seat a → WentOver given faults Due heard steps x x seat (Ok t) a
+  went_idle t Due heard steps x seat a outside due stands = record {
     gots = [];
     went = record { goes = goes_none x.pass outside; all = gave_none (given x.outlet); part = part_none (given x.outlet) (given x.outlet) [] refl; counts = refl; cause = tt };
     over = tt;
     made = tt;
+    few = few_none heard steps;
     did = due;
     stands = stands;
   }
@@ -188,13 +196,14 @@ module _ {O : Type 0} (given : O → Option (List Parcel)) (faults : O → ℕ) 
   }
 
   -- over one session
-  pub over_on : {T U : Type 0} (t : T) (One Two Both : Account → List Got → Type 0) (x y z : Hand O) (mid seat : Seat) (result : Result U WorkFault) (a : Account) (first : WentOver given faults One x y mid (ok T t) a)
-      → WentOver given faults Two y z seat result (account_over a first.gots) → ((ys : List Got) → Two (account_over a first.gots) ys → Both a (first.gots ++ ys)) → WentOver given faults Both x z seat result a
-  over_on t One Two Both x y z mid seat result a first then both = record {
+  pub over_on : {T U : Type 0} (t : T) (One Two Both : Account → List Got → Type 0) (heard steps more_heard more_steps most_heard most_steps : ℕ) (x y z : Hand O) (mid seat : Seat) (result : Result U WorkFault) (a : Account) (first : WentOver given faults One heard steps x y mid (ok T t) a)
+      → WentOver given faults Two more_heard more_steps y z seat result (account_over a first.gots) → heard + more_heard ≤ most_heard → steps + more_steps ≤ most_steps → ((ys : List Got) → Two (account_over a first.gots) ys → Both a (first.gots ++ ys)) → WentOver given faults Both most_heard most_steps x z seat result a
+  over_on t One Two Both heard steps more_heard more_steps most_heard most_steps x y z mid seat result a first then hears goes both = record {
     gots = first.gots ++ then.gots;
     went = subst (Went given faults x z result (first.gots ++ then.gots)) (sym (over_both a first.gots then.gots)) (went_on t x y z result first.gots then.gots _ _ first.went then.went);
     over = one_on a.row.session first.gots then.gots first.over (subst (λ row. AreOverOne row.session then.gots) (rows_stay a first.gots) then.over);
     made = made_on a first.gots then.gots first.made then.made;
+    few = few_on heard steps more_heard more_steps most_heard most_steps first.gots then.gots hears goes first.few then.few;
     did = ok_as result _ _ (both then.gots) then.did;
     stands = subst (λ (b : Account). OnOk result (IsSeatOf seat b)) (sym (account_both a first.gots then.gots)) then.stands;
   }
@@ -209,12 +218,13 @@ module _ {O : Type 0} (given : O → Option (List Parcel)) (faults : O → ℕ) 
   failed_as T U x y fault gots sent went = record { goes = went.goes; all = tt; part = went.part; counts = counts_as T U fault (faults x.outlet) (faults y.outlet) went.counts; cause = went.cause }
 
   -- a fault stays one, whatever else was due
-  pub over_failed : (T U : Type 0) (One Both : Account → List Got → Type 0) (x y : Hand O) (mid seat : Seat) (fault : WorkFault) (a : Account) → WentOver given faults One x y mid (err T fault) a → WentOver given faults Both x y seat (err U fault) a
-  over_failed T U One Both x y mid seat fault a first = record {
+  pub over_failed : (T U : Type 0) (One Both : Account → List Got → Type 0) (heard steps more_heard more_steps : ℕ) (x y : Hand O) (mid seat : Seat) (fault : WorkFault) (a : Account) → heard ≤ more_heard → steps ≤ more_steps → WentOver given faults One heard steps x y mid (err T fault) a → WentOver given faults Both more_heard more_steps x y seat (err U fault) a
+  over_failed T U One Both heard steps more_heard more_steps x y mid seat fault a hears goes first = record {
     gots = first.gots;
     went = failed_as T U x y fault first.gots (sent_over a first.gots) first.went;
     over = first.over;
     made = first.made;
+    few = few_as heard steps more_heard more_steps first.gots hears goes first.few;
     did = tt;
     stands = tt;
   }

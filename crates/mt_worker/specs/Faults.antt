@@ -1,6 +1,6 @@
 -- Why a worker stopped working, and with which status.
 use Rattle.std.specs.Prelude.{◌≡◌, ℕ, ◌+◌, true, List, Result, Ok, Err, Some, length, ⊤}
-use Rattle.mt_files.specs.Form.{HasForm}
+use Rattle.mt_files.specs.Form.{HasForm, IsEvent}
 use Rattle.mt_outside.specs.Stream.{one_more}
 use Rattle.mt_layer.specs.mt_shared.Book.{is_full, stop_in}
 use Rattle.mt_layer.specs.mt_shared.Shared.{IsRefused, NodePass}
@@ -37,7 +37,7 @@ abbrev pub IsCause : List Entry → WorkFault → Type 0
 IsCause seen Memory = ⊤
 IsCause seen Stopped = (stop : Stop) × (stop_in seen ≡ Some stop) × (length seen ≡ stop.place + 1)
 IsCause seen Link = ⊤
-IsCause seen Full = (call : Call) × HasForm call.event × (is_full seen call ≡ true)
+IsCause seen Full = (call : Call) × HasForm call.event × IsEvent call.event × (is_full seen call ≡ true)
 
 -- Link: the outlet's count of faults rose by one. Else it is as it was.
 abbrev pub Counts : {T : Type 0} → Result T WorkFault → ℕ → ℕ → Type 0

@@ -1,6 +1,7 @@
 pub mod Accounts
 pub mod Due
 pub mod Faults
+pub mod Few
 pub mod Giving
 pub mod Gots
 pub mod Made

@@ -1,11 +1,11 @@
 -- That each call was one to be made then, whether or not the work went on to its end.
-use Rattle.std.specs.Prelude.{◌≡◌, ℕ, true, List, [], ◌∷◌, Some, Contains, ⊤}
+use Rattle.std.specs.Prelude.{◌≡◌, ℕ, List, [], ◌∷◌, Some, Contains, ⊤}
 use Rattle.mt_model.specs.declared.texts.recording.Event.{Event}
 use Rattle.mt_model.specs.declared.texts.recording.Event.TheVariants as events
 use Rattle.mt_layer.specs.mt_runs.Datagrams.{session_named}
 use Rattle.mt_layer.specs.mt_shared.Call.{Call}
 use Rattle.mt_worker.specs.Accounts.{Account, Accounts, account_behind, behind}
-use Rattle.mt_worker.specs.Due.{call_again, call_heard, call_report, call_tick, is_in}
+use Rattle.mt_worker.specs.Due.{call_again, call_heard, call_report, call_tick}
 use Rattle.mt_worker.specs.Gots.{Each, Got}
 use Rattle.mt_worker.specs.declared.seat.Subscription.{Subscription}
 

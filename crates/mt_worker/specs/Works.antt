@@ -1,5 +1,5 @@
 -- What a worker did, and the reporter.
-use Rattle.std.specs.Prelude.{◌≡◌, ◌≢◌, ℕ, ⊤, true, List, [], ◌∷◌, Option, Result, is_some, map, IfErr, IfOk, OnOk}
+use Rattle.std.specs.Prelude.{◌≡◌, ◌≢◌, ℕ, ⊤, true, List, [], ◌∷◌, Option, Result, is_some, length, map, IfErr, IfOk, OnOk}
 use Rattle.mt_layer.specs.mt_interactions.Configured.{ConfiguredInteractions}
 use Rattle.mt_model.specs.declared.texts.config.SessionRow.{SessionRow}
 use Rattle.mt_model.specs.declared.texts.recording.Sent.{Sent}
@@ -12,6 +12,7 @@ use Rattle.mt_layer.specs.mt_shared.Stamped.{Stamped}
 use Rattle.mt_worker.specs.Accounts.{Account, Accounts, account_over, all_behind, all_sent, sent_over}
 use Rattle.mt_worker.specs.Due.{DoesAll, Ticks, TicksAll, id_of, is_in}
 use Rattle.mt_worker.specs.Faults.{Counts, IsCause, status_of}
+use Rattle.mt_worker.specs.Few.{AreAtMost, AreFew, AreFewTicks, ticks_for, wake_count}
 use Rattle.mt_worker.specs.Giving.{Gave, GavePart, parcels_in}
 use Rattle.mt_worker.specs.Gots.{Each, Goes, Got}
 use Rattle.mt_worker.specs.Made.{AreMade, AreMadeOver, AreTicks}
@@ -58,22 +59,24 @@ module _ {O : Type 0} (given : O → Option (List Parcel)) (faults : O → ℕ) 
     pub counts : Counts result (faults before.outlet) (faults after.outlet)
     pub cause : IfErr result (IsCause after.pass.seen)
 
-  -- The same over one session: each of its calls was one to be made then; without a fault they were those that were due, and behind them the seat
-  -- stands for the account behind them.
-  pub record WentOver {T : Type 0} (Due : Account → List Got → Type 0) (before after : Hand O) (seat : Seat) (result : Result T WorkFault) (a : Account) : Type 0 where
+  -- The same over one session: each of its calls was one to be made then, and at most so many of them made lines of datagrams and of steps; without a
+  -- fault they were those that were due, and behind them the seat stands for the account behind them.
+  pub record WentOver {T : Type 0} (Due : Account → List Got → Type 0) (heard steps : ℕ) (before after : Hand O) (seat : Seat) (result : Result T WorkFault) (a : Account) : Type 0 where
     pub gots : List Got
     pub went : Went before after result gots (sent_over a gots)
     pub over : AreOverOne a.row.session gots
     pub made : AreMadeOver a gots
+    pub few : AreAtMost heard steps gots
     pub did : OnOk result (Due a gots)
     pub stands : OnOk result (IsSeatOf seat (account_over a gots))
 
   -- and over several
-  pub record WentOn {T : Type 0} (Due : Accounts → List Got → Type 0) (ids : List ℕ) (before after : Hand O) (seats : List Seat) (result : Result T WorkFault) (accounts : Accounts) : Type 0 where
+  pub record WentOn {T : Type 0} (Due : Accounts → List Got → Type 0) (heard steps : ℕ) (ids : List ℕ) (before after : Hand O) (seats : List Seat) (result : Result T WorkFault) (accounts : Accounts) : Type 0 where
     pub gots : List Got
     pub went : Went before after result gots (all_sent accounts gots)
     pub over : AreOver ids gots
     pub made : AreMade accounts gots
+    pub few : AreAtMost heard steps gots
     pub did : OnOk result (Due accounts gots)
     pub stands : OnOk result (AreSeats seats ids (all_behind accounts gots))
 
@@ -83,11 +86,12 @@ module _ {O : Type 0} (given : O → Option (List Parcel)) (faults : O → ℕ) 
     pub went : Went before after result gots (all_sent accounts gots)
     pub over : AreOver ids gots
     pub made : AreMade accounts gots
+    pub few : AreFew (length ids) jobs gots
     pub did : OnOk result (DoesAll ids accounts jobs gots)
 
   -- WHAT A WORKER DID, with these accounts as it began. Its calls got these, each over one of its sessions, and each was one to be made then, at every
-  -- status; what its outlet was given are the messages that they send, all of them at status 0, else the first of them. At status 0 these calls are
-  -- exactly those that the jobs give that it took.
+  -- status, and no more of them than its jobs give; what its outlet was given are the messages that they send, all of them at status 0, else the first of
+  -- them. At status 0 these calls are exactly those that the jobs give that it took.
   pub record Worked (rows : List SessionRow) (accounts : Accounts) (pass : NodePass) (outlet : O) (done : Done O) : Type 0 where
     pub result : Result ⊤ WorkFault
     pub gots : List Got
@@ -100,6 +104,7 @@ module _ {O : Type 0} (given : O → Option (List Parcel)) (faults : O → ℕ) 
     pub did : OnOk result (DoesAll (map id_of rows) accounts done.queue.taken gots)
     pub counts : Counts result (faults outlet) (faults done.outlet)
     pub cause : IfErr result (IsCause done.pass.seen)
+    pub few : AreFew (length rows) done.queue.taken gots
 
 -- what a call that was answered got
 abbrev pub got_by : ℕ → Call → Stamped → Got
@@ -110,23 +115,24 @@ pub record Acts (origin : ConfiguredInteractions) (session : ℕ) (call : Call) 
   pub answered : IfOk result (λ stamped. Goes before.pass after.pass (got_by session call stamped ∷ []))
   pub refused : IfErr result (λ fault. GotNone session call before.pass after.pass fault)
 
--- A part of the reporter's work, for these calls that were due: each call was a time step.
+-- A part of the reporter's work, for these calls that were due: each call was a time step, and at most so many made lines.
 
-pub record TickedBy {T : Type 0} (Due : List Got → Type 0) (before after : NodePass) (result : Result T WorkFault) : Type 0 where
+pub record TickedBy {T : Type 0} (Due : List Got → Type 0) (steps : ℕ) (before after : NodePass) (result : Result T WorkFault) : Type 0 where
   pub gots : List Got
   pub goes : Goes before after gots
   pub ticks : AreTicks gots
+  pub few : AreAtMost 0 steps gots
   pub did : OnOk result (Due gots)
   pub not_link : IfErr result (λ fault. fault ≢ Link)
   pub cause : IfErr result (IsCause after.seen)
 
 abbrev pub Ticked : {T : Type 0} → Job → NodePass → NodePass → Result T WorkFault → Type 0
-Ticked job before after result = TickedBy (Ticks job) before after result
+Ticked job before after result = TickedBy (Ticks job) (ticks_for job) before after result
 
 abbrev pub TickedThrough : {T : Type 0} → List Job → NodePass → NodePass → Result T WorkFault → Type 0
-TickedThrough jobs before after result = TickedBy (TicksAll jobs) before after result
+TickedThrough jobs before after result = TickedBy (TicksAll jobs) (wake_count jobs) before after result
 
--- WHAT THE REPORTER DID. Its calls are time steps, at every status; at status 0 one for each wake that it took.
+-- WHAT THE REPORTER DID. Its calls are time steps, at every status, and no more than the wakes that it took; at status 0 one for each of these.
 pub record Reported (pass : NodePass) (done : Done ⊤) : Type 0 where
   pub result : Result ⊤ WorkFault
   pub gots : List Got
@@ -136,3 +142,4 @@ pub record Reported (pass : NodePass) (done : Done ⊤) : Type 0 where
   pub did : OnOk result (TicksAll done.queue.taken gots)
   pub cause : IfErr result (IsCause done.pass.seen)
   pub no_link : done.status ≢ 12
+  pub few : AreFewTicks done.queue.taken gots

@@ -1,6 +1,6 @@
 //! What a worker does over its sessions: a datagram, a resend step and report steps over one of them, and a wake over all.
 
-ghost use Rattle.std.specs.Prelude.{◌≡◌, ◌≤◌, ◌∷◌, [], ℕ, Contains, List, Some, drop, length, IfOk};
+ghost use Rattle.std.specs.Prelude.{◌≡◌, ◌≤◌, ◌-◌, ◌*◌, ◌∷◌, [], ℕ, Contains, List, Some, drop, length, IfOk};
 ghost use Rattle.mt_files.specs.Form.{HasForm};
 ghost use Rattle.mt_layer.specs.mt_interactions.Deeds.{IsWithin};
 ghost use Rattle.mt_model.specs.declared.limits.TheConstants.{LAST_TIME, RECEIVED_BYTES};
@@ -10,6 +10,7 @@ ghost use Rattle.mt_layer.specs.mt_shared.Shared.{IsPassOf};
 ghost use Rattle.mt_turn.specs.History.{IsOutsideAgain};
 ghost use Rattle.mt_worker.specs.Accounts.{Account, Accounts, IsReportable};
 ghost use Rattle.mt_worker.specs.Due.{AreRising, Does, Hears, Reports, Resends, Sweeps, Takes, Wakes};
+ghost use Rattle.mt_worker.specs.Few.{heard_for, steps_for};
 ghost use Rattle.mt_worker.specs.Seats.{AreSeats, IsSeatOf};
 ghost use Rattle.mt_worker.specs.Works.{Acts, WentOn, WentOver};
 
@@ -67,7 +68,7 @@ impl<O: Outlet> Hand<O> {
         ensures own { IsPassOf desk.now.node.now self.new.pass }
         ensures outside { IsOutsideAgain self.old.pass self.new.pass }
         ensures went { (a : Account) → IsSeatOf seat.old a → session_named bytes ≡ Some a.row.session
-            → WentOver O.given O.faults (λ a gots. Hears a now from bytes gots) self.old self.new seat.new result a }
+            → WentOver O.given O.faults (λ a gots. Hears a now from bytes gots) 1 0 self.old self.new seat.new result a }
     {
         let (call, pending) = seat.listen(now, from, bytes)?;
         let stamped = self.act(desk, call)?;
@@ -87,7 +88,7 @@ impl<O: Outlet> Hand<O> {
         ensures own { IsPassOf desk.now.node.now self.new.pass }
         ensures outside { IsOutsideAgain self.old.pass self.new.pass }
         ensures went { (a : Account) → IsSeatOf seat.old a
-            → WentOver O.given O.faults (λ a gots. Resends a now gots) self.old self.new seat.new result a }
+            → WentOver O.given O.faults (λ a gots. Resends a now gots) 0 1 self.old self.new seat.new result a }
     {
         let (call, at) = seat.again(now)?;
         let stamped = self.act(desk, call)?;
@@ -109,7 +110,7 @@ impl<O: Outlet> Hand<O> {
         ensures own { IsPassOf desk.now.node.now self.new.pass }
         ensures outside { IsOutsideAgain self.old.pass self.new.pass }
         ensures went { (a : Account) → IsSeatOf seat.old a → Contains a.subscriptions subscription
-            → WentOver O.given O.faults (λ a gots. Reports a.row.session now (subscription ∷ []) gots) self.old self.new seat.new result a }
+            → WentOver O.given O.faults (λ a gots. Reports a.row.session now (subscription ∷ []) gots) 0 1 self.old self.new seat.new result a }
         ensures same { seat.new.subscriptions ≡ seat.old.subscriptions }
     {
         let Subscription { fabric, id } = subscription;
@@ -140,7 +141,7 @@ impl<O: Outlet> Hand<O> {
         ensures own { IsPassOf desk.now.node.now self.new.pass }
         ensures outside { IsOutsideAgain self.old.pass self.new.pass }
         ensures went { (a : Account) → IsSeatOf seat.old a
-            → WentOver O.given O.faults (λ a gots. Reports a.row.session now (drop at a.subscriptions) gots) self.old self.new seat.new result a }
+            → WentOver O.given O.faults (λ a gots. Reports a.row.session now (drop at a.subscriptions) gots) 0 (length a.subscriptions - at) self.old self.new seat.new result a }
     {
         let Some(subscription) = seat.subscription(at) else {
             return Ok(());
@@ -161,7 +162,7 @@ impl<O: Outlet> Hand<O> {
         ensures own { IsPassOf desk.now.node.now self.new.pass }
         ensures outside { IsOutsideAgain self.old.pass self.new.pass }
         ensures went { (a : Account) → IsSeatOf seat.old a
-            → WentOver O.given O.faults (λ a gots. Wakes a now gots) self.old self.new seat.new result a }
+            → WentOver O.given O.faults (λ a gots. Wakes a now gots) 0 4 self.old self.new seat.new result a }
     {
         self.resend(desk, seat, now)?;
         let first = seat.standing().saturating_sub(REPORTED);
@@ -180,7 +181,7 @@ impl<O: Outlet> Hand<O> {
         ensures own { IsPassOf desk.now.node.now self.new.pass }
         ensures outside { IsOutsideAgain self.old.pass self.new.pass }
         ensures went { (ids : List ℕ) (accounts : Accounts) → AreSeats seats.old ids accounts → AreRising ids
-            → WentOn O.given O.faults (λ accounts gots. Sweeps now ids accounts gots) ids self.old self.new seats.new result accounts }
+            → WentOn O.given O.faults (λ accounts gots. Sweeps now ids accounts gots) 0 (4 * length ids) ids self.old self.new seats.new result accounts }
     {
         let Some((seat, others)) = seats.split_first_mut() else {
             return Ok(());
@@ -204,7 +205,7 @@ impl<O: Outlet> Hand<O> {
         ensures own { IsPassOf desk.now.node.now self.new.pass }
         ensures outside { IsOutsideAgain self.old.pass self.new.pass }
         ensures went { (ids : List ℕ) (accounts : Accounts) → AreSeats seats.old ids accounts → AreRising ids
-            → WentOn O.given O.faults (λ accounts gots. Takes ids accounts now from bytes (session_named bytes) gots) ids self.old self.new seats.new result accounts }
+            → WentOn O.given O.faults (λ accounts gots. Takes ids accounts now from bytes (session_named bytes) gots) 1 0 ids self.old self.new seats.new result accounts }
     {
         match session_named(bytes.as_slice()) {
             Some(session) => self.take_of(desk, seats, session, now, from, bytes),
@@ -229,7 +230,7 @@ impl<O: Outlet> Hand<O> {
         ensures own { IsPassOf desk.now.node.now self.new.pass }
         ensures outside { IsOutsideAgain self.old.pass self.new.pass }
         ensures went { (ids : List ℕ) (accounts : Accounts) → AreSeats seats.old ids accounts → AreRising ids
-            → WentOn O.given O.faults (λ accounts gots. Takes ids accounts now from bytes (Some session) gots) ids self.old self.new seats.new result accounts }
+            → WentOn O.given O.faults (λ accounts gots. Takes ids accounts now from bytes (Some session) gots) 1 0 ids self.old self.new seats.new result accounts }
     {
         let Some((seat, others)) = seats.split_first_mut() else {
             return Ok(());
@@ -252,7 +253,7 @@ impl<O: Outlet> Hand<O> {
         ensures own { IsPassOf desk.now.node.now self.new.pass }
         ensures outside { IsOutsideAgain self.old.pass self.new.pass }
         ensures went { (ids : List ℕ) (accounts : Accounts) → AreSeats seats.old ids accounts → AreRising ids
-            → WentOn O.given O.faults (λ accounts gots. Does ids accounts job gots) ids self.old self.new seats.new result accounts }
+            → WentOn O.given O.faults (λ accounts gots. Does ids accounts job gots) (heard_for job) (steps_for (length ids) job) ids self.old self.new seats.new result accounts }
         ensures end { IfOk result (λ is. is ≡ is_end job) }
     {
         match job {

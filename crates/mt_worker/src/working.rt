@@ -1,6 +1,7 @@
 //! A worker, from its first job to the end message.
 
 ghost use Rattle.std.specs.Prelude.{◌≡◌, [], ℕ, List, All, map, IfOk, OnOk};
+ghost use mathlib.Core.List.{IsPrefix};
 ghost use Rattle.mt_queue.specs.Jobs.{IsEnded};
 ghost use Rattle.mt_layer.specs.mt_shared.Shared.{IsPassOf};
 ghost use Rattle.mt_turn.specs.History.{IsOutsideAgain};
@@ -143,6 +144,7 @@ fn seats_of(alloc: Global, rows: &[SessionRow]) -> Result<Vec<Seat>, AllocError>
 /// Takes the jobs that are left, up to the end message.
 pub(crate) fn take_to_end<R: Wait>(rt: &R, jobs: &mut Jobs)
     ensures queue { jobs.new.queue ≡ jobs.old.queue }
+    ensures longer { IsPrefix jobs.old.taken jobs.new.taken }
     ensures ended { IsEnded jobs.new.taken }
 {
     for _ in rt.forever() {

@@ -8,8 +8,8 @@ use Rattle.mt_worker.proofs.reporting.tick.Goals as goal
 pub returns-in_err-act-clause-ticked : goal.returns-in_err-act-clause-ticked
 returns-in_err-act-clause-ticked g c =
     let same : c.from_residual.result ≡ Err c.in_err-act.field-0.0 = search rules in
-    subst (TickedBy (Ticks (Wake c.args.now)) c.args.pass.now c.act.new.pass) (sym same)
-    (ticked_denied _ (Ticks (Wake c.args.now)) c.args.pass.now c.act.new.pass c.args.now c.in_err-act.field-0.0 c.in_err-act.ensures.outside c.in_err-act.ensures.seen c.in_err-act.ensures.refused)
+    subst (TickedBy (Ticks (Wake c.args.now)) 1 c.args.pass.now c.act.new.pass) (sym same)
+    (ticked_denied _ (Ticks (Wake c.args.now)) 1 c.args.pass.now c.act.new.pass c.args.now c.in_err-act.field-0.0 c.in_err-act.ensures.outside c.in_err-act.ensures.seen c.in_err-act.ensures.refused)
 
 pub returns-clause-ticked : goal.returns-clause-ticked
 returns-clause-ticked g c =

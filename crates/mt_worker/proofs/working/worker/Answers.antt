@@ -1,11 +1,13 @@
-use Rattle.std.proofs.Common.{◌≡◌, ◌∙◌, List, OnOk, ap, map, rules, subst, true}
+use Rattle.std.proofs.Common.{◌≡◌, ◌∙◌, List, OnOk, ap, map, rules, subst, sym, true}
 use Rattle.std.specs.Prelude.{is_err}
+use mathlib.Core.List.{IsPrefix}
 use Rattle.mt_model.specs.declared.texts.config.SessionRow.{SessionRow}
 use Rattle.mt_queue.specs.Ends.{Taken}
 use Rattle.mt_worker.specs.Due.{HaveBegun, id_of}
 use Rattle.mt_worker.specs.Works.{WentThrough}
 use Rattle.mt_worker.specs.declared.hand.Hand.{Hand}
 use Rattle.mt_worker.proofs.Ended.{ok_always, ok_unless_failed, worked_as}
+use Rattle.mt_worker.proofs.Few.{longer_same}
 use Rattle.mt_worker.proofs.working.worker.Goals.{then-is_err, else-is_err}
 use Rattle.mt_worker.proofs.working.worker.Goals as goal
 
@@ -22,4 +24,8 @@ returns-clause-worked g c accounts begun =
       | then-is_err w ↦ let failed : is_err c.work-ended.result ≡ true = search rules in ok_unless_failed c.work-ended.result _ failed
       | else-is_err w ↦ ok_always c.work-ended.result _ (ap (λ (j : Taken). j.taken) (c.into_pass.ensures.same ∙ w.jobs-is))
     ] in
-    worked_as g.O.Outlet.given g.O.Outlet.faults c.args.rows.now accounts x y jobs c.work-ended.result (record { outlet = c.into_parts-pass.result.1; pass = c.into_parts-pass.result.0; queue = c.into_pass.result; status = c.status_of.result }) (went begun) c.status_of.ensures pass outlet taken
+    let longer : IsPrefix jobs c.into_pass.result.taken = elim c.if-is_err.branch [
+      | then-is_err w ↦ subst (λ (j : Taken). IsPrefix jobs j.taken) (sym (c.into_pass.ensures.same ∙ w.jobs-is)) w.take_to_end.ensures.longer
+      | else-is_err w ↦ longer_same jobs c.into_pass.result.taken (ap (λ (j : Taken). j.taken) (c.into_pass.ensures.same ∙ w.jobs-is))
+    ] in
+    worked_as g.O.Outlet.given g.O.Outlet.faults c.args.rows.now accounts x y jobs c.work-ended.result (record { outlet = c.into_parts-pass.result.1; pass = c.into_parts-pass.result.0; queue = c.into_pass.result; status = c.status_of.result }) (went begun) c.status_of.ensures pass outlet taken longer

@@ -1,5 +1,5 @@
 use Rattle.std.proofs.lemmas.List.{nil_from_length}
-use Rattle.std.proofs.Common.{length, ◌≡◌, ◌∷◌, [], Err, rules, subst, sym}
+use Rattle.std.proofs.Common.{length, ◌*◌, ◌≡◌, ◌∷◌, [], Err, rules, subst, sym}
 use Rattle.mt_worker.specs.Due.{Sweeps}
 use Rattle.mt_worker.specs.Works.{WentOn}
 use Rattle.mt_worker.proofs.Sweeps.{wake_fails, wake_goes, wake_none}
@@ -15,7 +15,7 @@ pub returns-in_err-wake_over-clause-went : goal.returns-in_err-wake_over-clause-
 returns-in_err-wake_over-clause-went g t c ids accounts are rising =
     let same : c.from_residual.result ≡ Err c.in_err-wake_over.field-0.0 = search rules in
     let is : c.args.seats.now ≡ c.in-Some.seat.now ∷ c.in-Some.others.now = search rules in
-    subst (λ r. WentOn g.O.Outlet.given g.O.Outlet.faults (λ f gots. Sweeps c.args.now ids f gots) ids c.args.self.now c.wake_over.new.self (c.wake_over.new.seat ∷ c.in-Some.others.now) r accounts) (sym same)
+    subst (λ r. WentOn g.O.Outlet.given g.O.Outlet.faults (λ f gots. Sweeps c.args.now ids f gots) 0 (4 * length ids) ids c.args.self.now c.wake_over.new.self (c.wake_over.new.seat ∷ c.in-Some.others.now) r accounts) (sym same)
     (wake_fails g.O.Outlet.given g.O.Outlet.faults c.args.now c.args.self.now c.wake_over.new.self c.args.seats.now c.in-Some.seat.now c.wake_over.new.seat c.in-Some.others.now is _ _ ids accounts (c.wake_over.new.seat ∷ c.in-Some.others.now) c.in_err-wake_over.field-0.0 are c.in_err-wake_over.ensures.went)
 
 pub returns-clause-went : goal.returns-clause-went
