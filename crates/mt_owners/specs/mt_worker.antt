@@ -2,6 +2,7 @@
 pub use Rattle.mt_worker.specs.Accounts
 pub use Rattle.mt_worker.specs.Due
 pub use Rattle.mt_worker.specs.Faults
+pub use Rattle.mt_worker.specs.Few
 pub use Rattle.mt_worker.specs.Giving
 pub use Rattle.mt_worker.specs.Gots
 pub use Rattle.mt_worker.specs.Made

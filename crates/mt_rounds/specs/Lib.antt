@@ -4,3 +4,4 @@ pub mod mt_owners
 pub mod mt_receiver
 pub mod mt_worker
 pub mod mt_shared
+pub mod mt_runs

@@ -3,3 +3,5 @@ pub use Rattle.mt_owners.specs.mt_shared.Book
 pub use Rattle.mt_owners.specs.mt_shared.Entry
 pub use Rattle.mt_owners.specs.mt_shared.Replay
 pub use Rattle.mt_owners.specs.mt_shared.Shared
+pub use Rattle.mt_owners.specs.mt_shared.Call
+pub use Rattle.mt_owners.specs.mt_shared.Stop

@@ -1,8 +1,8 @@
 -- The accounts with which all begins: over each session of a boot nothing has been said.
-use Rattle.std.proofs.Common.{◌≡◌, ◌≢◌, ◌∙◌, refl, sym, ap, ℕ, Bool, true, false, List, [], ◌∷◌, eq-eqb, ne_eqb}
+use Rattle.std.proofs.Common.{◌≡◌, ◌≢◌, ◌∙◌, refl, sym, ap, ℕ, ◌≤◌, Bool, true, false, List, [], ◌∷◌, eq-eqb, ne_eqb}
 use Rattle.std.specs.Prelude.{◌==◌, ◌&&◌, if◌then◌else◌, nat_le, not, length, ⊤}
 use Rattle.std.specs.List.{list_all, list_any}
-use Rattle.std.proofs.lemmas.Bool.{and_from, and_parts, eqb-true, not-true, or_parts, true≢false}
+use Rattle.std.proofs.lemmas.Bool.{and_from, and_parts, eqb-true, leb-true, not-true, or_parts, true≢false}
 use Rattle.mt_legal.specs.mt_shares.Threads.{HaveTheirIds}
 use Rattle.mt_model.specs.declared.limits.TheConstants.{SESSIONS}
 use Rattle.mt_model.specs.declared.tables.access.Auth.TheVariants.{Pase}
@@ -62,6 +62,14 @@ none_are_alike rows fit =
     let front = and_parts (nat_le (length rows) SESSIONS && list_all is_session rows && none_alike have_one_session rows && _) _ fit in
     let before = and_parts (nat_le (length rows) SESSIONS && list_all is_session rows && none_alike have_one_session rows) _ front.0 in
     (and_parts (nat_le (length rows) SESSIONS && list_all is_session rows) (none_alike have_one_session rows) before.0).1
+
+pub few_sessions : (rows : List SessionRow) → are_sessions rows ≡ true → length rows ≤ 64
+unfolding are_sessions
+few_sessions rows fit =
+    let front = and_parts (nat_le (length rows) SESSIONS && list_all is_session rows && none_alike have_one_session rows && _) _ fit in
+    let before = and_parts (nat_le (length rows) SESSIONS && list_all is_session rows && none_alike have_one_session rows) _ front.0 in
+    let named = and_parts (nat_le (length rows) SESSIONS && list_all is_session rows) (none_alike have_one_session rows) before.0 in
+    leb-true (length rows) SESSIONS (and_parts (nat_le (length rows) SESSIONS) (list_all is_session rows) named.0).0
 
 abbrev in_boot : ℕ → SessionRow → Bool
 in_boot boot row = row.boot == boot

@@ -1,8 +1,13 @@
 pub mod Begun
+pub mod Fewness
 pub mod Following
 pub mod Gathering
 pub mod Joining
+pub mod Lines
+pub mod Owning
 pub mod Running
 pub mod Sharing
+pub mod Sums
+pub mod Takings
 pub mod Telling
 pub mod Threads

@@ -13,6 +13,7 @@ use Rattle.mt_model.specs.texts.Config.{are_sessions}
 use Rattle.mt_outside.specs.declared.network.Arrival.{Arrival}
 use Rattle.mt_outside.specs.declared.network.Parcel.{Parcel}
 use Rattle.mt_served.specs.Crews.{IsCrew, Service, TookTheirJobs}
+use Rattle.mt_served.specs.Few.{HasFewLines}
 use Rattle.mt_served.specs.Served.{FollowsAnswers, IsServedRun}
 
 -- What the crew of a node that may be served leaves: a run, by some accounts of its sessions and some list of all that its calls got; and where each of
@@ -30,3 +31,11 @@ CrewsServe O given faults = (lock : TableId) (origin : ConfiguredInteractions) (
     → IsServable origin → are_sessions origin.config.sessions ≡ true → are_in_time book ≡ true → 0 < length services
     → IsCrew given faults lock origin origin.state.node.boot origin.config.sessions book services clerk
     → IsServed given origin book services clerk
+
+-- AND ITS BOOK HAS FEW LINES, at whatever statuses its threads ended, where they took what these answers give them.
+abbrev pub CrewsAreFew : (O : Type 0) (given : O → Option (List Parcel)) (faults : O → ℕ) → Type 0
+CrewsAreFew O given faults = (lock : TableId) (origin : ConfiguredInteractions) (book : List Entry) (services : List (Service O)) (clerk : Done ⊤) (arrivals : List Arrival)
+    → are_sessions origin.config.sessions ≡ true → 0 < length services
+    → IsCrew given faults lock origin origin.state.node.boot origin.config.sessions book services clerk
+    → TookTheirJobs (ids_of_boot origin) arrivals services clerk
+    → HasFewLines book arrivals

@@ -1,4 +1,5 @@
 pub mod Crews
+pub mod Few
 pub mod Laws
 pub mod Served
 pub mod mt_legal
