@@ -14,6 +14,6 @@ mod running;
 mod seating;
 mod threads;
 
-pub use mt_served::crews_serve;
+pub use mt_served::{crews_make_few_lines, crews_serve};
 pub use running::{Ended, run};
 pub use seating::{Places, WORKERS, reserve};

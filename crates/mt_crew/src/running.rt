@@ -1,8 +1,8 @@
 //! From a node to its book.
 
-ghost use Rattle.std.specs.Prelude.{◌≡◌, ◌<◌, ◌≤◌, ℕ, List, None, Some, is_some, length, true};
+ghost use Rattle.std.specs.Prelude.{◌≡◌, ◌<◌, ◌≤◌, ℕ, List, None, Some, is_some, length, slice_get, true};
 ghost use Rattle.mt_model.specs.declared.texts.config.SessionRow.{SessionRow};
-ghost use Rattle.mt_owners.specs.mt_shared.Acts.{IsHalted};
+ghost use Rattle.mt_owners.specs.mt_shared.Acts.{IsHalted, StandsBetween};
 ghost use Rattle.mt_owners.specs.mt_shared.Book.{are_in_time, is_timed, stop_in};
 ghost use Rattle.mt_owners.specs.mt_shared.Replay.{map_of, replay};
 ghost use Rattle.mt_owners.specs.mt_shared.Stop.{Stop as AnyStop};
@@ -93,6 +93,8 @@ pub fn run<
     ensures failed { K.failed result.held.keeper ≡ is_some (stop_in result.held.book.items) }
     ensures in_time { are_in_time result.held.book.items ≡ true }
     ensures timed { is_timed 0 result.held.book.items ≡ true }
+    ensures counted { (stop : AnyStop) → stop_in result.held.book.items ≡ Some stop → K.faults result.held.keeper ≡ stop.after }
+    ensures between { (stop : AnyStop) → stop_in result.held.book.items ≡ Some stop → ∥ StandsBetween (K.stands_between result.held.keeper) result.held.node (slice_get result.held.book.items stop.place) ∥₁ }
     ensures length { length result.outlets.items ≡ length outlets.items }
     ensures crew { (boot : ℕ) (sessions : List SessionRow) → HaveSessions boot (length outlets.items) sessions places
         → HasServed I.held I.clock I.faults O.given O.faults node boot sessions limit outlets.items result.outlets.items intake result.intake result.received result.held.book.items result.status }

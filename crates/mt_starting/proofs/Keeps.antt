@@ -1,9 +1,9 @@
 -- What a crash leaves behind a commit.
-use Rattle.std.proofs.Common.{◌≡◌, ◌∙◌, sym, ap, subst, ℕ, ◌≤◌, true, false, IsTrue, List, Option, Some, None, ⊎_elim, inl, inr}
+use Rattle.std.proofs.Common.{◌≡◌, ◌∙◌, sym, ap, subst, ℕ, ◌≤◌, true, false, IsTrue, List, Option, Some, None, inl, inr}
 use Rattle.std.proofs.lemmas.Bool.{cases_Bool}
-use Rattle.std.specs.Prelude.{◌⊎◌, Result, Ok, Err, OnErr, OnOk, is_err, unwrap_or}
-use Rattle.mt_durable.specs.Keeping.{IsChange, LeadsTo, WasOrCommitted}
-use Rattle.mt_durable.specs.Maps.{Merged, have_values, keys_ascend}
+use Rattle.std.specs.Prelude.{Result, Ok, Err, OnErr, OnOk, is_err, unwrap_or}
+use Rattle.mt_durable.specs.Keeping.{IsChange, LeadsTo}
+use Rattle.mt_durable.specs.Maps.{have_values, keys_ascend}
 use Rattle.mt_durable.specs.Reading.{Says, change_at, entries_or_none, said}
 use Rattle.mt_durable.specs.Setting.{with_all}
 use Rattle.mt_durable.specs.declared.durable.Entry.{Entry}
@@ -12,27 +12,21 @@ use Rattle.mt_outside.specs.Disk.{LeavesOnly}
 use Rattle.mt_shared.specs.mt_keeping.Laws.{ChangesLeadToOne}
 use Rattle.mt_shared.specs.mt_keeping.Recovered.{KeepsMap, RecoversEither, RecoversFrom}
 use Rattle.mt_shared.specs.mt_keeping.States.{KeepingState, told_map}
-use Rattle.mt_starting.specs.Crashes.{AlwaysTells, IsEither, IsSafe, KeepsSafe}
+use Rattle.mt_starting.specs.Crashes.{AlwaysTells, IsBetween, IsSafe, KeepsSafe}
 use Rattle.mt_starting.proofs.Begins.{some_same}
 
 of_ok : {T E : Type 0} (result : Result T E) (P : Type 0) → is_err result ≡ false → OnOk result P → P
 of_ok (Ok x) P runs p = p
 of_ok (Err e) P runs p = absurd cc
 
-of_err : {T E : Type 0} (result : Result T E) (P : Type 0) → is_err result ≡ true → OnErr result P → P
-of_err (Ok x) P stopped p = absurd cc
-of_err (Err e) P stopped p = p
+-- what holds whatever the result
+pub on_err : {T E : Type 0} (result : Result T E) (P : Type 0) → P → OnErr result P
+on_err (Ok x) P p = tt
+on_err (Err e) P p = p
 
 -- what the bytes of a change say
 says_said : (bytes : List ℕ) → ((entries : List Entry) (bytes : List ℕ) → Says entries bytes → change_at bytes ≡ Some entries) → IsChange bytes → Says (said bytes) bytes
 says_said bytes read form = subst (λ (entries : List Entry). Says entries bytes) (sym (ap entries_or_none (read form.0 bytes form.1))) form.1
-
--- Behind a commit that has failed the map from before it is told, or that with the change.
-is_told : (bytes : List ℕ) (before now : List Entry) → ChangesLeadToOne → Says (said bytes) bytes → keys_ascend before ≡ true → have_values before ≡ true → WasOrCommitted bytes (Some before) (Some now) → (now ≡ before) ⊎ (now ≡ with_all (said bytes) before)
-is_told bytes before now one says ascend whole part = ⊎_elim
-    (λ (was : Some now ≡ Some before). inl (some_same now before was))
-    (λ (is : (after : List Entry) × LeadsTo bytes before after × (Some now ≡ Some after)). inr (some_same now is.0 is.2 ∙ one (said bytes) before is.0 bytes ascend whole says is.1))
-    part
 
 module _ {D : Type 0} (contents : D → Option (List ℕ)) (images : D → List ℕ → Type 0) where
   told_is : (state : KeepingState D) → state.rolled ≡ None → told_map state ≡ state.store.image
@@ -53,7 +47,6 @@ module _ {D : Type 0} (contents : D → Option (List ℕ)) (images : D → List 
   keeps_new state is runs safe = record {
     in_use = λ ran. is;
     safe = λ always ran. safe always;
-    either = λ always (stopped : state.store.journal.failed ≡ true). absurd cc;
   }
 
   module _ (moment : D → ℕ) (images_since : D → ℕ → List ℕ → Type 0) (counts_now : (disk : D) (from : ℕ) (image : List ℕ) → from ≤ moment disk → images disk image → images_since disk from image) where
@@ -68,36 +61,29 @@ module _ {D : Type 0} (contents : D → Option (List ℕ)) (images : D → List 
       kept_before : AlwaysTells contents → old.store.journal.failed ≡ false → Kept old
       kept_before always ran = subst (KeepsMap contents images old.store.journal.disk old.store.journal.place) (told_is old (keeps.in_use ran)) (keeps.safe always ran).keeps
 
-      either_of : (Kept old → (config : Contents) → LeavesOnly moment images_since old.store.journal.disk new.store.journal.disk (RecoversEither config old.store.image (with_all (said bytes) (told_map old))))
-          → ((change map : List Entry) → keys_ascend change ≡ true → keys_ascend map ≡ true → have_values map ≡ true → Merged change map (with_all change map))
-          → Says (said bytes) bytes → keys_ascend (told_map old) ≡ true → have_values (told_map old) ≡ true → (told_map new ≡ told_map old) ⊎ (told_map new ≡ with_all (said bytes) (told_map old))
-          → AlwaysTells contents → old.store.journal.failed ≡ false → IsEither images new.store.journal.disk (told_map new)
-      either_of moments merged says ascend whole told always ran =
+      -- Where the commit fails, a crash leaves one of the two maps between which it stands.
+      pub between : IsChange bytes
+          → ((config : Contents) → Kept old → LeavesOnly moment images_since old.store.journal.disk new.store.journal.disk (RecoversEither config old.store.image (with_all (said bytes) (told_map old))))
+          → ((entries : List Entry) (bytes : List ℕ) → Says entries bytes → change_at bytes ≡ Some entries)
+          → ChangesLeadToOne → keys_ascend (told_map old) ≡ true → have_values (told_map old) ≡ true
+          → (before after : List Entry) → old.store.journal.failed ≡ false → Some (told_map old) ≡ Some before → LeadsTo bytes before after → AlwaysTells contents → IsBetween images new.store.journal.disk before after
+      between form moments read one ascend whole before after ran is leads always =
           let with_change : List Entry = with_all (said bytes) (told_map old) in
-          record {
-            before = told_map old;
-            after = with_change;
-            change = bytes;
-            leads = record { entries = said bytes; says = says; merged = merged (said bytes) (told_map old) says.ascend ascend whole };
-            told = told;
-            recovers = λ config file left. subst (λ (map : List Entry). RecoversEither config map with_change file) (sym (told_is old (keeps.in_use ran)))
-                (left_now old.store.journal.disk new.store.journal.disk (RecoversEither config old.store.image with_change) (moments (kept_before always ran) config) file left);
-          }
+          let from : told_map old ≡ before = some_same (told_map old) before is in
+          let to : after ≡ with_change = one (said bytes) (told_map old) after bytes ascend whole (says_said bytes read form) (subst (λ (map : List Entry). LeadsTo bytes map after) (sym from) leads) in
+          λ config file left.
+          subst (λ (map : List Entry). RecoversEither config map after file) (sym (told_is old (keeps.in_use ran)) ∙ from)
+          (subst (λ (map : List Entry). RecoversEither config old.store.image map file) (sym to)
+          (left_now old.store.journal.disk new.store.journal.disk (RecoversEither config old.store.image with_change) (moments config (kept_before always ran)) file left))
 
       -- So what is kept stays kept behind a commit.
-      pub keeps_on : IsChange bytes
-          → (IsTrue old.store.journal.failed → new ≡ old)
+      pub keeps_on : (IsTrue old.store.journal.failed → new ≡ old)
           → new.store.journal.failed ≡ is_err result
           → OnOk result (new.rolled ≡ None)
-          → OnErr result (WasOrCommitted bytes (Some (told_map old)) (Some (told_map new)))
           → (Kept old → OnOk result (Kept new))
-          → ((config : Contents) → Kept old → LeavesOnly moment images_since old.store.journal.disk new.store.journal.disk (RecoversEither config old.store.image (with_all (said bytes) (told_map old))))
           → ((config : Contents) (file : List ℕ) → Kept old → OnOk result (images new.store.journal.disk file → RecoversFrom config (told_map new) file))
-          → ((entries : List Entry) (bytes : List ℕ) → Says entries bytes → change_at bytes ≡ Some entries)
-          → ((change map : List Entry) → keys_ascend change ≡ true → keys_ascend map ≡ true → have_values map ≡ true → Merged change map (with_all change map))
-          → ChangesLeadToOne → keys_ascend (told_map old) ≡ true → have_values (told_map old) ≡ true → KeepsSafe contents images new
-      keeps_on form still failed in_use part kept moments acknowledged read merged one ascend whole =
-          let says : Says (said bytes) bytes = says_said bytes read form in
+          → KeepsSafe contents images new
+      keeps_on still failed in_use kept acknowledged =
           elim (cases_Bool old.store.journal.failed) [
             | inl was ↦ subst (KeepsSafe contents images) (sym (still was)) keeps
             | inr ran ↦ record {
@@ -105,9 +91,5 @@ module _ {D : Type 0} (contents : D → Option (List ℕ)) (images : D → List 
               safe = λ always runs.
                   is_safe new (of_ok result (new.rolled ≡ None) (sym failed ∙ runs) in_use) (of_ok result (Kept new) (sym failed ∙ runs) (kept (kept_before always ran)))
                   (λ config file. of_ok result (images new.store.journal.disk file → RecoversFrom config (told_map new) file) (sym failed ∙ runs) (acknowledged config file (kept_before always ran)));
-              either = λ always stopped.
-                  either_of (λ its config. moments config its) merged says ascend whole
-                  (is_told bytes (told_map old) (told_map new) one says ascend whole (of_err result (WasOrCommitted bytes (Some (told_map old)) (Some (told_map new))) (sym failed ∙ stopped) part))
-                  always ran;
             }
           ]

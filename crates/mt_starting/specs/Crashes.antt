@@ -1,6 +1,5 @@
 -- What a crash now leaves of the disk of a store of states.
-use Rattle.std.specs.Prelude.{◌≡◌, ◌⊎◌, ℕ, true, false, List, Option, None, Some}
-use Rattle.mt_durable.specs.Keeping.{LeadsTo}
+use Rattle.std.specs.Prelude.{◌≡◌, ℕ, false, List, Option, None, Some}
 use Rattle.mt_durable.specs.declared.durable.Entry.{Entry}
 use Rattle.mt_journal.specs.declared.position.Position.{Position}
 use Rattle.mt_model.specs.texts.Contents.{Contents}
@@ -17,22 +16,11 @@ pub record IsSafe {D : Type 0} (contents : D → Option (List ℕ)) (images : D 
   pub keeps : KeepsMap contents images disk place map
   pub recovers : (config : Contents) (file : List ℕ) → images disk file → RecoversFrom config map file
 
--- of each file that a crash now leaves is recovered what a node goes on with behind the one map or the other
+-- BETWEEN TWO MAPS: of each file that a crash now leaves is recovered what a node goes on with behind the one map or the other
 abbrev pub IsBetween : {D : Type 0} → (D → List ℕ → Type 0) → D → List Entry → List Entry → Type 0
 IsBetween images disk before after = (config : Contents) (file : List ℕ) → images disk file → RecoversEither config before after file
-
--- A COMMIT HAS FAILED: of each file that a crash now leaves is recovered what a node goes on with behind the map from before it, or behind the one
--- to which its change leads. The map that is told is one of both.
-pub record IsEither {D : Type 0} (images : D → List ℕ → Type 0) (disk : D) (map : List Entry) : Type 0 where
-  pub before : List Entry
-  pub after : List Entry
-  pub change : List ℕ
-  pub leads : LeadsTo change before after
-  pub told : (map ≡ before) ⊎ (map ≡ after)
-  pub recovers : IsBetween images disk before after
 
 -- WHAT A STORE KEEPS to which was committed since it was recovered. Of the crashes of disks that cannot tell their contents nothing is said.
 pub record KeepsSafe {D : Type 0} (contents : D → Option (List ℕ)) (images : D → List ℕ → Type 0) (state : KeepingState D) : Type 0 where
   pub in_use : state.store.journal.failed ≡ false → state.rolled ≡ None
   pub safe : AlwaysTells contents → state.store.journal.failed ≡ false → IsSafe contents images state.store.journal.disk state.store.journal.place (told_map state)
-  pub either : AlwaysTells contents → state.store.journal.failed ≡ true → IsEither images state.store.journal.disk (told_map state)

@@ -7,6 +7,6 @@
 mod safe;
 mod starting;
 
-pub use mt_shared::{Entry, SharedNode};
+pub use mt_shared::{Entry, SharedNode, events_have_types};
 pub use safe::SafeStore;
 pub use starting::{StartFault, Started, start_on};

@@ -14,15 +14,15 @@ ghost use Rattle.mt_outside.specs.Logs.{fewer};
 ghost use Rattle.mt_outside.specs.Stream.{HasCause};
 ghost use Rattle.mt_shared.specs.mt_keeping.Recovered.{KeepsMap, RecoversEither, RecoversFrom, StopHoldsMap};
 ghost use Rattle.mt_shared.specs.mt_keeping.States.{told_map};
-ghost use Rattle.mt_starting.specs.Crashes.{AlwaysTells, IsBetween, IsEither, IsSafe};
+ghost use Rattle.mt_starting.specs.Crashes.{AlwaysTells, IsBetween, IsSafe};
 
-use mt_durable::{Keeper, bytes_of_a_change_are_read, changes_lead_on};
+use mt_durable::{Keeper, bytes_of_a_change_are_read};
 use mt_outside::{Disk, Failed};
 use mt_shared::{Store, states_may_be_committed};
 use std::marker::Model;
 
 /// A store to which was committed since it was recovered. What a crash leaves of its disk it keeps by its type: of that is recovered what a
-/// node goes on with behind the map that is told; or, once a commit has failed, behind the map from before it or the one with its change.
+/// node goes on with behind the map that is told. Once a commit has failed it stands between two maps, and a crash leaves one of them.
 /// Contracts see the store.
 pub struct SafeStore<D: Disk> {
     store: Store<D>,
@@ -65,8 +65,6 @@ impl<D: Disk> SafeStore<D> {
         ensures disk { result ≡ self.store.journal.disk }
         // While no commit has failed, a crash now leaves what the store tells.
         ensures safe { AlwaysTells D.contents → self.store.journal.failed ≡ false → IsSafe D.contents D.images result self.store.journal.place (told_map self) }
-        // Behind a failed commit it leaves the map from before it, or the one with its change.
-        ensures left { AlwaysTells D.contents → self.store.journal.failed ≡ true → IsEither D.images result (told_map self) }
     {
         let SafeStore { store } = self;
         store.into_disk()
@@ -114,7 +112,6 @@ impl<D: Disk> Keeper for SafeStore<D> {
             × Outlasts (switch_calls self.old.store.journal.place) (D.allowed self.old.store.journal.disk)) }
     {
         bytes_of_a_change_are_read();
-        changes_lead_on();
         states_may_be_committed();
         // Its image shows that the keys of the map ascend, each with a value.
         let _told = self.store.told().as_slice();

@@ -1,7 +1,7 @@
 use Rattle.std.proofs.Common.{◌∙◌, ap, arith, length, map, sym, subst, List, ℕ}
-use Rattle.std.specs.Prelude.{is_some}
+use Rattle.std.specs.Prelude.{is_some, slice_get}
 use Rattle.mt_queue.specs.Ends.{Put}
-use Rattle.mt_owners.specs.mt_shared.Acts.{IsHalted}
+use Rattle.mt_owners.specs.mt_shared.Acts.{IsHalted, StandsBetween}
 use Rattle.mt_owners.specs.mt_shared.Book.{are_in_time, is_timed, stop_in}
 use Rattle.mt_owners.specs.mt_shared.Entry.{Entry}
 use Rattle.mt_owners.specs.mt_shared.Shared.{NodePass}
@@ -49,6 +49,14 @@ returns-clause-in_time g c = ap are_in_time c.close-held.ensures.book ∙ c.clos
 
 pub returns-clause-timed : goal.returns-clause-timed
 returns-clause-timed g c = ap (is_timed 0) c.close-held.ensures.book ∙ c.close-held.ensures.timed
+
+pub returns-clause-counted : goal.returns-clause-counted
+returns-clause-counted g c stop is = c.close-held.ensures.counted stop (ap stop_in (sym c.close-held.ensures.book) ∙ is)
+
+pub returns-clause-between : goal.returns-clause-between
+returns-clause-between g c stop is =
+    let same = c.close-held.ensures.book in
+    subst (λ (book : List Entry). ∥ StandsBetween (g.K.Keeper.stands_between c.close-held.result.keeper) c.close-held.result.node (slice_get book stop.place) ∥₁) (sym same) (c.close-held.ensures.between stop (ap stop_in (sym same) ∙ is))
 
 pub returns-clause-crew : goal.returns-clause-crew
 returns-clause-crew g c boot sessions have =
