@@ -10,10 +10,9 @@ use Rattle.mt_outside.specs.declared.network.Arrival.{Arrival}
 use Rattle.mt_outside.specs.declared.network.Parcel.{Parcel}
 use Rattle.mt_outside.specs.Stream.{Took}
 use Rattle.mt_starting.specs.mt_shared.Entry.{Entry}
-use Rattle.mt_starting.specs.Starts.{IsStartedOn}
 use Rattle.mt_starting.specs.mt_interactions.Configured.{ConfiguredInteractions}
 use Rattle.mt_serving.specs.Ending.{Finishes, IsTold, TellsEnd, behind, cut, fault_of, part_of_line, unwritten, wanting, whole, whole_line}
-use Rattle.mt_serving.specs.Serves.{IsServed, Ran, ran, unready}
+use Rattle.mt_serving.specs.Serves.{IsOrigin, IsServed, Ran, ran, unready}
 use Rattle.mt_serving.specs.Record.{TookFront, Writes, record_of}
 use Rattle.mt_serving.specs.declared.ending.ServeFault.{ServeFault}
 use Rattle.mt_serving.specs.declared.ending.ServeFault.TheVariants as serves
@@ -64,10 +63,11 @@ told_whole book stopped status before after old new (wanting middle took told) z
 told_whole book stopped status before after old new (unwritten middle between seven less rose told) zero = absurd (omega (arith, told.0, zero))
 
 -- So at status 0 a started node was served.
-module _ {I O D : Type 0} (held : I → Option (List Arrival)) (clock : I → ℕ) (given : O → Option (List Parcel)) (contents : D → Option (List ℕ)) (images : D → List ℕ → Type 0) (config : Config) (file : List ℕ) (limit : ℕ) (lent returned : List O) (intake left : I) (disk : D)
-    (status : ℕ) (before after : Option (List ℕ)) (old new : ℕ) (origin : ConfiguredInteractions) (started : IsStartedOn config file origin) where
-  pub was_served : Ran held clock given contents images origin limit lent returned intake left disk status before after old new → status ≡ 0 → IsServed held clock given config file limit lent returned intake left before after
-  was_served (unready same calm told) zero = absurd (omega (arith, told.0, zero))
-  was_served (ran book stopped there all end told) zero =
-      let both = told_whole book stopped status before after old new told zero in
-      record { origin = origin; started = started; book = book; serves = all both.0; written = both.1 }
+module _ {I O D : Type 0} (held : I → Option (List Arrival)) (clock missed : I → ℕ) (given : O → Option (List Parcel)) (failed : O → ℕ) (contents : D → Option (List ℕ)) (images : D → List ℕ → Type 0) (disk_faults : D → ℕ) (config : Config) (told : Option (List ℕ)) (limit : ℕ)
+    (lent returned : List O) (intake left : I) (disk : D) (status : ℕ) (before after : Option (List ℕ)) (old new : ℕ) (origin : ConfiguredInteractions) (begun : IsOrigin config told origin) where
+  pub was_served : Ran held clock missed given failed contents images disk_faults origin limit lent returned intake left disk status before after old new → status ≡ 0
+      → IsServed held clock given config told limit lent returned intake left before after
+  was_served (unready same calm tells) zero = absurd (omega (arith, tells.0, zero))
+  was_served (ran book stopped there causes all end tells) zero =
+      let both = told_whole book stopped status before after old new tells zero in
+      record { origin = origin; begun = begun; book = book; serves = all both.0; written = both.1 }

@@ -2,10 +2,12 @@
 //!
 //! - `ending`: why it ends, with the status and the last line of each cause;
 //! - `recording`: the record of a book;
+//! - `reading`: that it is read again as the lines of the book;
 //! - `serving`: from a disk to the record.
 #![tactic(auto)]
 
 mod ending;
+mod reading;
 mod recording;
 mod serving;
 

@@ -1,15 +1,17 @@
 //! From a disk to the record.
 
-ghost use Rattle.std.specs.Prelude.{◌≡◌, ◌<◌, ◌≤◌, ℕ, List, Some, length};
+ghost use Rattle.std.specs.Prelude.{◌≡◌, ◌<◌, ◌≤◌, length};
 ghost use Rattle.mt_model.specs.texts.Contents.{contents_of};
 ghost use Rattle.mt_serving.specs.Ending.{TellsEnd, TellsNoMemory};
 ghost use Rattle.mt_serving.specs.Serves.{Course, IsServed, Ran};
 
 use crate::ending::{ServeFault, finish_serving};
+use crate::reading::record_is_read;
 use crate::recording::{RecordFault, write_record};
-use mt_crew::{crews_serve, reserve, run};
+use mt_crew::{crews_make_few_lines, crews_serve, reserve, run};
 use mt_model::Config;
 use mt_outside::{Disk, Gate, Intake, Outlet, Progress, Sink};
+use mt_sizes::lines_are_short;
 use mt_starting::{Entry, SharedNode, Started, start_on};
 use std::alloc::Global;
 use std::sync::Wait;
@@ -78,10 +80,9 @@ pub fn serve_with<
     requires several { (0 < length outlets.items) × (length outlets.items ≤ 8) }
     requires some { 0 < limit }
     ensures outlets { length result.outlets.items ≡ length outlets.items }
-    ensures served { (file : List ℕ) → D.contents disk ≡ Some file → result.status ≡ 0
-        → IsServed I.held I.clock O.given config.now file limit outlets.items result.outlets.items intake result.intake (W.written out.old) (W.written out.new) }
-    ensures course { (file : List ℕ) → D.contents disk ≡ Some file
-        → Course I.held I.clock O.given D.contents D.images config.now file limit outlets.items result.outlets.items intake result.intake result.disk result.status (W.written out.old) (W.written out.new) (W.faults out.old) (W.faults out.new) }
+    ensures served { result.status ≡ 0 → IsServed I.held I.clock O.given config.now (D.contents disk) limit outlets.items result.outlets.items intake result.intake (W.written out.old) (W.written out.new) }
+    ensures course { Course I.held I.clock I.faults O.given O.faults D.contents D.images D.faults config.now limit outlets.items result.outlets.items intake result.intake disk result.disk result.status
+        (W.written out.old) (W.written out.new) (W.faults out.old) (W.faults out.new) }
 {
     match start_on(alloc, config, disk) {
         Ok(started) => serve_started(
@@ -119,7 +120,8 @@ fn serve_started<
     requires some { 0 < limit }
     requires configured { started.node.config ≡ contents_of config.now }
     ensures outlets { length result.outlets.items ≡ length outlets.items }
-    ensures ran { Ran I.held I.clock O.given D.contents D.images started.node limit outlets.items result.outlets.items intake result.intake result.disk result.status (W.written out.old) (W.written out.new) (W.faults out.old) (W.faults out.new) }
+    ensures ran { Ran I.held I.clock I.faults O.given O.faults D.contents D.images D.faults started.node limit outlets.items result.outlets.items intake result.intake result.disk result.status
+        (W.written out.old) (W.written out.new) (W.faults out.old) (W.faults out.new) }
 {
     let (node, store, verdicts) = started.into_parts();
     let boot = node.state().boot;
@@ -132,10 +134,13 @@ fn serve_started<
         Err(store) => return without_memory(alloc, store.into_disk(), intake, outlets, out),
     };
     crews_serve::<O>();
+    crews_make_few_lines::<O>();
+    lines_are_short();
     let ended = run(
         rt, alloc, shared, pass, places, intake, outlets, gate, limit, progress,
     );
     let (status, held, intake, outlets) = ended.into_parts();
+    record_is_read(&held.book);
     let status = tell_end(alloc, &held.book, status, out);
     Served::new(status, held.into_keeper().into_disk(), intake, outlets)
 }

@@ -48,7 +48,7 @@ pub fn serve<
     ensures served { result.status ≡ 0 → HasServed I.held I.clock O.given (words_of words.now) (input (C.left config.old) (C.faults config.old)) (input (C.left config.new) (C.faults config.new)) (D.contents disk)
         outlets.items result.outlets.items intake result.intake (W.written out.old) (W.written out.new) }
     ensures course { (found : ServeWords) → serve_words (words_of words.now) ≡ Some found
-        → HasCourse I.held I.clock O.given D.contents D.images found (input (C.left config.old) (C.faults config.old)) (input (C.left config.new) (C.faults config.new))
+        → HasCourse I.held I.clock I.faults O.given O.faults D.contents D.images D.faults found (input (C.left config.old) (C.faults config.old)) (input (C.left config.new) (C.faults config.new))
         outlets.items result.outlets.items intake result.intake disk result.disk result.status (W.written out.old) (W.written out.new) (W.faults out.old) (W.faults out.new) }
 {
     serve_watched(
@@ -84,7 +84,7 @@ pub fn serve_watched<
     ensures served { result.status ≡ 0 → HasServed I.held I.clock O.given (words_of words.now) (input (C.left config.old) (C.faults config.old)) (input (C.left config.new) (C.faults config.new)) (D.contents disk)
         outlets.items result.outlets.items intake result.intake (W.written out.old) (W.written out.new) }
     ensures course { (found : ServeWords) → serve_words (words_of words.now) ≡ Some found
-        → HasCourse I.held I.clock O.given D.contents D.images found (input (C.left config.old) (C.faults config.old)) (input (C.left config.new) (C.faults config.new))
+        → HasCourse I.held I.clock I.faults O.given O.faults D.contents D.images D.faults found (input (C.left config.old) (C.faults config.old)) (input (C.left config.new) (C.faults config.new))
         outlets.items result.outlets.items intake result.intake disk result.disk result.status (W.written out.old) (W.written out.new) (W.faults out.old) (W.faults out.new) }
 {
     let Ok(asked) = serve_of(words) else {

@@ -21,9 +21,10 @@ returns-in-Ok-read_configuration-clause-served g c = λ ended.
       words_are = its.is;
       config = c.in-Ok-read_configuration.config;
       configured = c.in-Ok-read_configuration.ensures.ok;
-      served = λ file is.
-          subst (λ (one : Serve). IsServed g.I.Intake.held g.I.Intake.clock g.O.Outlet.given c.in-Ok-read_configuration.config file one.datagrams c.args.outlets.items result.outlets.items c.args.intake result.intake (g.W.Sink.written c.args.out.now) (g.W.Sink.written c.serve_with.new.out))
-          (sym its.asks) (c.serve_with.ensures.served file is ended);
+      served =
+          subst (λ (one : Serve). IsServed g.I.Intake.held g.I.Intake.clock g.O.Outlet.given c.in-Ok-read_configuration.config (g.D.Disk.contents c.args.disk) one.datagrams c.args.outlets.items result.outlets.items c.args.intake result.intake
+          (g.W.Sink.written c.args.out.now) (g.W.Sink.written c.serve_with.new.out))
+          (sym its.asks) (c.serve_with.ensures.served ended);
     }
 
 pub returns-in-Ok-read_configuration-clause-course : goal.returns-in-Ok-read_configuration-clause-course
@@ -32,10 +33,10 @@ returns-in-Ok-read_configuration-clause-course g c = λ found is.
     let exact : Some asked ≡ option_map (λ (one : ServeWords). one.asked) (serve_words (words_of c.args.words.now)) = ap result_ok (sym c.in-Ok.is) ∙ c.serve_of.ensures.exact in
     let asks : asked ≡ found.asked = found_asks (serve_words (words_of c.args.words.now)) asked found exact is in
     let result = c.serve_with.result in
-    read c.in-Ok-read_configuration.config c.in-Ok-read_configuration.ensures.ok (λ file told.
-    subst (λ (one : Serve). Course g.I.Intake.held g.I.Intake.clock g.O.Outlet.given g.D.Disk.contents g.D.Disk.images c.in-Ok-read_configuration.config file one.datagrams c.args.outlets.items result.outlets.items c.args.intake result.intake result.disk result.status
-    (g.W.Sink.written c.args.out.now) (g.W.Sink.written c.serve_with.new.out) (g.W.Sink.faults c.args.out.now) (g.W.Sink.faults c.serve_with.new.out))
-    asks (c.serve_with.ensures.course file told))
+    read c.in-Ok-read_configuration.config c.in-Ok-read_configuration.ensures.ok
+    (subst (λ (one : Serve). Course g.I.Intake.held g.I.Intake.clock g.I.Intake.faults g.O.Outlet.given g.O.Outlet.faults g.D.Disk.contents g.D.Disk.images g.D.Disk.faults c.in-Ok-read_configuration.config one.datagrams c.args.outlets.items result.outlets.items
+    c.args.intake result.intake c.args.disk result.disk result.status (g.W.Sink.written c.args.out.now) (g.W.Sink.written c.serve_with.new.out) (g.W.Sink.faults c.args.out.now) (g.W.Sink.faults c.serve_with.new.out))
+    asks c.serve_with.ensures.course)
 
 pub returns-in-Err-clause-course : goal.returns-in-Err-clause-course
 returns-in-Err-clause-course g c = λ found is.
