@@ -60,14 +60,14 @@ def queue_of(port):
 class Server:
     """A node that serves, in a process of its own. Its record and what it says on standard error are in files of the folder."""
 
-    def __init__(self, program, folder, config, workers, datagrams, journal='journal'):
+    def __init__(self, program, folder, config, workers, datagrams, journal='journal', environment=None):
         self.program, self.folder, self.port = program, Path(folder), free_port()
         self.config, self.journal = self.folder / 'configuration.json', self.folder / journal
         self.config.write_text(json.dumps(config), encoding='utf-8')
         self.record = self.folder / 'record.txt'
         words = ['serve', '--workers', str(workers), '--datagrams', str(datagrams), self.config, self.journal, f'{HOST}:{self.port}']
         with open(self.record, 'wb') as output, open(self.folder / 'errors.txt', 'wb') as errors:
-            self.process = subprocess.Popen([program, *words], stdin=subprocess.DEVNULL, stdout=output, stderr=errors)
+            self.process = subprocess.Popen([program, *words], stdin=subprocess.DEVNULL, stdout=output, stderr=errors, env=environment)
 
     def wait_until_bound(self, seconds=30):
         """Waits until the node has its port."""
