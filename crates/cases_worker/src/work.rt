@@ -10,7 +10,7 @@ ghost use Rattle.mt_worker.specs.Gots.{Each};
 use cases_page::no_case;
 use mt_durable::Keeper;
 use mt_model::{Auth, Config, Event, ExactCopy, SessionRow, SessionRows, Verdicts};
-use mt_outside::{MemOutlet, NoGate};
+use mt_outside::{MemOutlet, NoGate, Unwatched};
 use mt_queue::{Job, JobSender, Jobs};
 use mt_shared::{NodePass, SharedNode};
 use mt_worker::{Done, reporter, worker};
@@ -110,7 +110,7 @@ pub(crate) fn report<R: Wait, K: Keeper + Drop + Send, V: Verdicts + Drop>(
     ensures queue { result.queue.queue ≡ jobs.queue }
     ensures ended { IsEnded result.queue.taken }
 {
-    reporter(rt, node, pass, number, jobs, &NoGate)
+    reporter(rt, node, pass, number, jobs, &NoGate, Unwatched)
 }
 
 /// Puts the job of an event: a datagram that comes, or a wake.

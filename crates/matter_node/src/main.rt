@@ -2,11 +2,13 @@
 //! leaves unsaid for a person is told on standard error.
 //!
 //! - `hints`: what is told there;
-//! - `serving`: the node on the network.
+//! - `serving`: the node on the network;
+//! - `watching`: how much it serves, on a terminal.
 #![tactic(auto)]
 
 mod hints;
 mod serving;
+mod watching;
 
 use hints::{tell_hint, text_of};
 use mt_os::{FileDisk, ReaderSource, TerminalProgress, WriterSink};

@@ -1,8 +1,9 @@
 //! The node on the network: one UDP socket, from which all datagrams come and over which all go.
 
 use crate::hints::{tell_hint, text_of};
+use crate::watching::{Board, TakenCount, UsageLine};
 use crate::{disk_named, named};
-use mt_os::{ReaderSource, ServingProgress, UdpIntake, UdpOutlet, WriterSink};
+use mt_os::{ReaderSource, UdpIntake, UdpOutlet, WriterSink};
 use mt_outside::NoGate;
 use mt_top::{Files, Serve, files_of, serve_of, serve_watched};
 use std::alloc::AllocError;
@@ -59,6 +60,7 @@ fn serve_over<R: Threads + Wait + Sync>(
     let disk = disk_named(rt, words, journal);
     let intake = UdpIntake::new(rt, socket);
     let mut out = WriterSink::new(io::writer(rt));
+    let board = Board::new();
     let served = serve_watched(
         threads,
         rt.alloc(),
@@ -68,10 +70,14 @@ fn serve_over<R: Threads + Wait + Sync>(
         intake,
         outlets,
         &NoGate,
-        ServingProgress::new(rt),
+        TakenCount { board: &board },
+        UsageLine::new(rt, &board),
         &mut out,
     );
     // Where even this can't be written, the status alone tells.
+    if board.has_line() {
+        let _ = eprintln!(rt);
+    }
     let _ = tell_hint(rt, served.status, words, &[text]);
     let _ = eprintln!(rt; "serving ended with status {}.", served.status);
     served.status

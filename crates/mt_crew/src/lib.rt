@@ -14,6 +14,7 @@ mod running;
 mod seating;
 mod threads;
 
+pub use mt_owners::{Usage, Watcher};
 pub use mt_served::{crews_make_few_lines, crews_serve};
 pub use running::{Ended, run};
 pub use seating::{Places, WORKERS, reserve};

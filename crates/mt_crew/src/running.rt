@@ -16,7 +16,7 @@ use crate::threads::{Reception, serve_all};
 use mt_durable::Keeper;
 use mt_model::Verdicts;
 use mt_outside::{Gate, Intake, Outlet, Progress};
-use mt_owners::{Held, NodePass, ReceiveFault, Received, SharedNode};
+use mt_owners::{Held, NodePass, ReceiveFault, Received, SharedNode, Watcher};
 use std::alloc::Global;
 use std::sync::Wait;
 use std::thread::Threads;
@@ -70,6 +70,7 @@ pub fn run<
     O: Outlet + Drop + Send,
     G: Gate + Sync,
     P: Progress + Drop + Send,
+    U: Watcher + Drop + Send,
 >(
     rt: &R,
     alloc: Global,
@@ -81,6 +82,7 @@ pub fn run<
     gate: &G,
     limit: u32,
     progress: P,
+    watcher: U,
 ) -> Ended<K, I, O>
     requires first { pass ≡ first_pass node.lock node.origin }
     requires several { (0 < length outlets.items) × (length outlets.items ≤ 8) }
@@ -99,7 +101,6 @@ pub fn run<
     ensures crew { (boot : ℕ) (sessions : List SessionRow) → HaveSessions boot (length outlets.items) sessions places
         → HasServed I.held I.clock I.faults O.given O.faults node boot sessions limit outlets.items result.outlets.items intake result.intake result.received result.held.book.items result.status }
 {
-    let number = outlets.len() as u32;
     let Seated {
         pass: given,
         ticks,
@@ -109,14 +110,13 @@ pub fn run<
     } = take_places(&node, &mut pass, &mut outlets, places);
     let reception = Reception::new(intake, senders, ids, limit, progress);
     let ((received, reception), (clerk, members)) = serve_all(
-        rt, alloc, &node, gate, reception, number, given, ticks, members,
+        rt, alloc, &node, gate, reception, given, ticks, watcher, members,
     );
     let (intake, senders) = reception.into_parts();
     let left = gather_all(&node, &mut pass, &mut outlets, senders, clerk, members);
-    let held = node.close(pass);
     Ended {
         status: first_of(status_of(&received), left),
-        held,
+        held: node.close(pass),
         received,
         intake,
         outlets,

@@ -8,7 +8,9 @@ use crate::member::Member;
 use mt_durable::Keeper;
 use mt_model::Verdicts;
 use mt_outside::{Gate, Intake, Outlet, Progress};
-use mt_owners::{Done, NodePass, Received, SharedNode, receive, reporter, shared_nodes_are_lent};
+use mt_owners::{
+    Done, NodePass, Received, SharedNode, Watcher, receive, reporter, shared_nodes_are_lent,
+};
 use mt_queue::{JobSender, Jobs};
 use std::alloc::Global;
 use std::sync::Wait;
@@ -135,14 +137,15 @@ fn report_beside<
     V: Verdicts + Drop + Sync,
     O: Outlet + Drop + Send,
     G: Gate + Sync,
+    U: Watcher + Drop + Send,
 >(
     rt: &R,
     alloc: Global,
     node: &SharedNode<K, V>,
     gate: &G,
-    number: u32,
     pass: NodePass,
     jobs: Jobs,
+    watcher: U,
     members: Vec<Member<O>>,
 ) -> (Done<()>, Vec<Member<O>>)
     requires own { IsOfThread node.now pass }
@@ -153,12 +156,13 @@ fn report_beside<
     ensures worked { (k : ℕ) (d : _) → k < length members.items → HasWorked O.given O.faults node.now (slice_index_or members.items k d) (slice_index_or result.1.items k d) }
 {
     shared_nodes_are_lent::<K, V>();
+    let number = u32::try_from(members.len()).unwrap_or(u32::MAX);
     join(
         rt,
         move || -> Done<()>
             requires { IsOfThread node.now pass × (jobs.taken ≡ []) }
             ensures { HasReported node.entry.now pass jobs result }
-        { reporter(rt, node, pass, number, jobs, gate) },
+        { reporter(rt, node, pass, number, jobs, gate, watcher) },
         move || -> Vec<Member<O>>
             requires { All (MayWork node.now) members.items }
             ensures length { length result.items ≡ length members.items }
@@ -176,15 +180,16 @@ pub(crate) fn serve_all<
     O: Outlet + Drop + Send,
     G: Gate + Sync,
     P: Progress + Drop + Send,
+    U: Watcher + Drop + Send,
 >(
     rt: &R,
     alloc: Global,
     node: &SharedNode<K, V>,
     gate: &G,
     reception: Reception<I, P>,
-    number: u32,
     pass: NodePass,
     jobs: Jobs,
+    watcher: U,
     members: Vec<Member<O>>,
 ) -> ((Received, Reception<I, P>), (Done<()>, Vec<Member<O>>))
     requires several { (1 < length reception.senders.items) × (0 < reception.limit) }
@@ -208,6 +213,6 @@ pub(crate) fn serve_all<
             ensures reported { HasReported node.entry.now pass jobs result.0 }
             ensures length { length result.1.items ≡ length members.items }
             ensures worked { (k : ℕ) (d : _) → k < length members.items → HasWorked O.given O.faults node.entry.now (slice_index_or members.items k d) (slice_index_or result.1.items k d) }
-        { report_beside(rt, alloc, node, gate, number, pass, jobs, members) },
+        { report_beside(rt, alloc, node, gate, pass, jobs, watcher, members) },
     )
 }

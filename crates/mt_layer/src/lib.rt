@@ -22,7 +22,7 @@ pub use laws::{
     ticks_are_lines,
 };
 pub use mt_shared::{
-    ActFault, Answer, Call, Deed, Held, NodePass, SharedNode, Stamped, shared_nodes_are_lent,
-    wholes_are_valid,
+    ActFault, Answer, Call, Deed, Held, NodePass, SharedNode, Stamped, Usage, Watcher,
+    shared_nodes_are_lent, wholes_are_valid,
 };
 pub use session_talk::SessionTalk;

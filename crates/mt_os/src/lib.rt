@@ -14,7 +14,7 @@ mod udp;
 
 pub use adapters::{ReaderSource, WriterSink};
 pub use file_disk::FileDisk;
-pub use progress::{ServingProgress, TerminalProgress};
+pub use progress::TerminalProgress;
 pub use udp::{UdpIntake, UdpOutlet};
 
 // How often a call is made that signals interrupt, before it counts as failed: so that it ends.

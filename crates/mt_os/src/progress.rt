@@ -1,4 +1,4 @@
-//! How far a long run is, and how much a node has served, told to whoever looks at a terminal.
+//! How far a long run is, told to whoever looks at a terminal.
 
 ghost use Rattle.std.specs.Prelude.{◌≡◌, None, false};
 
@@ -71,37 +71,6 @@ impl Progress for TerminalProgress<'_> {
         } else if events % STRIDE == 1 && self.is_due() {
             self.has_line = true;
             let _ = eprint!(self.rt; "\r{events} of {all} events");
-        }
-    }
-}
-
-/// A line on standard error about a node that is served, which is written again at most once in a second, where that is a terminal;
-/// nothing where it is a file or a pipe.
-#[derive(Drop)]
-pub struct ServingProgress<'a> {
-    terminal: TerminalProgress<'a>,
-    // How many datagrams the line told last.
-    told: u32,
-}
-
-impl<'a> ServingProgress<'a> {
-    /// Of a node that has served nothing.
-    pub fn new(rt: &'a HostRuntime) -> Self
-        ensures { result.told ≡ 0 }
-    {
-        ServingProgress {
-            terminal: TerminalProgress::new(rt),
-            told: 0,
-        }
-    }
-}
-
-/// The line is written where it is time for it and another number is to be told.
-impl Progress for ServingProgress<'_> {
-    fn done(&mut self, datagrams: u32, all: u32) {
-        if self.terminal.is_terminal && datagrams != self.told && self.terminal.is_due() {
-            self.told = datagrams;
-            let _ = eprint!(self.terminal.rt; "\r{datagrams} of {all} datagrams");
         }
     }
 }

@@ -9,5 +9,7 @@ mod rows;
 
 pub use laws::{owners_are_exact, rows_have_begun};
 pub use mt_receiver::{ReceiveFault, Received, receive};
-pub use mt_worker::{Done, Held, NodePass, SharedNode, reporter, shared_nodes_are_lent, worker};
+pub use mt_worker::{
+    Done, Held, NodePass, SharedNode, Usage, Watcher, reporter, shared_nodes_are_lent, worker,
+};
 pub use rows::{ids_of, rows_of};

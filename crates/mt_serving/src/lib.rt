@@ -11,4 +11,5 @@ mod reading;
 mod recording;
 mod serving;
 
+pub use mt_crew::{Usage, Watcher};
 pub use serving::{Served, serve_with};

@@ -8,7 +8,7 @@ ghost use Rattle.mt_serving.specs.Serves.{Course, IsServed, Ran};
 use crate::ending::{ServeFault, finish_serving};
 use crate::reading::record_is_read;
 use crate::recording::{RecordFault, write_record};
-use mt_crew::{crews_make_few_lines, crews_serve, reserve, run};
+use mt_crew::{Watcher, crews_make_few_lines, crews_serve, reserve, run};
 use mt_model::Config;
 use mt_outside::{Disk, Gate, Intake, Outlet, Progress, Sink};
 use mt_sizes::lines_are_short;
@@ -64,6 +64,7 @@ pub fn serve_with<
     O: Outlet + Drop + Send,
     G: Gate + Sync,
     P: Progress + Drop + Send,
+    U: Watcher + Drop + Send,
     W: Sink,
 >(
     rt: &R,
@@ -75,6 +76,7 @@ pub fn serve_with<
     gate: &G,
     limit: u32,
     progress: P,
+    watcher: U,
     out: &mut W,
 ) -> Served<D, I, O>
     requires several { (0 < length outlets.items) × (length outlets.items ≤ 8) }
@@ -86,7 +88,7 @@ pub fn serve_with<
 {
     match start_on(alloc, config, disk) {
         Ok(started) => serve_started(
-            rt, alloc, config, started, intake, outlets, gate, limit, progress, out,
+            rt, alloc, config, started, intake, outlets, gate, limit, progress, watcher, out,
         ),
         Err((disk, fault)) => {
             let status = finish_serving(alloc, ServeFault::of_start(fault), out);
@@ -103,6 +105,7 @@ fn serve_started<
     O: Outlet + Drop + Send,
     G: Gate + Sync,
     P: Progress + Drop + Send,
+    U: Watcher + Drop + Send,
     W: Sink,
 >(
     rt: &R,
@@ -114,6 +117,7 @@ fn serve_started<
     gate: &G,
     limit: u32,
     progress: P,
+    watcher: U,
     out: &mut W,
 ) -> Served<D, I, O>
     requires several { (0 < length outlets.items) × (length outlets.items ≤ 8) }
@@ -137,7 +141,7 @@ fn serve_started<
     crews_make_few_lines::<O>();
     lines_are_short();
     let ended = run(
-        rt, alloc, shared, pass, places, intake, outlets, gate, limit, progress,
+        rt, alloc, shared, pass, places, intake, outlets, gate, limit, progress, watcher,
     );
     let (status, held, intake, outlets) = ended.into_parts();
     record_is_read(&held.book);

@@ -3,6 +3,7 @@ pub mod Book
 pub mod Refused
 pub mod Replay
 pub mod Shared
+pub mod Usage
 pub mod mt_interactions
 pub mod mt_keeping
 pub mod mt_lasting

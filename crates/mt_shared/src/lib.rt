@@ -10,6 +10,7 @@
 //! - `typing`: that the parts of an event are within their types;
 //! - `held`: the node beside its keeper and its book;
 //! - `crossing`: that it may go to another thread;
+//! - `usage`: how much a node is used, for whoever watches it;
 //! - `shared`: the same under a lock.
 #![tactic(auto)]
 
@@ -22,6 +23,7 @@ mod planning;
 mod room;
 mod shared;
 mod typing;
+mod usage;
 
 pub use crossing::shared_nodes_are_lent;
 pub use entry::{ActFault, Answer, Call, Entry, Stamped, Stop};
@@ -34,3 +36,4 @@ pub use mt_interactions::{
 pub use mt_keeping::{Store, states_are_reopened, states_may_be_committed};
 pub use shared::{NodePass, SharedNode};
 pub use typing::events_have_types;
+pub use usage::{Usage, Watcher};

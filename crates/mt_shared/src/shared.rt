@@ -17,6 +17,7 @@ ghost use Rattle.mt_shared.specs.Shared.{IsAnswered, IsPassOf, IsRefused};
 use crate::crossing::{entries_cross, interactions_cross, origins_cross};
 use crate::entry::{ActFault, Call, Entry, Stamped};
 use crate::held::Held;
+use crate::usage::{Watcher, usage_of};
 use mt_durable::Keeper;
 use mt_interactions::Interactions;
 use mt_model::Verdicts;
@@ -107,6 +108,34 @@ impl<K: Keeper + Drop + Send, V: Verdicts + Drop> SharedNode<K, V> {
         let mut held = self.turn.enter(rt, pass);
         let answer = held.act(call, &self.verdicts);
         self.turn.leave(pass, held);
+        answer
+    }
+
+    /// The same, and `watcher` is told how much the node is used behind it.
+    pub fn act_watched<R: Wait, U: Watcher>(
+        &self,
+        rt: &R,
+        pass: &mut NodePass,
+        call: Call,
+        watcher: &mut U,
+    ) -> Result<Stamped, ActFault>
+        requires own { IsPassOf self.now pass.old }
+        requires within { IsWithin call.deed }
+        requires form { HasForm call.event }
+        ensures outside { IsOutsideAgain pass.old pass.new }
+        ensures seen { IsPrefix pass.old.seen pass.new.seen }
+        ensures answered { IfOk result (IsAnswered self.now.origin pass.old pass.new call) }
+        ensures refused { IfErr result (IsRefused pass.old pass.new call) }
+        ensures again { (it : AnyStop) → stop_in pass.old.seen ≡ Some it → result ≡ Err (ActFault.Stopped it) }
+    {
+        origins_cross();
+        interactions_cross();
+        entries_cross();
+        let mut held = self.turn.enter(rt, pass);
+        let answer = held.act(call, &self.verdicts);
+        let usage = usage_of(&held.node);
+        self.turn.leave(pass, held);
+        watcher.sees(usage);
         answer
     }
 

@@ -23,7 +23,7 @@ pub use isolation::{
     comparisons_are_exact, denials_are_exact, key_sets_are_their_own, keys_are_secret,
     runs_are_isolated, windows_are_exact,
 };
-pub use mt_serving::Served;
+pub use mt_serving::{Served, Usage, Watcher};
 pub use mt_soak::Generator;
 pub use mt_words::{BadWords, Files, Serve, files_of, serve_of};
 pub use replaying::replay_with;

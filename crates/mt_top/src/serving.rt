@@ -10,7 +10,7 @@ ghost use Rattle.mt_top.specs.Serving.{HasCourse, HasServed};
 
 use mt_endings::{finish, read_configuration, tell_bad_words};
 use mt_outside::{Disk, Gate, Intake, Outlet, Progress, Sink, Source, Unwatched};
-use mt_serving::{Served, serve_with};
+use mt_serving::{Served, Watcher, serve_with};
 use mt_words::serve_of;
 use std::alloc::Global;
 use std::sync::Wait;
@@ -52,11 +52,11 @@ pub fn serve<
         outlets.items result.outlets.items intake result.intake disk result.disk result.status (W.written out.old) (W.written out.new) (W.faults out.old) (W.faults out.new) }
 {
     serve_watched(
-        rt, alloc, words, config, disk, intake, outlets, gate, Unwatched, out,
+        rt, alloc, words, config, disk, intake, outlets, gate, Unwatched, Unwatched, out,
     )
 }
 
-/// The same, and `progress` is told how many datagrams were taken.
+/// The same, and `progress` is told how many datagrams were taken, and `watcher` behind each time step how much the node is used.
 pub fn serve_watched<
     R: Threads + Wait + Sync,
     C: Source,
@@ -65,6 +65,7 @@ pub fn serve_watched<
     O: Outlet + Drop + Send,
     G: Gate + Sync,
     P: Progress + Drop + Send,
+    U: Watcher + Drop + Send,
     W: Sink,
 >(
     rt: &R,
@@ -76,6 +77,7 @@ pub fn serve_watched<
     outlets: Vec<O>,
     gate: &G,
     progress: P,
+    watcher: U,
     out: &mut W,
 ) -> Served<D, I, O>
     ensures words { serve_words (words_of words.now) ≡ None → IsTold BadWords result.status (W.written out.old) (W.written out.new) (W.faults out.old) (W.faults out.new) }
@@ -104,6 +106,7 @@ pub fn serve_watched<
             gate,
             asked.datagrams,
             progress,
+            watcher,
             out,
         ),
         Err(fault) => not_served(finish(alloc, fault, out), disk, intake, outlets),

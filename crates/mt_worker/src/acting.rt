@@ -10,7 +10,7 @@ ghost use Rattle.mt_worker.specs.Faults.{IsDenied};
 
 use crate::fault::WorkFault;
 use mt_durable::Keeper;
-use mt_layer::{Call, NodePass, SharedNode, Stamped};
+use mt_layer::{Call, NodePass, SharedNode, Stamped, Watcher};
 use mt_model::Verdicts;
 use mt_outside::{Gate, Point};
 use std::sync::Wait;
@@ -37,6 +37,27 @@ impl<'a, R: Wait, K: Keeper + Drop + Send, V: Verdicts + Drop, G: Gate> Desk<'a,
     {
         self.gate.pass(self.number, Point::BeforeAct);
         let answered = self.node.act(self.rt, pass, call);
+        self.gate.pass(self.number, Point::AfterAct);
+        Ok(answered?)
+    }
+
+    /// The same, and `watcher` is told how much the node is used behind it.
+    pub(crate) fn act_watched<U: Watcher>(
+        &self,
+        pass: &mut NodePass,
+        call: Call,
+        watcher: &mut U,
+    ) -> Result<Stamped, WorkFault>
+        requires own { IsPassOf self.now.node.now pass.old }
+        requires within { IsWithin call.deed }
+        requires form { HasForm call.event }
+        ensures outside { IsOutsideAgain pass.old pass.new }
+        ensures seen { IsPrefix pass.old.seen pass.new.seen }
+        ensures answered { IfOk result (IsAnswered self.now.node.now.origin pass.old pass.new call) }
+        ensures refused { IfErr result (IsDenied pass.old pass.new call) }
+    {
+        self.gate.pass(self.number, Point::BeforeAct);
+        let answered = self.node.act_watched(self.rt, pass, call, watcher);
         self.gate.pass(self.number, Point::AfterAct);
         Ok(answered?)
     }

@@ -22,8 +22,8 @@ mod working;
 
 pub use fault::WorkFault;
 pub use mt_layer::{
-    Held, NodePass, SharedNode, begun_talks_serve, datagrams_are_lines, reports_are_lines,
-    resends_are_lines, shared_nodes_are_lent, ticks_are_lines, wholes_are_valid,
+    Held, NodePass, SharedNode, Usage, Watcher, begun_talks_serve, datagrams_are_lines,
+    reports_are_lines, resends_are_lines, shared_nodes_are_lent, ticks_are_lines, wholes_are_valid,
 };
 pub use reporting::reporter;
 pub use seat::Subscription;

@@ -11,21 +11,22 @@ use crate::acting::Desk;
 use crate::fault::WorkFault;
 use crate::working::{Done, status_of, take_to_end};
 use mt_durable::Keeper;
-use mt_layer::{Call, Deed, NodePass, SharedNode};
+use mt_layer::{Call, Deed, NodePass, SharedNode, Watcher};
 use mt_model::{Event, Verdicts};
 use mt_outside::Gate;
 use mt_queue::{Job, Jobs};
 use std::sync::Wait;
 
 /// The reporter: it takes jobs until the end message, and in each wake makes a time step. After a fault it goes on taking jobs, and does
-/// nothing else. Its number is that of the workers.
-pub fn reporter<R: Wait, K: Keeper + Drop + Send, V: Verdicts + Drop, G: Gate>(
+/// nothing else. Its number is that of the workers. The watcher is told how much the node is used behind each step.
+pub fn reporter<R: Wait, K: Keeper + Drop + Send, V: Verdicts + Drop, G: Gate, U: Watcher + Drop>(
     rt: &R,
     node: &SharedNode<K, V>,
     mut pass: NodePass,
     number: u32,
     mut jobs: Jobs,
     gate: &G,
+    mut watcher: U,
 ) -> Done<()>
     requires own { IsPassOf node.now pass }
     requires fresh { jobs.taken ≡ [] }
@@ -40,7 +41,7 @@ pub fn reporter<R: Wait, K: Keeper + Drop + Send, V: Verdicts + Drop, G: Gate>(
         gate,
         number,
     };
-    let ended = report(&desk, &mut pass, &mut jobs);
+    let ended = report(&desk, &mut pass, &mut jobs, &mut watcher);
     if ended.is_err() {
         take_to_end(rt, &mut jobs);
     }
@@ -53,10 +54,11 @@ pub fn reporter<R: Wait, K: Keeper + Drop + Send, V: Verdicts + Drop, G: Gate>(
 }
 
 // The jobs up to the end message.
-fn report<R: Wait, K: Keeper + Drop + Send, V: Verdicts + Drop, G: Gate>(
+fn report<R: Wait, K: Keeper + Drop + Send, V: Verdicts + Drop, G: Gate, U: Watcher>(
     desk: &Desk<'_, R, K, V, G>,
     pass: &mut NodePass,
     jobs: &mut Jobs,
+    watcher: &mut U,
 ) -> Result<(), WorkFault>
     requires own { IsPassOf desk.now.node.now pass.old }
     requires fresh { jobs.old.taken ≡ [] }
@@ -68,7 +70,7 @@ fn report<R: Wait, K: Keeper + Drop + Send, V: Verdicts + Drop, G: Gate>(
 {
     for _ in desk.rt.forever() {
         let job = jobs.take(desk.rt);
-        if is_end_after(desk, pass, &job)? {
+        if is_end_after(desk, pass, &job, watcher)? {
             return Ok(());
         }
     }
@@ -76,10 +78,11 @@ fn report<R: Wait, K: Keeper + Drop + Send, V: Verdicts + Drop, G: Gate>(
 }
 
 // A job. True at the end message.
-fn is_end_after<R: Wait, K: Keeper + Drop + Send, V: Verdicts + Drop, G: Gate>(
+fn is_end_after<R: Wait, K: Keeper + Drop + Send, V: Verdicts + Drop, G: Gate, U: Watcher>(
     desk: &Desk<'_, R, K, V, G>,
     pass: &mut NodePass,
     job: &Job,
+    watcher: &mut U,
 ) -> Result<bool, WorkFault>
     requires own { IsPassOf desk.now.node.now pass.old }
     requires limits { IsWithinLimits job.now }
@@ -91,7 +94,7 @@ fn is_end_after<R: Wait, K: Keeper + Drop + Send, V: Verdicts + Drop, G: Gate>(
     match job {
         Job::Take { .. } => Ok(false),
         Job::Wake { now } => {
-            tick(desk, pass, *now)?;
+            tick(desk, pass, *now, watcher)?;
             Ok(false)
         },
         Job::End => Ok(true),
@@ -99,10 +102,11 @@ fn is_end_after<R: Wait, K: Keeper + Drop + Send, V: Verdicts + Drop, G: Gate>(
 }
 
 // A time step.
-fn tick<R: Wait, K: Keeper + Drop + Send, V: Verdicts + Drop, G: Gate>(
+fn tick<R: Wait, K: Keeper + Drop + Send, V: Verdicts + Drop, G: Gate, U: Watcher>(
     desk: &Desk<'_, R, K, V, G>,
     pass: &mut NodePass,
     now: u64,
+    watcher: &mut U,
 ) -> Result<(), WorkFault>
     requires own { IsPassOf desk.now.node.now pass.old }
     requires time { now ≤ LAST_TIME }
@@ -114,6 +118,6 @@ fn tick<R: Wait, K: Keeper + Drop + Send, V: Verdicts + Drop, G: Gate>(
         event: Event::Tick { ms: now },
         deed: Deed::Expire,
     };
-    desk.act(pass, call)?;
+    desk.act_watched(pass, call, watcher)?;
     Ok(())
 }

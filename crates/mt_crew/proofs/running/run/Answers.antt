@@ -38,25 +38,25 @@ gather_all-left-requires-clause-length g c κs within =
 
 pub returns-clause-halted : goal.returns-clause-halted
 returns-clause-halted g c stop is =
-    let same = c.close-held.ensures.book in
-    subst (λ (book : List Entry). IsHalted stop c.close-held.result.node book (g.K.Keeper.map c.close-held.result.keeper)) (sym same) (c.close-held.ensures.halted stop (ap stop_in (sym same) ∙ is))
+    let same = c.close.ensures.book in
+    subst (λ (book : List Entry). IsHalted stop c.close.result.node book (g.K.Keeper.map c.close.result.keeper)) (sym same) (c.close.ensures.halted stop (ap stop_in (sym same) ∙ is))
 
 pub returns-clause-failed : goal.returns-clause-failed
-returns-clause-failed g c = c.close-held.ensures.failed ∙ ap (λ (book : List Entry). is_some (stop_in book)) (sym c.close-held.ensures.book)
+returns-clause-failed g c = c.close.ensures.failed ∙ ap (λ (book : List Entry). is_some (stop_in book)) (sym c.close.ensures.book)
 
 pub returns-clause-in_time : goal.returns-clause-in_time
-returns-clause-in_time g c = ap are_in_time c.close-held.ensures.book ∙ c.close-held.ensures.in_time
+returns-clause-in_time g c = ap are_in_time c.close.ensures.book ∙ c.close.ensures.in_time
 
 pub returns-clause-timed : goal.returns-clause-timed
-returns-clause-timed g c = ap (is_timed 0) c.close-held.ensures.book ∙ c.close-held.ensures.timed
+returns-clause-timed g c = ap (is_timed 0) c.close.ensures.book ∙ c.close.ensures.timed
 
 pub returns-clause-counted : goal.returns-clause-counted
-returns-clause-counted g c stop is = c.close-held.ensures.counted stop (ap stop_in (sym c.close-held.ensures.book) ∙ is)
+returns-clause-counted g c stop is = c.close.ensures.counted stop (ap stop_in (sym c.close.ensures.book) ∙ is)
 
 pub returns-clause-between : goal.returns-clause-between
 returns-clause-between g c stop is =
-    let same = c.close-held.ensures.book in
-    subst (λ (book : List Entry). ∥ StandsBetween (g.K.Keeper.stands_between c.close-held.result.keeper) c.close-held.result.node (slice_get book stop.place) ∥₁) (sym same) (c.close-held.ensures.between stop (ap stop_in (sym same) ∙ is))
+    let same = c.close.ensures.book in
+    subst (λ (book : List Entry). ∥ StandsBetween (g.K.Keeper.stands_between c.close.result.keeper) c.close.result.node (slice_get book stop.place) ∥₁) (sym same) (c.close.ensures.between stop (ap stop_in (sym same) ∙ is))
 
 pub returns-clause-crew : goal.returns-clause-crew
 returns-clause-crew g c boot sessions have =
@@ -64,7 +64,7 @@ returns-clause-crew g c boot sessions have =
     let services = crewed g.O.Outlet.given g.O.Outlet.faults c.args.node (begun_pass c.args.node.lock c.args.node.origin) c.args.outlets.items c.args.places c.take_places-given.result c.serve_all-reception.result.1.1.items seats c.serve_all-reception.ensures.length c.serve_all-reception.ensures.worked in
     let took = subst (λ (senders : List Put). TookOfAll senders (lefts c.serve_all-reception.result.1.1.items) c.serve_all-reception.result.1.0) (ap (λ it. it.1.items) c.into_parts-intake.ensures) c.gather_all-left.ensures.taken in
     has_served g.O.Outlet.given g.O.Outlet.faults c.args.node c.args.outlets.items c.args.places c.take_places-given.result c.serve_all-reception.result.1.1.items c.serve_all-reception.result.1.0 g.I.Intake.held g.I.Intake.clock g.I.Intake.faults c.new-reception.result c.serve_all-reception.result.0.1
-    boot sessions c.args.limit c.gather_all-left.new.outlets.items c.args.intake c.into_parts-intake.result.0 c.serve_all-reception.result.0.0 c.take_places-given.new.pass c.gather_all-left.new.pass c.close-held.result.book.items c.first_of.result c.gather_all-left.result
+    boot sessions c.args.limit c.gather_all-left.new.outlets.items c.args.intake c.into_parts-intake.result.0 c.serve_all-reception.result.0.0 c.take_places-given.new.pass c.gather_all-left.new.pass c.close.result.book.items c.first_of.result c.gather_all-left.result
     services seats c.requires.ready have c.serve_all-reception.ensures.reported c.new-reception.ensures.senders c.new-reception.ensures.ids c.new-reception.ensures.limit c.new-reception.ensures.intake (sym (ap (λ it. it.0) c.into_parts-intake.ensures))
-    c.serve_all-reception.ensures.received took (ap (λ (pass : NodePass). pass.places) c.take_places-given.ensures.kept ∙ ap (λ (pass : NodePass). pass.places) c.requires.first) c.gather_all-left.ensures.gathered c.close-held.ensures.book c.close-held.ensures.once c.close-held.ensures.no_other
+    c.serve_all-reception.ensures.received took (ap (λ (pass : NodePass). pass.places) c.take_places-given.ensures.kept ∙ ap (λ (pass : NodePass). pass.places) c.requires.first) c.gather_all-left.ensures.gathered c.close.ensures.book c.close.ensures.once c.close.ensures.no_other
     c.gather_all-left.ensures.outlets c.gather_all-left.ensures.status (c.first_of.ensures ∙ ap (λ (n : ℕ). first_of n c.gather_all-left.result) c.status_of.ensures)
