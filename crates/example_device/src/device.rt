@@ -11,7 +11,7 @@ ghost use Rattle.mt_runs.specs.Whole.{Whole as Told};
 ghost use Rattle.mt_whole.specs.Plan.{given_to};
 ghost use Rattle.mt_whole.specs.Talks.{IsWholeOf};
 
-use mt_durable::{Durable, Entry, Keeper};
+use mt_durable::{ChangeFault, Durable, Entry, Keeper};
 use mt_grammar::{States, kept_in};
 use mt_journal::JournalFault;
 use mt_keeping::Store;
@@ -31,11 +31,22 @@ pub(crate) enum DeviceFault {
     Disk,
     #[error("the file is no journal of a node")]
     NotAJournal,
+    #[error("no boot more can be counted, or there is no room for event numbers")]
+    Worn,
 }
 
 impl From<AllocError> for DeviceFault {
     fn from(_error: AllocError) -> DeviceFault {
         DeviceFault::Memory
+    }
+}
+
+impl From<ChangeFault> for DeviceFault {
+    fn from(fault: ChangeFault) -> DeviceFault {
+        match fault {
+            ChangeFault::NotAChange => DeviceFault::Disk,
+            ChangeFault::Memory => DeviceFault::Memory,
+        }
     }
 }
 
@@ -74,7 +85,7 @@ impl<D: Disk + Drop> Device<D> {
         let had = store.image().map(alloc)?;
         let may = may_start(alloc, config, &had, &map)?;
         if !may {
-            return Err(DeviceFault::NotAJournal);
+            return Err(DeviceFault::Worn);
         }
         let (whole, first) = Whole::start(alloc, map, config)?;
         keep(alloc, &mut store, first.as_slice())?;
@@ -141,12 +152,14 @@ fn keep<D: Disk>(alloc: Global, store: &mut Store<D>, change: &[u8]) -> Result<(
     if change.is_empty() {
         return Ok(());
     }
-    let Ok(true) = store.told().has_room(alloc, change) else {
+    let has_room = store.told().has_room(alloc, change)?;
+    if !has_room {
         return Err(DeviceFault::Disk);
-    };
-    let Ok(true) = store.told().is_admitted::<States>(alloc, change) else {
+    }
+    let is_admitted = store.told().is_admitted::<States>(alloc, change)?;
+    if !is_admitted {
         return Err(DeviceFault::Disk);
-    };
+    }
     let Ok(()) = store.commit(change) else {
         return Err(DeviceFault::Disk);
     };
