@@ -19,7 +19,7 @@ def bare(folder):
     """Changes of 100 bytes a second that the disk's own calls allow."""
     built = Path(folder) / 'journal_bare'
     subprocess.run(['gcc', '-O2', TOP / 'speed/journal_bare.c', '-o', built], check=True)
-    told = subprocess.run([built, '1000', folder], stdout=subprocess.PIPE, check=True).stdout.decode()
+    told = subprocess.run([built, '1000', folder], stderr=subprocess.PIPE, check=True).stderr.decode()
     return told.strip().splitlines()[0]
 
 
