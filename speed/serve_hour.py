@@ -3,7 +3,7 @@
 
     speed/serve_hour.py PROGRAM [--factor 30] [--minutes 60] [--requests 60] [--folder FOLDER]
 
-speed/serve_hour.c hands the node a clock that goes FACTOR times faster. In each minute of that, three sessions of two fabrics ask REQUESTS times in all:
+speed/serve_hour.c hands the node a clock that goes FACTOR times faster. In each minute of that, two sessions, of two fabrics, ask REQUESTS times in all:
 they read, write a label, toggle and subscribe again; reports are confirmed, and the rest of the minute passes with time steps, resends and reports.
 Every ten minutes are quiet for one. At the end of each minute, with nothing under way, the pieces of memory that the node has are counted, and their
 bytes; the record tells how many entries its book then had, and how many of these are datagrams. What a book has grows with its entries; nothing else may."""
