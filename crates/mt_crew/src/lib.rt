@@ -3,6 +3,7 @@
 //!
 //! - `member`: a worker, before its thread begins and behind it;
 //! - `seating`: queues, and a worker for each outlet;
+//! - `muster`: whether all threads have begun;
 //! - `threads`: all beside each other;
 //! - `gathering`: what each has left, taken in again;
 //! - `running`: from a node to its book.
@@ -10,6 +11,7 @@
 
 mod gathering;
 mod member;
+mod muster;
 mod running;
 mod seating;
 mod threads;

@@ -23,8 +23,8 @@ use std::thread::Threads;
 
 /// How serving ended: with which status, the node beside its keeper and its book, what was received, and what was lent for it.
 pub struct Ended<K: Keeper, I, O> {
-    /// 0; or the first that is not, of the receiver's (7 want of memory, 12 the intake failed), the workers' by rising number, and the
-    /// reporter's (7, 8 a commit failed, 12 an outlet failed, 13 the record is full).
+    /// 0; or the first that is not, of the receiver's (7 want of memory, also for a thread that did not begin; 12 the intake failed), the
+    /// workers' by rising number, and the reporter's (7, 8 a commit failed, 12 an outlet failed, 13 the record is full).
     pub status: u8,
     pub held: Held<K>,
     pub received: Received,
@@ -61,7 +61,8 @@ impl<K: Keeper + Drop, I: Drop, O: Drop> Ended<K, I, O> {
 }
 
 /// Serves a node: one worker for each outlet, a reporter and a receiver beside each other, until so many datagrams have come, the intake
-/// has ended, or the receiver meets a fault. It takes no memory before the threads begin. Where it returns, all threads have ended.
+/// has ended, or the receiver meets a fault. It takes no memory before the threads begin, but what the threads themselves take; where one
+/// has not begun within ten seconds, nothing is received. Where it returns, all threads have ended.
 pub fn run<
     R: Threads + Wait + Sync,
     K: Keeper + Drop + Send,

@@ -5,11 +5,13 @@ ghost use Rattle.mt_crew.specs.Members.{HasReported, HasWorked, IsOfThread, MayW
 ghost use Rattle.mt_crew.specs.Serves.{HasReceived};
 
 use crate::member::Member;
+use crate::muster::Muster;
 use mt_durable::Keeper;
 use mt_model::Verdicts;
 use mt_outside::{Gate, Intake, Outlet, Progress};
 use mt_owners::{
-    Done, NodePass, Received, SharedNode, Watcher, receive, reporter, shared_nodes_are_lent,
+    Done, NodePass, Received, SharedNode, Watcher, receive, receive_nothing, reporter,
+    shared_nodes_are_lent,
 };
 use mt_queue::{JobSender, Jobs};
 use std::alloc::Global;
@@ -76,12 +78,22 @@ impl<I: Drop, P: Drop> Reception<I, P> {
 }
 
 impl<I: Intake + Drop, P: Progress + Drop> Reception<I, P> {
-    // Receives all that comes, and gives it back with how that ended.
-    fn receive<R: Wait>(mut self, rt: &R, alloc: Global) -> (Received, Reception<I, P>)
+    // Receives all that comes once the others have begun, and gives it back with how that ended. Where one of them does not begin, nothing
+    // is received, for want of memory.
+    fn receive<R: Wait>(
+        mut self,
+        rt: &R,
+        alloc: Global,
+        muster: &Muster,
+    ) -> (Received, Reception<I, P>)
         requires several { 1 < length self.senders.items }
         requires some { 0 < self.limit }
         ensures received { HasReceived I.held I.clock I.faults self result.1 result.0 }
     {
+        if !muster.is_whole(rt) {
+            let received = receive_nothing(rt, self.senders.as_mut_slice());
+            return (received, self);
+        }
         let received = receive(
             rt,
             alloc,
@@ -107,6 +119,7 @@ fn work_all<
     alloc: Global,
     node: &SharedNode<K, V>,
     gate: &G,
+    muster: &Muster,
     mut members: Vec<Member<O>>,
 ) -> Vec<Member<O>>
     requires ready { All (MayWork node.now) members.items }
@@ -125,7 +138,10 @@ fn work_all<
         &|_, member: &mut Member<O>|
             requires { MayWork node.now member.old }
             ensures { HasWorked O.given O.faults node.entry.now member.old member.new }
-        { member.serve(rt, alloc, node, gate) },
+        {
+            muster.arrive();
+            member.serve(rt, alloc, node, gate)
+        },
     );
     members
 }
@@ -143,6 +159,7 @@ fn report_beside<
     alloc: Global,
     node: &SharedNode<K, V>,
     gate: &G,
+    muster: &Muster,
     pass: NodePass,
     jobs: Jobs,
     watcher: U,
@@ -162,16 +179,20 @@ fn report_beside<
         move || -> Done<()>
             requires { IsOfThread node.now pass × (jobs.taken ≡ []) }
             ensures { HasReported node.entry.now pass jobs result }
-        { reporter(rt, node, pass, number, jobs, gate, watcher) },
+        {
+            muster.arrive();
+            reporter(rt, node, pass, number, jobs, gate, watcher)
+        },
         move || -> Vec<Member<O>>
             requires { All (MayWork node.now) members.items }
             ensures length { length result.items ≡ length members.items }
             ensures worked { (k : ℕ) (d : _) → k < length members.items → HasWorked O.given O.faults node.entry.now (slice_index_or members.items k d) (slice_index_or result.items k d) }
-        { work_all(rt, alloc, node, gate, members) },
+        { work_all(rt, alloc, node, gate, muster, members) },
     )
 }
 
-/// The receiver beside all of them.
+/// The receiver beside all of them, in this thread. It begins once they have: where the thread of one can't be made, `join` does what that
+/// would have done behind the receiver, who must not wait for it.
 pub(crate) fn serve_all<
     R: Threads + Wait + Sync,
     K: Keeper + Drop + Send,
@@ -202,17 +223,20 @@ pub(crate) fn serve_all<
     ensures worked { (k : ℕ) (d : _) → k < length members.items → HasWorked O.given O.faults node.now (slice_index_or members.items k d) (slice_index_or result.1.1.items k d) }
 {
     shared_nodes_are_lent::<K, V>();
-    join(
+    let muster = Muster::new((members.len() as u64).saturating_add(1));
+    let muster = &muster;
+    let (others, received) = join(
         rt,
-        move || -> (Received, Reception<I, P>)
-            requires { (1 < length reception.senders.items) × (0 < reception.limit) }
-            ensures { HasReceived I.held I.clock I.faults reception result.1 result.0 }
-        { reception.receive(rt, alloc) },
         move || -> (Done<()>, Vec<Member<O>>)
             requires { IsOfThread node.now pass × (jobs.taken ≡ []) × All (MayWork node.now) members.items }
             ensures reported { HasReported node.entry.now pass jobs result.0 }
             ensures length { length result.1.items ≡ length members.items }
             ensures worked { (k : ℕ) (d : _) → k < length members.items → HasWorked O.given O.faults node.entry.now (slice_index_or members.items k d) (slice_index_or result.1.items k d) }
-        { report_beside(rt, alloc, node, gate, pass, jobs, watcher, members) },
-    )
+        { report_beside(rt, alloc, node, gate, muster, pass, jobs, watcher, members) },
+        move || -> (Received, Reception<I, P>)
+            requires { (1 < length reception.senders.items) × (0 < reception.limit) }
+            ensures { HasReceived I.held I.clock I.faults reception result.1 result.0 }
+        { reception.receive(rt, alloc, muster) },
+    );
+    (received, others)
 }

@@ -8,7 +8,7 @@ mod laws;
 mod rows;
 
 pub use laws::{owners_are_exact, rows_have_begun};
-pub use mt_receiver::{ReceiveFault, Received, receive};
+pub use mt_receiver::{ReceiveFault, Received, receive, receive_nothing};
 pub use mt_worker::{
     Done, Held, NodePass, SharedNode, Usage, Watcher, reporter, shared_nodes_are_lent, worker,
 };

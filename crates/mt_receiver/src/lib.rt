@@ -8,4 +8,4 @@
 mod receiving;
 mod routing;
 
-pub use receiving::{ReceiveFault, Received, receive};
+pub use receiving::{ReceiveFault, Received, receive, receive_nothing};

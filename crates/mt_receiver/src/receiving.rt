@@ -1,8 +1,9 @@
 //! All answers of the intake, up to the last one, and then the end.
 
-ghost use Rattle.std.specs.Prelude.{◌≡◌, ◌<◌, ◌≤◌, ◌+◌, length, IfErr, IfOk, OnOk};
+ghost use Rattle.std.specs.Prelude.{◌≡◌, ◌<◌, ◌≤◌, ◌+◌, ◌∷◌, [], Err, length, IfErr, IfOk, OnOk};
 ghost use Rattle.mt_outside.specs.declared.datagrams.TheConstants.{DATAGRAM_BYTES, LATEST_NOW};
 ghost use Rattle.mt_outside.specs.declared.network.Arrival.TheVariants.{Datagram};
+ghost use Rattle.mt_queue.specs.declared.job.Job.TheVariants.{End};
 ghost use Rattle.mt_receiver.specs.Receives as receives;
 ghost use Rattle.mt_receiver.specs.Receives.{AllPut, AreSame, Counts, TookAll, Went, workers_of};
 ghost use Rattle.mt_receiver.specs.Rounds.{jobs_of, woken_behind};
@@ -62,6 +63,21 @@ pub fn receive<R: Wait, I: Intake, P: Progress>(
         datagrams: receiver.datagrams,
         dropped: receiver.dropped,
         ended,
+    }
+}
+
+/// Receives nothing, as where memory is wanting for those who take the jobs: each queue gets the end message.
+pub fn receive_nothing<R: Wait>(rt: &R, senders: &mut [JobSender]) -> Received
+    ensures same { AreSame senders.old senders.new }
+    ensures end { AllPut (λ k. End ∷ []) senders.old senders.new }
+    ensures none { (result.datagrams ≡ 0) × (result.dropped ≡ 0) }
+    ensures ended { result.ended ≡ Err ReceiveFault.Memory }
+{
+    end_all(rt, senders);
+    Received {
+        datagrams: 0,
+        dropped: 0,
+        ended: Err(ReceiveFault::Memory),
     }
 }
 
