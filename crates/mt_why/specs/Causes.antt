@@ -22,7 +22,7 @@ use Rattle.mt_subs.specs.Owed.{has_passed}
 use Rattle.mt_subs.specs.Subscriptions.{kept_at}
 use Rattle.mt_subs.specs.declared.subscription.Kept.{Kept}
 use Rattle.mt_why.specs.Refusal.{is_scoped_change, is_timed, missing_at, version_at}
-use Rattle.mt_why.specs.Silence.{IsSpared, asks_no_answer, has_fabric, has_news, session_of, standing_of}
+use Rattle.mt_why.specs.Silence.{IsSpared, asks_no_answer, has_lost_fabric, has_news, session_of, standing_of}
 use Rattle.mt_why.specs.declared.cause.Cause.{Cause}
 use Rattle.mt_why.specs.declared.cause.Cause.TheVariants as causes
 use Rattle.mt_why.specs.declared.refusals.Wish.{Wish}
@@ -35,7 +35,7 @@ Holds scene causes.PlainEnded = scene.state.now.plain ≡ None
 Holds scene (causes.NoSession id) = session_of id scene.state.now ≡ None
 Holds scene (causes.SessionWaits id) = standing_of id scene.state.now ≡ Some Waits
 Holds scene (causes.SessionEnded id) = standing_of id scene.state.now ≡ Some Ended
-Holds scene (causes.FabricLeft id) = (standing_of id scene.state.now ≡ Some Ended) × (option_map (has_fabric scene.state.now.fabrics) (session_of id scene.state.now) ≡ Some false)
+Holds scene (causes.FabricLeft id) = (standing_of id scene.state.now ≡ Some Ended) × (option_map (has_lost_fabric scene.state.now.fabrics) (session_of id scene.state.now) ≡ Some true)
 Holds scene (causes.NoHeader fault) = Unit {0}
 Holds scene (causes.NotLetIn id) = scene.is_let_in ≡ false
 Holds scene causes.Suppressed = asks_no_answer (option_copied scene.request) ≡ true

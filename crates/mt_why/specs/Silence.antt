@@ -1,5 +1,5 @@
 -- Sessions, subscriptions and requests, as far as a line is sent nothing by them.
-use Rattle.std.specs.Prelude.{ℕ, ◌≡◌, ◌==◌, ◌&&◌, ◌||◌, nat_lt, Bool, true, false, List, Option, Some, None, Result, Ok, Err, IsSome}
+use Rattle.std.specs.Prelude.{ℕ, ◌≡◌, ◌==◌, ◌&&◌, ◌||◌, nat_lt, not, Bool, true, false, List, Option, Some, None, Result, Ok, Err, IsSome}
 use Rattle.std.specs.List.{find, list_any}
 use Rattle.std.specs.Option.{option_map}
 use Rattle.mt_frame.specs.Reading.{message_at}
@@ -16,6 +16,8 @@ use Rattle.mt_model.specs.declared.node.state.NodeState.{NodeState}
 use Rattle.mt_model.specs.declared.node.state.Standing.{Standing}
 use Rattle.mt_model.specs.declared.tables.access.AclEntry.{AclEntry}
 use Rattle.mt_model.specs.declared.tables.access.Actor.{Actor}
+use Rattle.mt_model.specs.declared.tables.access.Auth.{Auth}
+use Rattle.mt_model.specs.declared.tables.access.Auth.TheVariants.{Case, Group, Pase}
 use Rattle.mt_model.specs.declared.tables.fabric.Fabric.{Fabric}
 use Rattle.mt_model.specs.declared.texts.recording.Event.{Event}
 use Rattle.mt_model.specs.declared.texts.recording.Event.TheVariants as events
@@ -40,6 +42,15 @@ standing_of id s = option_map (λ (session : NodeSession). session.standing) (se
 -- whether a fabric of the table has the identity of the session
 abbrev pub has_fabric : List Fabric → NodeSession → Bool
 has_fabric fabrics session = list_any (has_identity session.root_key session.fabric_id) fabrics
+
+-- whether a session on CASE has an identity that none of the table has, by whether one has it; on PASE it has none
+abbrev pub is_lost : Auth → Bool → Bool
+is_lost Case is_there = not is_there
+is_lost Pase is_there = false
+is_lost Group is_there = false
+
+abbrev pub has_lost_fabric : List Fabric → NodeSession → Bool
+has_lost_fabric fabrics session = is_lost session.auth (has_fabric fabrics session)
 
 -- Requests.
 

@@ -28,7 +28,7 @@ pub enum Cause {
     SessionEnded {
         session: u16,
     },
-    /// The session has ended, and no fabric with its identity is in the table.
+    /// The session, which was on CASE, has ended, and no fabric with its identity is in the table.
     FabricLeft {
         session: u16,
     },

@@ -8,7 +8,7 @@ ghost use Rattle.mt_machine.specs.Step.{asker, session_actor};
 ghost use Rattle.mt_subs.specs.Owed.{has_passed, may_read};
 ghost use Rattle.mt_subs.specs.Subscriptions.{kept_at};
 ghost use Rattle.mt_why.specs.Causes.{Holds, IsOfFabric, IsOfLine, IsOfSession, IsOfSubscription};
-ghost use Rattle.mt_why.specs.Silence.{IsSpared, asks_no_answer, has_fabric, has_id, has_news, is_news, may_be_due};
+ghost use Rattle.mt_why.specs.Silence.{IsSpared, asks_no_answer, has_fabric, has_id, has_lost_fabric, has_news, is_news, may_be_due};
 ghost use Rattle.mt_why.specs.declared.cause.Cause.TheVariants.{FabricLeft, SessionEnded, Suppressed};
 
 use crate::cause::Cause;
@@ -17,7 +17,7 @@ use mt_acl::grants_if_asked;
 use mt_frame::read_message;
 use mt_meta::{Asked, is_named_by, privilege_asked};
 use mt_model::{
-    AclEntry, Actor, ChangeNumber, Event, Fabric, NodeSession, Place, Request, Standing,
+    AclEntry, Actor, Auth, ChangeNumber, Event, Fabric, NodeSession, Place, Request, Standing,
 };
 use mt_subs::Kept;
 
@@ -120,24 +120,37 @@ fn closed(scene: &Scene<'_>, id: u16) -> Option<Cause>
     match session.standing {
         Standing::Live(_) => None,
         Standing::Waits => Some(Cause::SessionWaits { session: id }),
-        Standing::Ended => Some(ended(has_fabric(scene.state.fabrics.as_slice(), session), id)),
+        Standing::Ended => Some(ended(
+            has_lost_fabric(scene.state.fabrics.as_slice(), session),
+            id,
+        )),
     }
 }
 
-// A session that has ended, by whether a fabric of its identity is in the table.
-fn ended(is_there: bool, id: u16) -> Cause
-    ensures { result ≡ (if is_there then SessionEnded id else FabricLeft id) }
+// A session that has ended, by whether the table has lost the fabric of its identity.
+fn ended(is_lost: bool, id: u16) -> Cause
+    ensures { result ≡ (if is_lost then FabricLeft id else SessionEnded id) }
 {
-    if is_there {
-        return Cause::SessionEnded { session: id };
+    if is_lost {
+        return Cause::FabricLeft { session: id };
     }
-    Cause::FabricLeft { session: id }
+    Cause::SessionEnded { session: id }
 }
 
 pub(crate) fn session_of(sessions: &[NodeSession], id: u16) -> Option<&NodeSession>
     ensures { option_copied result ≡ find (has_id id) sessions.now }
 {
     sessions.iter().find(|session| session.session == id)
+}
+
+// Whether a session has the identity of a fabric, and none in the table has that. On PASE it has none.
+fn has_lost_fabric(fabrics: &[Fabric], session: &NodeSession) -> bool
+    ensures { result ≡ has_lost_fabric fabrics.now session.now }
+{
+    match session.auth {
+        Auth::Case => !has_fabric(fabrics, session),
+        Auth::Pase | Auth::Group => false,
+    }
 }
 
 fn has_fabric(fabrics: &[Fabric], session: &NodeSession) -> bool
