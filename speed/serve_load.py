@@ -3,16 +3,19 @@
 
     speed/serve_load.py PROGRAM [--workers 1,2,4,8] [--reads 200000] [--rates RATE,..] [--threads T] [--sessions S] [--replay] [--folder FOLDER]
     speed/serve_load.py --peer shared|own [the same words]
+    speed/serve_load.py PROGRAM --beside ROUNDS [--workers 1,2,4,8] [--reads 200000] [--threads T] [--sessions S] [--folder FOLDER]
 
 Each line is a run of speed/serve_load.c against a new node: first a closed loop, in which each session has one read under way; then open
 loops at these rates, in reads a second of all sessions, or at a half and at four fifths of what the closed loop came to. Of sixteen fabrics
 each has three sessions, and four are of PASE, so that there are 52. Half of the answers came within the 50th percentile. Others are messages that are no answer to what was asked last, as
 copies of answers.
 
-With --peer the node is speed/serve_peer.c, the yardstick, with as many threads as it would have workers. With --replay the node's record is
-replayed afterwards, and what it sends is counted."""
+With --peer the node is speed/serve_peer.c, the yardstick, with as many threads as it would have workers. With --beside the closed loop is played
+to a node and to the yardstick in turn, so many times, and the median, the least and the most of each are told. With --replay the node's record
+is replayed afterwards, and what it sends is counted."""
 import argparse
 import os
+import statistics
 import subprocess
 import sys
 import time
@@ -118,6 +121,30 @@ def measure(node, load, folder, asked, rate):
                    f'processors and {memory_used(node.process)} MiB, load on {busy} %')
 
 
+def played(node, load, folder, asked, rate):
+    """Plays one load, and ends the node; answers as `measure` does."""
+    try:
+        speed, told = measure(node, load, folder, asked, rate)
+        return speed, told + node.finish()
+    finally:
+        node.process.kill()
+        node.process.wait()
+
+
+def in_turn(load, folder, config, asked):
+    """The closed loop, to a node and to the yardstick by turns."""
+    peer = built('serve_peer', folder)
+    for workers in map(int, asked.workers.split(',')):
+        speeds = [], []
+        for _ in range(asked.beside):
+            speeds[0].append(played(Node(asked.program, folder, config, workers, asked.reads, False), load, folder, asked, 0)[0])
+            speeds[1].append(played(Yardstick(peer, folder, config, workers, 'shared'), load, folder, asked, 0)[0])
+        node, other = map(statistics.median, speeds)
+        ranges = [f'({min(every):.0f} to {max(every):.0f})' for every in speeds]
+        print(f'{workers} workers or threads, load of {asked.threads}: node {node:.0f} {ranges[0]}, yardstick {other:.0f} {ranges[1]}, '
+              f'ratio {node / other:.2f}', flush=True)
+
+
 def main():
     parser = argparse.ArgumentParser(usage=__doc__)
     parser.add_argument('program', type=program_of, nargs='?')
@@ -127,28 +154,28 @@ def main():
     parser.add_argument('--rates')
     parser.add_argument('--threads', type=int, default=1)
     parser.add_argument('--sessions', type=int, default=FABRICS * CASE_SESSIONS + PASE_SESSIONS)
+    parser.add_argument('--beside', type=int, default=0)
     parser.add_argument('--replay', action='store_true')
     parser.add_argument('--folder')
     asked = parser.parse_args()
     if bool(asked.program) == bool(asked.peer):
         parser.error('a PROGRAM or --peer')
+    if asked.beside and asked.peer:
+        parser.error('--beside goes with a PROGRAM')
     with temporary_folder(asked.folder) as folder:
         load, config = built('serve_load', folder), configuration_of(asked.sessions)
-        peer = built('serve_peer', folder) if asked.peer else None
         (Path(folder) / 'sessions.txt').write_text(rows_told(config), encoding='ascii')
+        if asked.beside:
+            return in_turn(load, folder, config, asked)
+        peer = built('serve_peer', folder) if asked.peer else None
         for workers in map(int, asked.workers.split(',')):
             rates = [0]
             for rate in rates:
                 node = (Yardstick(peer, folder, config, workers, asked.peer) if peer else
                         Node(asked.program, folder, config, workers, asked.reads, asked.replay))
-                try:
-                    speed, told = measure(node, load, folder, asked, rate)
-                    ended = node.finish()
-                finally:
-                    node.process.kill()
-                    node.process.wait()
+                speed, told = played(node, load, folder, asked, rate)
                 loop = f'open {rate}/s' if rate else f'closed, {asked.sessions} sessions'
-                print(f'{workers} {"threads" if peer else "workers"}, {loop:20} {told}{ended}', flush=True)
+                print(f'{workers} {"threads" if peer else "workers"}, {loop:20} {told}', flush=True)
                 if rate == 0:
                     rates += [int(rate) for rate in asked.rates.split(',')] if asked.rates else [int(speed / 2), int(speed * 4 / 5)]
 
