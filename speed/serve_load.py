@@ -1,5 +1,5 @@
 #!/usr/bin/env python3
-"""How fast a node that serves answers, and after how long: reads of On/Off over as many sessions as a boot may have, with 1, 2, 4 and 8 workers.
+"""How fast a node that serves answers, and after how long: reads of On/Off over 52 sessions, with 1, 2, 4 and 8 workers.
 
     speed/serve_load.py PROGRAM [--workers 1,2,4,8] [--reads 200000] [--rates RATE,..] [--threads T] [--sessions S] [--replay] [--folder FOLDER]
     speed/serve_load.py --peer shared|own [the same words]

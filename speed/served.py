@@ -1,4 +1,4 @@
-"""What the scripts serve_kills.py, serve_load.py and serve_noise.py share: a node that serves on a port of this machine, and peers that speak
+"""What the scripts serve_*.py share: a node that serves on a port of this machine, and peers that speak
 with it over sessions of examples/serve/make_config.py."""
 import json
 import os
