@@ -4,12 +4,13 @@ ghost use Rattle.std.specs.Prelude.{◌≡◌, ◌<◌, length, Some, None, IfOk
 ghost use Rattle.mt_exchange.specs.Payloads.{is_success as is_success_of, subscription_in, is_suppressed, fields, is_true_field, number_of_field};
 ghost use Rattle.mt_tlv.specs.declared.value.Tag.{Tag};
 ghost use Rattle.mt_tlv.specs.declared.value.Value.{Value};
+ghost use Rattle.mt_tlv.specs.Outline.{outlines};
 ghost use Rattle.mt_tlv.specs.View.{tree, elements};
 ghost use Rattle.mt_model.specs.Trees.{field_in};
 
 use mt_im::{ImFault, decode};
 use mt_model::{Request, field};
-use mt_tlv::{Members, Tag, TlvFault, Value, read};
+use mt_tlv::{Members, Tag, TlvFault, Value, read_outlines};
 use std::alloc::{AllocError, Global};
 
 /// What a report says of its exchange.
@@ -38,20 +39,19 @@ pub(crate) fn report_tags(alloc: Global, bytes: &[u8]) -> Result<ReportTags, All
     ensures subscription { IfOk result (λ tags. tags.subscription ≡ subscription_in bytes.now) }
     ensures suppressed { IfOk result (λ tags. tags.suppressed ≡ is_suppressed bytes.now) }
 {
-    let members = members(alloc, bytes)?;
+    let outlines = report_outlines(alloc, bytes)?;
     Ok(ReportTags {
-        subscription: number_of(field(members.as_slice(), 0)),
-        suppressed: is_true(field(members.as_slice(), 4)),
+        subscription: number_of(field(outlines.as_slice(), 0)),
+        suppressed: is_true(field(outlines.as_slice(), 4)),
     })
 }
 
-// The members of the structure at the front, or none.
-fn members(alloc: Global, bytes: &[u8]) -> Result<Members, AllocError>
-    ensures { IfOk result (λ members. members ≡ fields bytes.now) }
+// The outlines of the fields of the structure at the front, or none.
+fn report_outlines(alloc: Global, bytes: &[u8]) -> Result<Members, AllocError>
+    ensures { IfOk result (λ members. members ≡ outlines (fields bytes.now)) }
 {
-    match read(alloc, bytes) {
-        Ok((_, Value::Struct(members), _)) => Ok(members),
-        Ok(_) => Ok(Members::from_vec(Vec::new(alloc))),
+    match read_outlines(alloc, bytes) {
+        Ok(fields) => Ok(fields),
         Err(TlvFault::Memory) => Err(AllocError),
         Err(_) => Ok(Members::from_vec(Vec::new(alloc))),
     }

@@ -7,6 +7,7 @@ pub mod Longer
 pub mod Loop
 pub mod Narrowest
 pub mod Numbers
+pub mod Outlines
 pub mod Repeats
 pub mod Runs
 pub mod Same

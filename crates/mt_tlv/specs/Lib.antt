@@ -1,6 +1,7 @@
 pub mod Falls
 pub mod Limits
 pub mod Narrow
+pub mod Outline
 pub mod Parts
 pub mod Reading
 pub mod Repeats

@@ -7,6 +7,7 @@
 //! - `fault`: what keeps bytes from being an element;
 //! - `tag_set`: the tags of a structure's members;
 //! - `reading`: the first element of some bytes;
+//! - `outline`: the fields of a structure without what stands inside them;
 //! - `cursor`: the parts of an element one after the other, in no memory;
 //! - `writing`: an element as bytes;
 //! - `laws`: what holds of the format whatever the bytes.
@@ -16,6 +17,7 @@ mod bytes;
 mod cursor;
 mod fault;
 mod laws;
+mod outline;
 mod reading;
 mod tag_set;
 mod value;
@@ -29,6 +31,7 @@ pub use laws::{
     cursor_meets_the_fault, element_is_read, later_bytes_change_nothing, narrow_is_element,
     no_element_begins_another, values_are_trees, written_is_read,
 };
+pub use outline::read_outlines;
 pub use reading::read;
 pub use value::{Members, Tag, Value};
 pub use writing::{write, write_unsigned};

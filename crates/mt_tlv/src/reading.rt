@@ -19,7 +19,7 @@ use std::alloc::Global;
 const LONGEST: usize = 65_535;
 
 /// The most containers that are open inside each other.
-const DEEPEST: u8 = 16;
+pub(crate) const DEEPEST: u8 = 16;
 
 /// The kind of a container.
 #[derive(Clone, Copy, Debug, PartialEq, Eq)]
@@ -153,7 +153,7 @@ pub(crate) fn at_end(bytes: &[u8]) -> bool
 
 // Whether a tag may stand behind the members so far. A structure's tag is put into the set, which has
 // those of its members; of the members of other containers nothing is kept.
-fn allow(kind: Kind, seen: &mut TagSet, tag: Tag) -> Result<(), TlvFault>
+pub(crate) fn allow(kind: Kind, seen: &mut TagSet, tag: Tag) -> Result<(), TlvFault>
     ensures gives { (tags : List Tag) → Remembers kind seen.old tags → Gives (λ _. tt) result (allowed kind tags tag) }
     ensures kept { (tags : List Tag) → Remembers kind seen.old tags → OnOk result (Remembers kind seen.new (tags ++ tag ∷ [])) }
 {
@@ -181,7 +181,7 @@ pub(crate) fn kind_of(element_type: u8) -> Kind
     }
 }
 
-fn container_of(kind: Kind, members: Members) -> Value
+pub(crate) fn container_of(kind: Kind, members: Members) -> Value
     ensures { tree result ≡ container_of_kind kind members }
 {
     match kind {
@@ -283,7 +283,7 @@ pub(crate) fn read_scalar(
 }
 
 // How many bytes the value of a scalar takes.
-fn scalar_length(element_type: u8) -> u64
+pub(crate) fn scalar_length(element_type: u8) -> u64
     ensures value { result ≡ length_of_scalar element_type }
     ensures at_most_8 { result ≤ 8 }
 {
