@@ -1,6 +1,6 @@
 -- What a session stands for: its row, all messages that it let in and all messages that it sealed, in lists
 -- that nothing stores.
-use Rattle.std.specs.Prelude.{◌≡◌, ℕ, ◌+◌, nat_lt, ◌==◌, List, [], ◌∷◌, ◌++◌, map, length, Option, Some, None, Result, Ok, Err, if◌then◌else◌}
+use Rattle.std.specs.Prelude.{◌≡◌, ◌≢◌, ℕ, ◌+◌, nat_lt, ◌==◌, List, [], ◌∷◌, ◌++◌, map, length, Option, Some, None, Result, Ok, Err, if◌then◌else◌}
 use Rattle.mt_frame.specs.declared.header.ProtocolHeader.{ProtocolHeader}
 use Rattle.mt_window.specs.Standing.{StandsFor as IsWindowOf}
 use Rattle.mt_model.specs.declared.limits.TheConstants.{LAST_COUNTER, SENT_BYTES}
@@ -47,3 +47,7 @@ pub record StandsFor (session : Session) (row : SessionRow) (arrivals : List Arr
   pub is_row : session.row ≡ row
   pub is_window : IsWindowOf session.window row.counter_in (counters arrivals)
   pub is_counter : session.counter ≡ next_counter row messages
+
+-- A counter is left for the next message.
+abbrev pub HasCounter : Session → Type 0
+HasCounter session = session.counter ≢ LAST_COUNTER

@@ -6,7 +6,7 @@ ghost use Rattle.mt_model.specs.declared.texts.config.SessionRow.{SessionRow};
 ghost use Rattle.mt_frame.specs.Reading.{protocol_at};
 ghost use Rattle.mt_session.specs.declared.fault.SealFault.TheVariants.{Memory};
 ghost use Rattle.mt_session.specs.Opening.{Arrival, arrived, received, framed as framed_as, is_foreign as is_foreign_to, is_other as is_other_than};
-ghost use Rattle.mt_session.specs.Sessions.{Message, StandsFor, arrivals_by, counters, next_counter as next_counter_of, next_datagram, refusal};
+ghost use Rattle.mt_session.specs.Sessions.{HasCounter, Message, StandsFor, arrivals_by, counters, next_counter as next_counter_of, next_datagram, refusal};
 
 use crate::datagram::{datagram, datagram_length, nonce, nonce_node, open};
 use crate::fault::SealFault;
@@ -108,6 +108,45 @@ impl Session {
         self.counter
     }
 
+    /// The datagram of the next message. Nothing changes: `count` takes the message's counter, once nothing
+    /// can keep it from being sent any more.
+    pub fn sealed(&self, header: &ProtocolHeader, payload: &[u8]) -> Result<Bytes, SealFault>
+        // What it answers is the one datagram under the next counter.
+        ensures datagram { (row : SessionRow) (arrivals : List Arrival) (messages : List Message)
+            → StandsFor self.now row arrivals messages
+            → IfOk result (λ bytes. bytes ≡ next_datagram row messages header.now payload.now) }
+        // Exhausted exactly where no counter is left, and TooLong exactly where one is left and the datagram
+        // would have more than 1,232 bytes.
+        ensures refused { (row : SessionRow) (arrivals : List Arrival) (messages : List Message)
+            → StandsFor self.now row arrivals messages
+            → IfSome (refusal row messages header.now payload.now) (λ fault. result ≡ Err fault) }
+        // Otherwise only memory may lack.
+        ensures memory { (row : SessionRow) (arrivals : List Arrival) (messages : List Message)
+            → StandsFor self.now row arrivals messages
+            → IfNone (refusal row messages header.now payload.now) (IfErr result (λ fault. fault ≡ Memory)) }
+        // What is sealed has a counter.
+        ensures counter { OnOk result (HasCounter self.now) }
+    {
+        if self.counter == LAST_COUNTER {
+            return Err(SealFault::Exhausted);
+        }
+        if datagram_length(header, payload) > SENT_BYTES {
+            return Err(SealFault::TooLong);
+        }
+        let bytes = datagram(self.alloc, &self.row, self.counter, header, payload)?;
+        Ok(bytes)
+    }
+
+    /// Counts a message as sealed: it takes the counter that `sealed` had for it. It takes no memory.
+    pub fn count(&mut self)
+        requires { HasCounter self.old }
+        ensures { (row : SessionRow) (arrivals : List Arrival) (messages : List Message) (message : Message)
+            → StandsFor self.old row arrivals messages
+            → StandsFor self.new row arrivals (messages ++ message ∷ []) }
+    {
+        self.counter += 1;
+    }
+
     /// Seals the next message into its datagram. A message that is sealed takes a counter.
     pub fn seal(&mut self, header: &ProtocolHeader, payload: &[u8]) -> Result<Bytes, SealFault>
         // What it answers is the one datagram under the next counter.
@@ -131,14 +170,8 @@ impl Session {
         // What is refused changes nothing.
         ensures kept { OnErr result (self.new ≡ self.old) }
     {
-        if self.counter == LAST_COUNTER {
-            return Err(SealFault::Exhausted);
-        }
-        if datagram_length(header, payload) > SENT_BYTES {
-            return Err(SealFault::TooLong);
-        }
-        let bytes = datagram(self.alloc, &self.row, self.counter, header, payload)?;
-        self.counter += 1;
+        let bytes = self.sealed(header, payload)?;
+        self.count();
         Ok(bytes)
     }
 }
