@@ -12,7 +12,6 @@ use Rattle.mt_exchange.specs.Opened.{exchange_at, put}
 use Rattle.mt_exchange.specs.Parts.{IsUntaken}
 use Rattle.mt_exchange.specs.Runs.{Run, after_answer, answer_of, answer_sending}
 use Rattle.mt_exchange.specs.Sending.{Sending, silence, alone, reliably, plainly, behind_payload, behind_sending, free_from, is_taken, message, sealed_with, sealing, sending}
-use Rattle.mt_exchange.proofs.Keys.{exchange_at-key}
 
 abbrev pub Answer : Type 0
 Answer = Result (Option (List ℕ)) SealFault
@@ -23,19 +22,6 @@ IsFinal (Ok sent) = Unit {0}
 IsFinal (Err Exhausted) = Unit {0}
 IsFinal (Err TooLong) = ⊥
 IsFinal (Err Memory) = ⊥
-
-behind-key : (s : Sending) (counter now : ℕ) (answer : Answer) (x : Exchange) → (behind_sending s counter now answer x).key ≡ x.key
-behind-key (reliably p rest) counter now (Ok (Some bytes)) x = refl
-behind-key (reliably p rest) counter now (Ok None) x = refl
-behind-key (reliably p rest) counter now (Err Exhausted) x = refl
-behind-key (reliably p rest) counter now (Err TooLong) x = refl
-behind-key (reliably p rest) counter now (Err Memory) x = refl
-behind-key silence counter now answer x = refl
-behind-key (alone c) counter now (Ok sent) x = refl
-behind-key (alone c) counter now (Err Exhausted) x = refl
-behind-key (alone c) counter now (Err TooLong) x = refl
-behind-key (alone c) counter now (Err Memory) x = refl
-behind-key (plainly p) counter now answer x = refl
 
 -- what was kept does not count where the first of it is sent
 behind-alike : (s : Sending) (counter now : ℕ) (answer : Answer) (x y : Exchange) → IsFinal answer
@@ -63,9 +49,9 @@ pub unsealed : (messages : List Message) (found : Option Message) (fault : SealF
 unsealed messages None fault = refl
 unsealed messages (Some m) fault = refl
 
-module _ (row : SessionRow) (r : Run) (key : Key) (acknowledge : Option ℕ) (payloads : List Payload) (now : ℕ) (old t1 : List Exchange)
+module _ (row : SessionRow) (r : Run) (key : Key) (acknowledge : Option ℕ) (payloads : List Payload) (now : ℕ) (old : List Exchange)
     (x0 x1 : Exchange) (s : Sending) (counter : ℕ) (is_old : old ≡ r.open_ones) (taken0 : x0 ≡ exchange_at key old)
-    (rest1 : (x : Exchange) → x.key ≡ key → put x t1 ≡ put x old) (is_s : s ≡ sending x0 acknowledge payloads)
+    (is_s : s ≡ sending x0 acknowledge payloads)
     (alike : (kept : List Payload) → record x1 { kept = kept } ≡ record x0 { kept = kept }) (same : IsUntaken s → x1 ≡ x0)
     (is_counter : counter ≡ next_counter row r.messages) where
   x0-is : x0 ≡ exchange_at key r.open_ones
@@ -82,13 +68,10 @@ module _ (row : SessionRow) (r : Run) (key : Key) (acknowledge : Option ℕ) (pa
   messages-is answer e = λ i. sealed_with r.messages (message key acknowledge (s-is i)) (sym e i)
 
   pub open-is : (answer : Answer) (x2 : Exchange) (t2 : List Exchange) → IsFinal answer → answer_of row r key acknowledge payloads ≡ answer
-      → x2 ≡ behind_sending s counter now answer x1 → t2 ≡ put x2 t1 → t2 ≡ (after_answer row key acknowledge payloads now r).open_ones
+      → x2 ≡ behind_sending s counter now answer x1 → t2 ≡ put x2 old → t2 ≡ (after_answer row key acknowledge payloads now r).open_ones
   open-is answer x2 t2 final e is_x2 put2 =
       let changed : x2 ≡ behind_sending s counter now answer x0 = is_x2 ∙ behind-alike s counter now answer x1 x0 final alike same in
-      let key_x2 : x2.key ≡ key =
-      ap (λ (x : Exchange). x.key) changed ∙ behind-key s counter now answer x0 ∙ ap (λ (x : Exchange). x.key) taken0 ∙ exchange_at-key key old in
-      put2 ∙ rest1 x2 key_x2
-      ∙ (λ i. put ((changed ∙ (λ j. behind_sending (s-is j) (is_counter j) now (sym e j) (x0-is j))) i) (is_old i))
+      put2 ∙ (λ i. put ((changed ∙ (λ j. behind_sending (s-is j) (is_counter j) now (sym e j) (x0-is j))) i) (is_old i))
 
 -- the search for a free id
 pub free-step : (id n : ℕ) (xs : List Exchange) → n < 65536

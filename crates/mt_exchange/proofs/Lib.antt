@@ -8,5 +8,6 @@ pub mod Received
 pub mod Reported
 pub mod Retelling
 pub mod Sealings
+pub mod Settling
 pub mod Showing
 pub mod Told

@@ -30,8 +30,3 @@ run-more row happenings h = fold-append (after row) begun happenings (h ∷ [])
 pub message_is : (found : Option ProtocolHeader) (header : ProtocolHeader) (payload bytes : List ℕ) → Some header ≡ found → payload ≡ bytes
     → Some (record { header = header; payload = payload }) ≡ message_under found bytes
 message_is found header payload bytes is same = λ i. message_under (is i) (same i)
-
-pub stands_by : (answer : Result (Option (List ℕ)) SealFault) (P : List Message → Type 0) (messages : List Message) (m : Message) (found : Option Message)
-    → Some m ≡ found → OnOk answer (P (messages ++ m ∷ [])) → IfOk answer (λ sent. P (sealed_with messages found (Ok sent)))
-stands_by (Ok sent) P messages m found is stands = let Q : Option Message → Type 0 = λ o. P (sealed_with messages o (Ok sent)) in subst Q is stands
-stands_by (Err fault) P messages m found is stands = stands

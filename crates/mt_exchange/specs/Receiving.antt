@@ -1,6 +1,6 @@
 -- What a fresh message is to the exchanges of its session (Matter Core Specification, section 4.10, Message
 -- Exchanges, and section 4.11, Message Reliability Protocol).
-use Rattle.std.specs.Prelude.{ℕ, ◌==◌, ◌&&◌, nat_lt, Bool, true, false, not, List, [], filter, Option, Some, None, is_none, if◌then◌else◌}
+use Rattle.std.specs.Prelude.{◌≡◌, ℕ, ◌==◌, ◌&&◌, nat_lt, Bool, true, false, not, List, [], filter, Option, Some, None, is_none, if◌then◌else◌}
 use Rattle.std.specs.Option.{unwrap_or}
 use Rattle.mt_model.specs.declared.limits.TheConstants.{EXCHANGES}
 use Rattle.mt_frame.specs.declared.header.ProtocolHeader.{ProtocolHeader}
@@ -65,6 +65,10 @@ confirming x success =
     if not success then ended x.key x.subscription
     else if is_any x.kept then next x.key
     else confirmed x.key (unwrap_or x.subscription 0)
+
+-- whether a message says success, as far as its exchange asks for that
+abbrev pub IsSuccessOn : Exchange → Arrival → Bool → Type 0
+IsSuccessOn x a success = x.confirmation ≡ true → is_interaction a.header ≡ true → success ≡ is_success a.header.opcode a.payload
 
 -- what a message is where this is what there is of its exchange, and the peer has so many
 abbrev pub taken_on : Exchange → ℕ → Arrival → Taken

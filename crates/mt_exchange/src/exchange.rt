@@ -1,6 +1,6 @@
 //! An open exchange, and its key.
 
-ghost use Rattle.std.specs.Prelude.{◌≡◌, ◌+◌, ◌*◌, ◌<◌, ◌^◌, ◌==◌, filter, not, IfOk};
+ghost use Rattle.std.specs.Prelude.{◌≡◌, ◌+◌, ◌*◌, ◌<◌, ◌^◌, ◌==◌, filter, not, if◌then◌else◌};
 ghost use Rattle.mt_exchange.specs.Opened.{is_open as is_open_one, nothing, rank as rank_of};
 ghost use Rattle.mt_exchange.specs.Receiving.{owed_without as owed_without_it, relieved as relieved_of};
 
@@ -107,38 +107,41 @@ impl Exchange {
             || self.deadline.is_some()
     }
 
-    /// Takes an acknowledgement: what has this counter is owed no more.
-    pub(crate) fn relieve(self, alloc: Global, counter: Option<u32>) -> Result<Exchange, AllocError>
-        ensures { IfOk result (λ x. x ≡ relieved_of counter self) }
+    /// Takes an acknowledgement: what has this counter is owed no more. It takes no memory.
+    pub(crate) fn relieve(self, counter: Option<u32>) -> Exchange
+        ensures { result ≡ relieved_of counter self }
     {
         let mut x = self;
-        x.owed = owed_without(alloc, counter, x.owed)?;
-        Ok(x)
+        x.owed = owed_without(counter, x.owed);
+        x
+    }
+
+    /// It, where it is open, and else one of which there is nothing. It takes no memory.
+    pub(crate) fn or_nothing(self, alloc: Global) -> Exchange
+        ensures { result ≡ (if is_open_one self then self else nothing self.key) }
+    {
+        if self.is_open() {
+            return self;
+        }
+        Exchange::nothing(alloc, self.key)
     }
 }
 
 // What is owed once a counter is acknowledged.
-fn owed_without(
-    alloc: Global,
-    counter: Option<u32>,
-    owed: Listed<Owed>,
-) -> Result<Listed<Owed>, AllocError>
-    ensures { IfOk result (λ rest. rest ≡ owed_without_it counter owed) }
+fn owed_without(counter: Option<u32>, owed: Listed<Owed>) -> Listed<Owed>
+    ensures { result ≡ owed_without_it counter owed }
 {
     match counter {
-        Some(counter) => owed_but(alloc, counter, owed),
-        None => Ok(owed),
+        Some(counter) => owed_but(counter, owed),
+        None => owed,
     }
 }
 
 // What is owed without what has this counter.
-fn owed_but(alloc: Global, counter: u32, owed: Listed<Owed>) -> Result<Listed<Owed>, AllocError>
-    ensures { IfOk result (λ rest. rest ≡ filter (λ o. not (o.counter == counter)) owed) }
+fn owed_but(counter: u32, owed: Listed<Owed>) -> Listed<Owed>
+    ensures { result ≡ filter (λ o. not (o.counter == counter)) owed }
 {
-    let rest: Vec<Owed> = owed
-        .into_vec()
-        .into_iter()
-        .filter(|o| o.counter != counter)
-        .collect(alloc)?;
-    Ok(Listed::from_vec(rest))
+    let mut rest = owed.into_vec();
+    rest.retain(|o| o.counter != counter);
+    Listed::from_vec(rest)
 }

@@ -1,11 +1,11 @@
 //! What is sent: answers to messages, and reports of subscriptions.
 
-ghost use Rattle.std.specs.Prelude.{◌≡◌, ◌≢◌, ◌++◌, ◌∷◌, ◌+◌, ◌%◌, [], List, ℕ, true, false, IfOk, IfErr, OnOk, OnErr, Some, None, Ok, Err};
+ghost use Rattle.std.specs.Prelude.{◌≡◌, ◌≢◌, ◌++◌, ◌∷◌, ◌+◌, ◌%◌, [], List, ℕ, true, false, Option, IsSome, IfOk, IfErr, OnOk, OnErr, Some, None, Ok, Err};
 ghost use Rattle.mt_model.specs.declared.texts.config.SessionRow.{SessionRow};
 ghost use Rattle.mt_model.specs.declared.messages.message.Payload.{Payload};
 ghost use Rattle.mt_session.specs.declared.fault.SealFault.TheVariants.{Exhausted, TooLong, Memory};
 ghost use Rattle.mt_session.specs.Opening.{Arrival};
-ghost use Rattle.mt_session.specs.Sessions.{Message, StandsFor};
+ghost use Rattle.mt_session.specs.Sessions.{HasCounter, Message, StandsFor};
 ghost use Rattle.mt_exchange.specs.Opened.{nothing};
 ghost use Rattle.mt_exchange.specs.Parts.{IsUntaken, sending_by, first_of, rest_of};
 ghost use Rattle.mt_exchange.specs.Sending.{acknowledgement as acknowledgement_on, acknowledging as acknowledging_with, behind_payload as behind_payload_of, behind_sending, free_id as first_free_id, header_of, header_to_send, message, payload_to_send, sealed_with, sealing, sending as sending_on, sending_kept as sending_kept_of};
@@ -74,23 +74,19 @@ impl Exchanges {
         ensures too_long { result ≡ Err TooLong → self.new ≡ self.old }
         ensures memory { result ≡ Err Memory → self.new ≡ self.old }
     {
-        let mut table = self.table.copy()?;
-        let mut sealer = session.copy()?;
-        let x = table.take(key);
+        let x = self.table.found(key)?;
         let counter = session.next_counter();
         let (sending, x) = chosen(x, acknowledge, payloads);
-        match sealed(&mut sealer, key, acknowledge, &sending) {
+        match sealed(session, key, acknowledge, &sending) {
             Ok(sent) => {
                 let x = behind_sent(self.alloc, x, sending, counter, now, &sent)?;
-                table.put(x)?;
-                self.table = table;
-                *session = sealer;
+                self.table.put(x)?;
+                count(session, &sent);
                 Ok(sent)
             }
             Err(SealFault::Exhausted) => {
                 let x = behind_exhausted(self.alloc, x, sending);
-                table.put(x)?;
-                self.table = table;
+                self.table.put(x)?;
                 Err(SealFault::Exhausted)
             }
             Err(SealFault::TooLong) => Err(SealFault::TooLong),
@@ -130,21 +126,18 @@ impl Exchanges {
         let Some(first) = first else {
             return Ok(None);
         };
-        let mut table = self.table.copy()?;
-        let mut sealer = session.copy()?;
         let key = Key {
             exchange: id,
             ours: true,
         };
         let counter = session.next_counter();
         let sending = Sending::Reliably(first, rest);
-        let sent = sealed(&mut sealer, key, None, &sending)?;
+        let sent = sealed(session, key, None, &sending)?;
         let x = fresh_exchange(self.alloc, key, subscription);
         let x = behind_sent(self.alloc, x, sending, counter, now, &sent)?;
-        table.put(x)?;
-        self.table = table;
+        self.table.put(x)?;
         self.next_id = id_after(id);
-        *session = sealer;
+        count(session, &sent);
         Ok(sent)
     }
 
@@ -267,24 +260,33 @@ fn acknowledgement(key: Key, counter: u32) -> ProtocolHeader
     }
 }
 
-// Seals what is sent, if there is something.
+// The datagram of what is sent, if there is something. The session does not count it yet.
 fn sealed(
-    session: &mut Session,
+    session: &Session,
     key: Key,
     acknowledge: Option<u32>,
     sending: &Sending,
 ) -> Result<Option<Bytes>, SealFault>
-    ensures sent { (row : SessionRow) (arrivals : List Arrival) (messages : List Message) → StandsFor session.old row arrivals messages
+    ensures sent { (row : SessionRow) (arrivals : List Arrival) (messages : List Message) → StandsFor session.now row arrivals messages
         → IfOk result (λ sent. sealing row messages (message key acknowledge (sending_by sending.now)) ≡ Ok sent) }
-    ensures refused { (row : SessionRow) (arrivals : List Arrival) (messages : List Message) → StandsFor session.old row arrivals messages
+    ensures refused { (row : SessionRow) (arrivals : List Arrival) (messages : List Message) → StandsFor session.now row arrivals messages
         → IfErr result (λ fault. fault ≢ Memory → sealing row messages (message key acknowledge (sending_by sending.now)) ≡ Err fault) }
-    ensures stands { (row : SessionRow) (arrivals : List Arrival) (messages : List Message) → StandsFor session.old row arrivals messages
-        → IfOk result (λ sent. StandsFor session.new row arrivals (sealed_with messages (message key acknowledge (sending_by sending.now)) (Ok sent))) }
-    ensures kept { OnErr result (session.new ≡ session.old) }
+    ensures counter { IfOk result (λ sent. IsSome sent → HasCounter session.now) }
 {
     match header_to(key, acknowledge, sending) {
         None => Ok(None),
         Some(header) => seal(session, header, payload_of(sending)),
+    }
+}
+
+// Counts what was sealed, if something was.
+fn count(session: &mut Session, sent: &Option<Bytes>)
+    requires { IsSome sent.now → HasCounter session.old }
+    ensures { (row : SessionRow) (arrivals : List Arrival) (messages : List Message) (found : Option Message) → StandsFor session.old row arrivals messages
+        → sealing row messages found ≡ Ok sent.now → StandsFor session.new row arrivals (sealed_with messages found (Ok sent.now)) }
+{
+    if sent.is_some() {
+        session.count();
     }
 }
 
@@ -316,21 +318,19 @@ pub(crate) fn payload_of(sending: &Sending) -> &[u8]
     }
 }
 
-// Seals a message.
+// The datagram of a message.
 fn seal(
-    session: &mut Session,
+    session: &Session,
     header: ProtocolHeader,
     payload: &[u8],
 ) -> Result<Option<Bytes>, SealFault>
-    ensures sent { (row : SessionRow) (arrivals : List Arrival) (messages : List Message) → StandsFor session.old row arrivals messages
+    ensures sent { (row : SessionRow) (arrivals : List Arrival) (messages : List Message) → StandsFor session.now row arrivals messages
         → IfOk result (λ sent. sealing row messages (Some (record { header = header; payload = payload.now })) ≡ Ok sent) }
-    ensures refused { (row : SessionRow) (arrivals : List Arrival) (messages : List Message) → StandsFor session.old row arrivals messages
+    ensures refused { (row : SessionRow) (arrivals : List Arrival) (messages : List Message) → StandsFor session.now row arrivals messages
         → IfErr result (λ fault. fault ≢ Memory → sealing row messages (Some (record { header = header; payload = payload.now })) ≡ Err fault) }
-    ensures stands { (row : SessionRow) (arrivals : List Arrival) (messages : List Message) → StandsFor session.old row arrivals messages
-        → OnOk result (StandsFor session.new row arrivals (messages ++ record { header = header; payload = payload.now } ∷ [])) }
-    ensures kept { OnErr result (session.new ≡ session.old) }
+    ensures counter { OnOk result (HasCounter session.now) }
 {
-    match session.seal(&header, payload) {
+    match session.sealed(&header, payload) {
         Ok(bytes) => Ok(Some(bytes)),
         Err(fault) => Err(fault),
     }

@@ -1,9 +1,9 @@
 //! The open exchanges of a session, by rising key.
 
-ghost use Rattle.std.specs.Prelude.{◌≡◌, ◌<◌, ◌++◌, ◌∷◌, [], true, OnOk, length, slice_index_or};
-ghost use Rattle.mt_exchange.specs.declared.exchange.Exchange.{Exchange};
-ghost use Rattle.mt_exchange.specs.Opened.{count_of_peer as peer_count, exchange_at, is_open, put as put_among};
-ghost use Rattle.mt_exchange.specs.Places.{IsSpot};
+ghost use Rattle.std.specs.Prelude.{◌≡◌, ◌<◌, ◌++◌, ◌∷◌, [], true, IfOk, OnOk, OnErr, length, slice_index_or, slice_set};
+ghost use Rattle.std.specs.List.{remove as removed};
+ghost use Rattle.mt_exchange.specs.Opened.{count_of_peer as peer_count, exchange_at, is_open, nothing, put as put_among};
+ghost use Rattle.mt_exchange.specs.Places.{IsSpot, changed_at};
 
 use crate::exchange::{Exchange, Key};
 use crate::ordered::Ordered;
@@ -73,22 +73,64 @@ impl Table {
         count
     }
 
-    /// Takes out what there is of an exchange. Nothing of it is left in its place.
-    pub fn take(&mut self, key: Key) -> Exchange
-        ensures taken { result ≡ exchange_at key self.old }
-        ensures rest { (x : Exchange) → x.key ≡ key → put_among x self.new ≡ put_among x self.old }
+    /// How many of them the peer began, without the one at a place.
+    pub fn count_of_peer_but(&self, index: usize) -> usize
+        requires { index < length self.now }
+        ensures { result ≡ peer_count (removed self.now index) }
     {
-        let nothing = Exchange::nothing(self.alloc, key);
+        let count = self.count_of_peer();
+        if self.at(index).key.ours {
+            return count;
+        }
+        count.saturating_sub(1)
+    }
+
+    /// Where the exchange with a key stands.
+    pub fn spot(&self, key: Key) -> Spot
+        ensures { IsSpot key self.now result }
+    {
+        find_spot(&self.exchanges, key)
+    }
+
+    /// A copy of what there is of an exchange. The others are not copied.
+    pub fn found(&self, key: Key) -> Result<Exchange, AllocError>
+        ensures { IfOk result (λ x. x ≡ exchange_at key self.now) }
+    {
         match find_spot(&self.exchanges, key) {
-            Spot::At(at) => self.exchanges.replace(at, nothing),
-            Spot::Before(_) => nothing,
+            Spot::At(at) => self.exchanges.at(at).copy(),
+            Spot::Before(_) => Ok(Exchange::nothing(self.alloc, key)),
+        }
+    }
+
+    /// Takes out what there is of the exchange at a place, and leaves one there of which there is nothing.
+    /// It takes no memory.
+    pub fn take(&mut self, index: usize, key: Key) -> Exchange
+        requires { index < length self.old }
+        ensures taken { result ≡ slice_index_or self.old index result }
+        ensures rest { self.new ≡ slice_set self.old index (nothing key) }
+    {
+        self.exchanges
+            .replace(index, Exchange::nothing(self.alloc, key))
+    }
+
+    /// Makes this what there is of the exchange at a place, and takes the place away where it is not open.
+    /// It takes no memory.
+    pub fn settle(&mut self, index: usize, x: Exchange)
+        requires { index < length self.old }
+        ensures { self.new ≡ changed_at index x self.old }
+    {
+        if x.is_open() {
+            self.exchanges.replace(index, x);
+        } else {
+            self.exchanges.remove(index);
         }
     }
 
     /// Puts what there is of an exchange into its place, where it is open, and takes the place away
-    /// where it is not.
+    /// where it is not. Where memory lacks nothing has changed.
     pub fn put(&mut self, x: Exchange) -> Result<(), AllocError>
-        ensures { OnOk result (self.new ≡ put_among x self.old) }
+        ensures placed { OnOk result (self.new ≡ put_among x self.old) }
+        ensures kept { OnErr result (self.new ≡ self.old) }
     {
         if x.is_open() {
             return self.put_open(x);
@@ -105,7 +147,8 @@ impl Table {
     // Puts an open exchange into its place.
     fn put_open(&mut self, x: Exchange) -> Result<(), AllocError>
         requires { is_open x ≡ true }
-        ensures { OnOk result (self.new ≡ put_among x self.old) }
+        ensures placed { OnOk result (self.new ≡ put_among x self.old) }
+        ensures kept { OnErr result (self.new ≡ self.old) }
     {
         match find_spot(&self.exchanges, x.key) {
             Spot::At(at) => {

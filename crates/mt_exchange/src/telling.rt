@@ -11,7 +11,7 @@ use crate::exchange::Key;
 use crate::exchanges::Exchanges;
 use crate::sending::{Sending, chosen, first_and_rest, header_to, payload_of};
 use mt_frame::ProtocolHeader;
-use mt_model::{ExactCopy, Payloads};
+use mt_model::Payloads;
 use mt_tlv::Bytes;
 use std::alloc::{AllocError, Global};
 
@@ -36,8 +36,7 @@ impl Exchanges {
         ensures { (row : SessionRow) (happenings : List Happening) → IsRunOf self.now row happenings
             → IfOk result (λ message. option_map outgoing_in message ≡ outgoing_answer (run row happenings) key acknowledge payloads) }
     {
-        let mut table = self.table.copy()?;
-        let x = table.take(key);
+        let x = self.table.found(key)?;
         let (sending, _) = chosen(x, acknowledge, payloads);
         unsealed(self.alloc, key, acknowledge, &sending)
     }
