@@ -2,6 +2,7 @@ pub mod ChainFacts
 pub mod MaskFacts
 pub mod PassFacts
 pub mod RoundFacts
+pub mod ScheduleFacts
 pub mod SealFacts
 pub mod StreamFacts
 pub mod TableFacts

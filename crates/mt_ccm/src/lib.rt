@@ -12,4 +12,4 @@ mod tables;
 
 pub use block::aes_block;
 pub use laws::{bytes_have_one_plaintext, inverse_is_inverse, opens_what_is_sealed};
-pub use sealing::{seal, unseal};
+pub use sealing::{Cipher, seal, unseal};
