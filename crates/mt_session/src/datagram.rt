@@ -4,6 +4,7 @@ ghost use Rattle.std.specs.Prelude.{◌≡◌, ◌≢◌, ◌+◌, ◌^◌, ◌<
 ghost use Rattle.mt_frame.specs.Writing.{message_bytes, protocol_bytes};
 ghost use Rattle.mt_session.specs.Datagrams.{datagram as datagram_of, datagram_length as length_of_datagram, nonce as nonce_of, nonce_node as node_of_nonce, opened as opened_from, sealed, sent_header};
 
+use mt_ccm::Cipher;
 use mt_frame::{MessageHeader, ProtocolHeader, write_message, write_protocol};
 use mt_model::{Auth, SessionRow};
 use mt_tlv::Bytes;
@@ -77,33 +78,35 @@ pub fn datagram_length(header: &ProtocolHeader, payload: &[u8]) -> usize
     HEAD + len + payload.len() + TAG
 }
 
-/// The datagram of a message under this counter.
+/// The datagram of a message under this counter, by the cipher of the row's key.
 pub fn datagram(
     alloc: Global,
     row: &SessionRow,
+    cipher: &Cipher,
     counter: u32,
     header: &ProtocolHeader,
     payload: &[u8],
 ) -> Result<Bytes, AllocError>
     requires session { row.now.peer_session ≢ 0 }
+    requires key { cipher.now ≡ row.now.key_out }
     requires short { length_of_datagram header.now payload.now ≤ 1232 }
     ensures { IfOk result (λ bytes. bytes ≡ datagram_of row.now counter header.now payload.now) }
 {
     let head = message_head(row, counter);
     let mut bytes = plain_datagram(alloc, &head, header, payload)?;
     let nonce = nonce(counter, nonce_node(row.auth, row.own_node));
-    seal_behind(&row.key_out, &nonce, &head, &mut bytes);
+    seal_behind(cipher, &nonce, &head, &mut bytes);
     Ok(Bytes::from_vec(bytes))
 }
 
 // Seals what stands behind the message header, all but the last 16 bytes, in place.
-fn seal_behind(key: &[u8; 16], nonce: &[u8; 13], head: &[u8; 8], bytes: &mut [u8])
+fn seal_behind(cipher: &Cipher, nonce: &[u8; 13], head: &[u8; 8], bytes: &mut [u8])
     requires room { 24 ≤ length bytes.old }
     requires short { length bytes.old < 2 ^ 16 }
     ensures { (plain : List ℕ) → bytes.old ≡ (head.now ++ plain) ++ replicate 16 0
-        → bytes.new ≡ head.now ++ sealed key.now nonce.now head.now plain }
+        → bytes.new ≡ head.now ++ sealed cipher.now nonce.now head.now plain }
 {
-    mt_ccm::seal(key, nonce, head, &mut bytes[HEAD..]);
+    cipher.seal(nonce, head, &mut bytes[HEAD..]);
 }
 
 // The datagram before it is sealed, with room for the tag.
@@ -127,12 +130,12 @@ fn plain_datagram(
 }
 
 /// Opens what is sealed, in place: how long the plaintext is that then stands at the front.
-pub fn open(key: &[u8; 16], nonce: &[u8; 13], aad: &[u8], bytes: &mut [u8]) -> Option<usize>
+pub fn open(cipher: &Cipher, nonce: &[u8; 13], aad: &[u8], bytes: &mut [u8]) -> Option<usize>
     requires aad { length aad.now < 65280 }
     requires length { length bytes.old < 2 ^ 16 }
-    ensures plain { IfSome result (λ n. opened_from key.now nonce.now aad.now bytes.old ≡ Some (take n bytes.new)) }
+    ensures plain { IfSome result (λ n. opened_from cipher.now nonce.now aad.now bytes.old ≡ Some (take n bytes.new)) }
     ensures within { IfSome result (λ n. n ≤ length bytes.new) }
-    ensures none { IfNone result (opened_from key.now nonce.now aad.now bytes.old ≡ None) }
+    ensures none { IfNone result (opened_from cipher.now nonce.now aad.now bytes.old ≡ None) }
 {
-    mt_ccm::unseal(key, nonce, aad, bytes)
+    cipher.unseal(nonce, aad, bytes)
 }

@@ -12,6 +12,7 @@ use crate::datagram::{datagram, datagram_length, nonce, nonce_node, open};
 use crate::fault::SealFault;
 use crate::kept::Session;
 use crate::opening::{Dropped, Opened};
+use mt_ccm::Cipher;
 use mt_frame::{MessageHeader, ProtocolHeader, read_message, read_protocol};
 use mt_model::SessionRow;
 use mt_model::limits::{LAST_COUNTER, SENT_BYTES};
@@ -30,10 +31,14 @@ impl Session {
     {
         let window = Window::new(row.counter_in);
         let counter = row.counter_out;
+        let cipher_in = Cipher::new(&row.key_in);
+        let cipher_out = Cipher::new(&row.key_out);
         let (alloc, row) = with_allocator(row);
         Session {
             alloc,
             row,
+            cipher_in,
+            cipher_out,
             window,
             counter,
         }
@@ -69,7 +74,7 @@ impl Session {
             nonce_node(self.row.auth, self.row.peer_node),
         );
         let (head, sealed) = datagram.split_at_mut(len);
-        match open(&self.row.key_in, &nonce, head, sealed) {
+        match open(&self.cipher_in, &nonce, head, sealed) {
             Some(count) => self.let_in(header.counter, &sealed[..count]),
             None => Err(Dropped::NotSealed),
         }
@@ -133,7 +138,14 @@ impl Session {
         if datagram_length(header, payload) > SENT_BYTES {
             return Err(SealFault::TooLong);
         }
-        let bytes = datagram(self.alloc, &self.row, self.counter, header, payload)?;
+        let bytes = datagram(
+            self.alloc,
+            &self.row,
+            &self.cipher_out,
+            self.counter,
+            header,
+            payload,
+        )?;
         Ok(bytes)
     }
 

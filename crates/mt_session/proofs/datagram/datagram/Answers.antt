@@ -21,4 +21,4 @@ returns c =
     c.from_vec.ensures
     ∙ written_over c.seal_behind.new.bytes c.in_ok-bytes.bytes.items c.in_ok-bytes.bytes.len same (omega arith)
     ∙ c.seal_behind.ensures plain before
-    ∙ (λ i. c.message_head-head.ensures i ++ sealed c.args.row.now.key_out ((named ∙ ap (nonce c.args.counter) node) i) (c.message_head-head.ensures i) plain)
+    ∙ (λ i. c.message_head-head.ensures i ++ sealed (c.requires.key i) ((named ∙ ap (nonce c.args.counter) node) i) (c.message_head-head.ensures i) plain)

@@ -16,7 +16,7 @@ none_by key nonce aad old (Some n) is = is
 none_by key nonce aad old None is = opened-none key nonce aad old is
 
 pub returns-clause-plain : goal.returns-clause-plain
-returns-clause-plain c = plain_by c.args.key.now c.args.nonce.now c.args.aad.now c.args.bytes.now c.unseal.new.buf c.unseal.result c.unseal.ensures.opened
+returns-clause-plain c = plain_by c.args.cipher.now c.args.nonce.now c.args.aad.now c.args.bytes.now c.unseal.new.buf c.unseal.result c.unseal.ensures.opened
 
 pub returns-clause-none : goal.returns-clause-none
-returns-clause-none c = none_by c.args.key.now c.args.nonce.now c.args.aad.now c.args.bytes.now c.unseal.result c.unseal.ensures.refused
+returns-clause-none c = none_by c.args.cipher.now c.args.nonce.now c.args.aad.now c.args.bytes.now c.unseal.result c.unseal.ensures.refused
