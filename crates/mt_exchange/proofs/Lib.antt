@@ -3,6 +3,7 @@ pub mod Bare
 pub mod Heard
 pub mod Keeping
 pub mod Keys
+pub mod Outlined
 pub mod Places
 pub mod Received
 pub mod Reported

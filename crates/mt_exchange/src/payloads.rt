@@ -35,6 +35,7 @@ pub(crate) fn is_success(alloc: Global, opcode: u8, payload: &[u8]) -> Result<bo
 }
 
 /// What the report in these bytes says of its exchange.
+#[tactic(auto, using(crate::proofs::Outlined::number_stands, crate::proofs::Outlined::truth_stands))]
 pub(crate) fn report_tags(alloc: Global, bytes: &[u8]) -> Result<ReportTags, AllocError>
     ensures subscription { IfOk result (λ tags. tags.subscription ≡ subscription_in bytes.now) }
     ensures suppressed { IfOk result (λ tags. tags.suppressed ≡ is_suppressed bytes.now) }
@@ -47,6 +48,7 @@ pub(crate) fn report_tags(alloc: Global, bytes: &[u8]) -> Result<ReportTags, All
 }
 
 // The outlines of the fields of the structure at the front, or none.
+#[tactic(auto, using(crate::proofs::Outlined::outlines_told, crate::proofs::Outlined::outlines_lack))]
 fn report_outlines(alloc: Global, bytes: &[u8]) -> Result<Members, AllocError>
     ensures { IfOk result (λ members. members ≡ outlines (fields bytes.now)) }
 {
