@@ -1,4 +1,4 @@
-//! A journal on a file, which is opened anew again and again.
+//! A journal on a file, which is opened anew again and again, and once while it is open.
 
 use crate::form::TestForm;
 use crate::journals::{appended, switched};
@@ -12,7 +12,7 @@ use std::io;
 
 type FileJournal = Journal<FileDisk, TestForm>;
 
-/// Makes a journal on a new file, changes it, opens it anew twice, and takes the file away again.
+/// Makes a journal on a new file, changes it, opens it anew again and again, and takes the file away again.
 pub(crate) fn play(rt: &HostRuntime, page: &mut Page) -> io::Result<()> {
     play_on(
         rt,
@@ -24,6 +24,8 @@ pub(crate) fn play(rt: &HostRuntime, page: &mut Page) -> io::Result<()> {
     if opened(rt, page).is_some() {
         add_file(rt, page)?;
     }
+    add_second(rt, page, &[0x17, 0x07]);
+    let _ = opened(rt, page);
     remove_file(rt, "journal")?;
     add_absent(rt, page);
     Ok(())
@@ -39,9 +41,25 @@ fn play_on(rt: &HostRuntime, page: &mut Page, image: &[u8], changes: &[&[u8]]) {
     }
 }
 
-// A disk over a file in a folder that is not there: how many calls a journal makes on it, and how many fail.
+// A second disk over the file of a journal that is open: it is refused, and the journal is changed after that.
+fn add_second(rt: &HostRuntime, page: &mut Page, change: &[u8]) {
+    if let Some(mut journal) = opened(rt, page) {
+        add_refused(rt, page, "journal");
+        add_done(page, appended(&mut journal, change));
+    }
+}
+
+// A disk over a file in a folder that is not there.
 fn add_absent(rt: &HostRuntime, page: &mut Page) {
-    let disk = FileDisk::open(rt, "absent/journal");
+    add_refused(rt, page, "absent/journal");
+}
+
+// A disk over a file that can't be opened: whether it is in use, how many calls a journal makes on it, and how
+// many fail.
+fn add_refused(rt: &HostRuntime, page: &mut Page, name: &str) {
+    let disk = FileDisk::open(rt, name);
+    page.add_shown(&disk.is_in_use());
+    page.add(" ");
     if let Err((disk, _)) = FileJournal::recover(rt.alloc(), disk) {
         page.add_number(disk.calls);
         page.add(" ");

@@ -1,5 +1,5 @@
-//! What is told on standard error behind a run: how the program is used, which file can't be read, and which program tells
-//! more. Standard output and the status stay as they are.
+//! What is told on standard error behind a run: how the program is used, which file can't be read or is in use, and which
+//! program tells more. Standard output and the status stay as they are.
 
 use std::fs::File;
 use std::io;
@@ -32,12 +32,14 @@ fn is_folder(file: &File) -> bool {
     }
 }
 
-/// Tells what a person wants to know behind this status; nothing where the last line says it all.
+/// Tells what a person wants to know behind this status; nothing where the last line says it all. `in_use` is the place of the
+/// word that names a journal, where that is in use.
 pub(crate) fn tell_hint(
     rt: &HostRuntime,
     status: u8,
     words: &[String],
     texts: &[Text],
+    in_use: Option<usize>,
 ) -> io::Result<()> {
     match status {
         2 => tell_usage(rt),
@@ -46,6 +48,7 @@ pub(crate) fn tell_hint(
             "matter_lens tells more: it shows a recording's first bad line, and --check CONFIG what the node is."
         ),
         5 => tell_unread(rt, words, texts),
+        8 => tell_in_use(rt, words, in_use),
         _ => Ok(()),
     }
 }
@@ -82,6 +85,17 @@ fn tell_unread(rt: &HostRuntime, words: &[String], texts: &[Text]) -> io::Result
         }
     }
     Ok(())
+}
+
+fn tell_in_use(rt: &HostRuntime, words: &[String], in_use: Option<usize>) -> io::Result<()> {
+    let name = match in_use {
+        Some(place) => words.get(place),
+        None => None,
+    };
+    match name {
+        Some(name) => eprintln!(rt; "{name} is in use by another process."),
+        None => Ok(()),
+    }
 }
 
 fn name_of<'a>(words: &'a [String], text: &Text) -> Option<&'a String> {

@@ -57,6 +57,7 @@ fn run_on(rt: &HostRuntime, words: &[String]) -> u8 {
     let mut first = ReaderSource::new(first);
     let mut second = ReaderSource::new(second);
     let mut disk = disk_named(rt, words, journal);
+    let in_use = place_in_use(&disk, journal);
     let mut out = WriterSink::new(io::writer(rt));
     let mut terminal = TerminalProgress::new(rt);
     let status = run_watched(
@@ -70,7 +71,7 @@ fn run_on(rt: &HostRuntime, words: &[String]) -> u8 {
         &mut terminal,
     );
     // Where even this can't be written, the status alone tells.
-    let _ = tell_hint(rt, status, words, &texts);
+    let _ = tell_hint(rt, status, words, &texts, in_use);
     status
 }
 
@@ -91,6 +92,11 @@ pub(crate) fn disk_named(rt: &HostRuntime, words: &[String], place: Option<usize
         Some(name) => FileDisk::open(rt, name.as_str()),
         None => FileDisk::new(None),
     }
+}
+
+/// The place of the word that names the disk's file, where another process has that in use.
+pub(crate) fn place_in_use(disk: &FileDisk, place: Option<usize>) -> Option<usize> {
+    if disk.is_in_use() { place } else { None }
 }
 
 // The words of the command line behind the program's name.

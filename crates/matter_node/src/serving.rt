@@ -2,7 +2,7 @@
 
 use crate::hints::{tell_hint, text_of};
 use crate::watching::{Board, TakenCount, UsageLine};
-use crate::{disk_named, named};
+use crate::{disk_named, named, place_in_use};
 use mt_os::{ReaderSource, UdpIntake, UdpOutlet, WriterSink};
 use mt_outside::NoGate;
 use mt_top::{Files, Serve, files_of, serve_of, serve_watched};
@@ -58,6 +58,7 @@ fn serve_over<R: Threads + Wait + Sync>(
     let text = text_of(config, &file);
     let mut config = ReaderSource::new(file);
     let disk = disk_named(rt, words, journal);
+    let in_use = place_in_use(&disk, journal);
     let intake = UdpIntake::new(rt, socket);
     let mut out = WriterSink::new(io::writer(rt));
     let board = Board::new();
@@ -78,7 +79,7 @@ fn serve_over<R: Threads + Wait + Sync>(
     if board.has_line() {
         let _ = eprintln!(rt);
     }
-    let _ = tell_hint(rt, served.status, words, &[text]);
+    let _ = tell_hint(rt, served.status, words, &[text], in_use);
     let _ = eprintln!(rt; "serving ended with status {}.", served.status);
     served.status
 }

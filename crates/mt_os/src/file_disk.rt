@@ -18,32 +18,55 @@ const LONGEST: u64 = 1 << 62;
 #[derive(Drop)]
 pub struct FileDisk {
     file: Option<File>,
+    is_in_use: bool,
     pub calls: u64,
     pub faults: u64,
 }
 
 impl FileDisk {
-    /// A disk over this file, of which no call was made yet. None is a file that could not be opened.
+    /// A disk over this file, of which no call was made yet. None is a file that could not be opened. It is
+    /// not locked here.
     pub fn new(file: Option<File>) -> Self
         ensures file { result.file ≡ file }
+        ensures in_use { result.is_in_use ≡ false }
         ensures calls { result.calls ≡ 0 }
         ensures faults { result.faults ≡ 0 }
     {
         FileDisk {
             file,
+            is_in_use: false,
             calls: 0,
             faults: 0,
         }
     }
 
-    /// A disk over the file of this name, which is made, empty, where there is none. Where it has no byte
-    /// its folder is synced, so that its name outlives a loss of power as its bytes do. Where that or the
-    /// file can't be done, each call of the disk fails.
+    /// A disk over the file of this name, which is made, empty, where there is none, and locked for as long
+    /// as the disk is there. Where it has no byte its folder is synced, so that its name outlives a loss of
+    /// power as its bytes do. Where one of these can't be done, the lock of a file that is open as a disk
+    /// among them, each call of the disk fails.
     pub fn open(rt: &HostRuntime, name: &str) -> Self
         ensures calls { result.calls ≡ 0 }
         ensures faults { result.faults ≡ 0 }
+        ensures in_use { IsTrue result.is_in_use → result.file ≡ None }
     {
-        FileDisk::new(opened(rt, name).ok())
+        let (file, is_in_use) = match opened(rt, name) {
+            Ok(file) => (Some(file), false),
+            Err(error) => (None, error.kind() == ErrorKind::WouldBlock),
+        };
+        FileDisk {
+            file,
+            is_in_use,
+            calls: 0,
+            faults: 0,
+        }
+    }
+
+    /// Whether the file could not be opened because it is locked: by another process, or by this one, which
+    /// has it open as another disk.
+    pub fn is_in_use(&self) -> bool
+        ensures { result ≡ self.now.is_in_use }
+    {
+        self.is_in_use
     }
 
     /// The file, as it is.
@@ -125,7 +148,8 @@ fn comes_within(at: u64, count: usize) -> bool
     at <= LONGEST && count as u64 <= LONGEST - at
 }
 
-// The file of this name, open for reading and writing, and made where there is none. The folder of an empty
+// The file of this name, open for reading and writing, made where there is none, and locked: a file that is
+// locked already would block. The lock goes with the last handle of this opening. The folder of an empty
 // file is synced: it may have been made now, or by a run that was ended before it synced the folder.
 fn opened(rt: &HostRuntime, name: &str) -> io::Result<File> {
     let file = OpenOptions::new()
@@ -133,6 +157,7 @@ fn opened(rt: &HostRuntime, name: &str) -> io::Result<File> {
         .write(true)
         .create(true)
         .open(rt, name)?;
+    file.try_lock()?;
     if file.metadata()?.len() == 0 {
         File::open(rt, folder_of(name))?.sync_all()?;
     }
