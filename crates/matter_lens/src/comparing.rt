@@ -267,7 +267,7 @@ fn tell_fabric(text: &mut String, fabric: Option<&Descriptor>) -> Result<(), All
     let vendor = fabric.vendor;
     write!(
         text,
-        "fabric {index}: node {node:016x} of fabric id {id:016x}, vendor {vendor}, label "
+        "fabric {index}: node {node:016x} of fabric id {id:016x}, vendor {vendor:#06x}, label "
     )?;
     tell_octets(text, fabric.label.as_slice())
 }

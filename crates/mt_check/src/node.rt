@@ -44,7 +44,7 @@ fn tell_fabric(alloc: Global, text: &mut String, fabric: &Fabric) -> Result<(), 
     let vendor = fabric.vendor;
     writeln!(
         text,
-        ": node {node:016x} of fabric id {id:016x}, vendor {vendor}"
+        ": node {node:016x} of fabric id {id:016x}, vendor {vendor:#06x}"
     )
 }
 

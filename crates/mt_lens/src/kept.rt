@@ -96,8 +96,8 @@ fn show_fabric(page: &mut Page, contents: &MapContents, fabric: &Fabric) {
     }
     page.end();
     show_identity(page, &fabric.credentials);
-    page.text(", vendor ");
-    page.id(fabric.vendor as u32);
+    page.text(", vendor 0x");
+    page.octets(&fabric.vendor.to_be_bytes());
     page.end_line();
     show_certificates(page, &fabric.credentials);
     show_entries(page, contents.entries.as_slice(), fabric.index);
