@@ -10,7 +10,7 @@ mod hints;
 mod serving;
 mod watching;
 
-use hints::{tell_hint, text_of};
+use hints::{Known, tell_hint, text_of};
 use mt_os::{FileDisk, ReaderSource, TerminalProgress, WriterSink};
 use mt_top::{files_of, run_watched};
 use std::fs::File;
@@ -52,6 +52,7 @@ fn run_on(rt: &HostRuntime, words: &[String]) -> u8 {
         text_of(first, &files[1]),
         text_of(second, &files[2]),
     ];
+    let recordings = (first, second);
     let [config, first, second] = files;
     let mut config = ReaderSource::new(config);
     let mut first = ReaderSource::new(first);
@@ -70,8 +71,17 @@ fn run_on(rt: &HostRuntime, words: &[String]) -> u8 {
         &mut out,
         &mut terminal,
     );
+    let known = Known {
+        texts: &texts,
+        last_read: if second.was_read() {
+            recordings.1
+        } else {
+            recordings.0
+        },
+        in_use,
+    };
     // Where even this can't be written, the status alone tells.
-    let _ = tell_hint(rt, status, words, &texts, in_use);
+    let _ = tell_hint(rt, status, words, &known);
     status
 }
 

@@ -1,6 +1,6 @@
 //! The node on the network: one UDP socket, from which all datagrams come and over which all go.
 
-use crate::hints::{tell_hint, text_of};
+use crate::hints::{Known, tell_hint, text_of};
 use crate::watching::{Board, TakenCount, UsageLine};
 use crate::{disk_named, named, place_in_use};
 use mt_os::{ReaderSource, UdpIntake, UdpOutlet, WriterSink};
@@ -79,7 +79,13 @@ fn serve_over<R: Threads + Wait + Sync>(
     if board.has_line() {
         let _ = eprintln!(rt);
     }
-    let _ = tell_hint(rt, served.status, words, &[text], in_use);
+    let texts = [text];
+    let known = Known {
+        texts: &texts,
+        last_read: None,
+        in_use,
+    };
+    let _ = tell_hint(rt, served.status, words, &known);
     let _ = eprintln!(rt; "serving ended with status {}.", served.status);
     served.status
 }

@@ -1,6 +1,6 @@
 //! A source over any reader and a sink over any writer.
 
-ghost use Rattle.std.specs.Prelude.{◌≡◌, ◌≤◌, None, IfSome, length};
+ghost use Rattle.std.specs.Prelude.{◌≡◌, ◌≤◌, None, IfSome, false, length};
 
 use crate::ATTEMPTS;
 use mt_outside::{Failed, Sink, Source};
@@ -10,6 +10,7 @@ use std::io::{ErrorKind, Read, Write};
 #[derive(Drop)]
 pub struct ReaderSource<R: Read + Drop> {
     reader: Option<R>,
+    was_read: bool,
     faults: u64,
 }
 
@@ -17,9 +18,21 @@ impl<R: Read + Drop> ReaderSource<R> {
     /// A source over this reader, of which no call has failed yet.
     pub fn new(reader: Option<R>) -> Self
         ensures reader { result.reader ≡ reader }
+        ensures was_read { result.was_read ≡ false }
         ensures faults { result.faults ≡ 0 }
     {
-        ReaderSource { reader, faults: 0 }
+        ReaderSource {
+            reader,
+            was_read: false,
+            faults: 0,
+        }
+    }
+
+    /// Whether a read was asked of it, also one that failed.
+    pub fn was_read(&self) -> bool
+        ensures { result ≡ self.now.was_read }
+    {
+        self.was_read
     }
 }
 
@@ -29,6 +42,7 @@ impl<R: Read + Drop> Source for ReaderSource<R> {
     ghost faults = { λ s. s.faults };
 
     fn read(&mut self, into: &mut [u8]) -> Result<usize, Failed> {
+        self.was_read = true;
         if let Some(reader) = &mut self.reader
             && let Some(count) = read_again(reader, into)
         {
