@@ -1,5 +1,6 @@
 //! Lines told by themselves: what each comes to in a recording, or what is wrong with it.
 
+use crate::WRONG;
 use crate::faults::{Fault, words_of};
 use mt_files::cut_line;
 use mt_say::{SayFault, say};
@@ -7,9 +8,6 @@ use std::alloc::{AllocError, Global};
 
 // What a recording begins with.
 const HEAD: &[u8] = b"matter-record 1\n";
-
-// The status where a line is wrong.
-const WRONG: u8 = 4;
 
 /// For each line what it comes to by itself, or what is wrong with it, and the exit status. Of a line that says nothing there is an
 /// empty line.

@@ -3,7 +3,7 @@
 //!
 //! - `options`: the words of the command line;
 //! - `sessions`: who speaks on a session;
-//! - `each`: lines told by themselves;
+//! - `each`: lines told by themselves; `wrong`: the lines that are wrong;
 //! - `faults`: why nothing was written, in words.
 #![tactic(auto)]
 
@@ -11,17 +11,22 @@ mod each;
 mod faults;
 mod options;
 mod sessions;
+mod wrong;
 
 use faults::Fault;
 use mt_model::limits::RECORDING_BYTES;
-use mt_say::{say, say_on};
+use mt_say::{SayFault, Speaker, say, say_on};
 use options::{Options, options_of};
+use std::alloc::Global;
 use std::io::{Read, Write};
 use std::process::ExitCode;
 use std::{env, fs, io};
 
 // The status where the command line could not be taken for want of memory.
 const NO_MEMORY: u8 = 7;
+
+// The status where a line of the words is wrong.
+pub(crate) const WRONG: u8 = 4;
 
 fn main(rt: HostRuntime) -> ExitCode {
     match command_line(&rt) {
@@ -72,15 +77,39 @@ fn written(rt: &HostRuntime, options: &Options<'_>) -> Result<u8, Fault> {
         write(rt, text.as_slice())?;
         return Ok(status);
     }
-    let text = match (options.session, options.config) {
-        (Some(session), Some(config)) => {
-            let speaker = sessions::speaker(rt, session, config)?;
-            say_on(rt.alloc(), speaker, words.as_slice())?
-        }
-        _ => say(rt.alloc(), words.as_slice())?,
+    let speaker = match (options.session, options.config) {
+        (Some(session), Some(config)) => Some(sessions::speaker(rt, session, config)?),
+        _ => None,
     };
-    write(rt, text.as_slice())?;
-    Ok(0)
+    match said(rt.alloc(), speaker, words.as_slice()) {
+        Ok(text) => {
+            write(rt, text.as_slice())?;
+            Ok(0)
+        }
+        Err(SayFault::Wrong { .. }) => {
+            // Where even this can't be written, the status alone tells.
+            let _ = tell_wrong(rt, speaker, words.as_slice());
+            Ok(WRONG)
+        }
+        Err(fault) => Err(fault.into()),
+    }
+}
+
+// The script of the session of this speaker, or the recording, that words come to.
+fn said(alloc: Global, session: Option<Speaker>, words: &[u8]) -> Result<Vec<u8>, SayFault> {
+    match session {
+        Some(speaker) => say_on(alloc, speaker, words),
+        None => say(alloc, words),
+    }
+}
+
+// Writes on standard error what is wrong with lines.
+fn tell_wrong(rt: &HostRuntime, session: Option<Speaker>, words: &[u8]) -> Result<(), Fault> {
+    let text = wrong::told(rt.alloc(), session, words)?;
+    match eprint!(rt; "{text}") {
+        Ok(()) => Ok(()),
+        Err(_) => Err(Fault::Unwritten),
+    }
 }
 
 fn read_words(rt: &HostRuntime, file: Option<&str>) -> Result<Vec<u8>, Fault> {
