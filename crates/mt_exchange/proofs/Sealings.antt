@@ -1,12 +1,11 @@
 -- What a session says to a message, and what has happened once more.
-use Rattle.std.proofs.Common.{◌≡◌, ◌≢◌, ℕ, List, [], ◌∷◌, ◌++◌, Option, Some, None, Result, Ok, Err, IfSome, IfNone, IfOk, OnOk, ap, sym, subst}
+use Rattle.std.proofs.Common.{◌≡◌, ◌≢◌, ℕ, List, [], ◌∷◌, ◌++◌, Option, Some, None, Result, Ok, Err, IfSome, IfNone, ap, sym}
 use Rattle.std.proofs.lemmas.List.Sums.{fold-append}
 use Rattle.mt_model.specs.declared.texts.config.SessionRow.{SessionRow}
 use Rattle.mt_session.specs.declared.fault.SealFault.{SealFault}
 use Rattle.mt_session.specs.declared.fault.SealFault.TheVariants.{Memory}
 use Rattle.mt_frame.specs.declared.header.ProtocolHeader.{ProtocolHeader}
-use Rattle.mt_session.specs.Sessions.{Message}
-use Rattle.mt_exchange.specs.Sending.{message_under, sealed_unless, sealed_with}
+use Rattle.mt_exchange.specs.Sending.{message_under, sealed_unless}
 use Rattle.mt_exchange.specs.Runs.{Happening, after, begun, run}
 
 pub sent_by : (refused : Option SealFault) (bytes sent : List ℕ) → IfSome refused (λ fault. Ok sent ≡ Err fault) → sent ≡ bytes

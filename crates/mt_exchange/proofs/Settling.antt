@@ -1,7 +1,7 @@
 -- Exchanges by rising key: two puts under one key are one, and those of a run stand so.
-use Rattle.std.proofs.Common.{◌≡◌, ℕ, zero, suc, ◌+◌, ◌<◌, ◌≤◌, ◌==◌, nat_lt, Bool, true, false, true≢false, not, cond, List, [], ◌∷◌, ◌++◌, length, get_or, Option, Some, None, Ok, Err, if◌then◌else◌, refl, ap, sym, subst, ◌∙◌, append-nil, inl, inr, arith}
+use Rattle.std.proofs.Common.{◌≡◌, ℕ, zero, suc, ◌+◌, ◌<◌, ◌≤◌, ◌==◌, nat_lt, true, false, not, cond, List, [], ◌∷◌, ◌++◌, length, get_or, Option, Some, None, Ok, Err, if◌then◌else◌, refl, ap, sym, subst, ◌∙◌, append-nil, inl, inr, arith}
 use Rattle.std.specs.Prelude.{fold, slice_set}
-use Rattle.std.specs.List.{AllByRecursion, remove}
+use Rattle.std.specs.List.{remove}
 use Rattle.std.proofs.lemmas.Bool.{cases_Bool, cond-false, cond-true, eqb-true, le-ltb, ne_eqb}
 use Rattle.std.proofs.lemmas.List.Sums.{sum_by-cons}
 use Rattle.mt_model.specs.declared.texts.config.SessionRow.{SessionRow}
@@ -11,7 +11,7 @@ use Rattle.mt_exchange.specs.declared.exchange.Exchange.{Exchange}
 use Rattle.mt_exchange.specs.Opened.{count_of_peer, exchange_at, if_open, is_open, nothing, put, rank}
 use Rattle.mt_exchange.specs.Places.{AreAbove, IsRising}
 use Rattle.mt_exchange.specs.Receiving.{behind, key_of, relieved, relieved_ones, taken}
-use Rattle.mt_exchange.specs.Resending.{behind_step, closes, resent}
+use Rattle.mt_exchange.specs.Resending.{closes, resent}
 use Rattle.mt_exchange.specs.Runs.{Happening, Run, after, answer_of, answer_sending, answered, arrived, begun, begun_with, dropped, fresh_exchange, report_of, reported, resend_step, run}
 use Rattle.mt_exchange.specs.Sending.{behind_sending, free_id, reliably}
 use Rattle.mt_session.specs.Sessions.{next_counter}

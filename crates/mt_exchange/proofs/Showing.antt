@@ -6,10 +6,9 @@ use Rattle.mt_model.specs.declared.messages.message.Payload.{Payload}
 use Rattle.mt_session.specs.declared.fault.SealFault.{SealFault}
 use Rattle.mt_session.specs.Opening.{Arrival}
 use Rattle.mt_session.specs.Sessions.{Message}
-use Rattle.mt_exchange.specs.declared.exchange.Key.{Key}
-use Rattle.mt_exchange.specs.Runs.{Happening, Run, after, answer_message, answer_of, answer_sending, answered, arrived, begun, begun_with, dropped, report_message, report_of, reported, resend_step, run}
+use Rattle.mt_exchange.specs.Runs.{Happening, Run, after, answer_message, answer_of, answer_sending, answered, arrived, begun_with, dropped, report_message, report_of, reported, resend_step}
 use Rattle.mt_exchange.specs.Sending.{free_id, sealed_with}
-use Rattle.mt_exchange.specs.Shown.{Shown, again, answer_outgoing, arrivals_in, closed, deadline_of_first, deadline_to_send, heard, messages_in, outgoing_if, report_outgoing, sent, shown, shown_answer, shown_by, shown_from, shown_report, told}
+use Rattle.mt_exchange.specs.Shown.{Shown, again, arrivals_in, closed, deadline_of_first, deadline_to_send, heard, messages_in, outgoing_if, sent, shown_answer, shown_by, shown_from, shown_report, told}
 
 arrivals-of-both : (xs ys : List Shown) → arrivals_in (xs ++ ys) ≡ arrivals_in xs ++ arrivals_in ys
 arrivals-of-both [] ys = refl

@@ -1,5 +1,5 @@
 -- What is kept is what the test lets through.
-use Rattle.std.proofs.Common.{◌≡◌, ◌==◌, not, filter, ap, ◌∙◌, rules}
+use Rattle.std.proofs.Common.{◌==◌, not, filter, ap, ◌∙◌, rules}
 use Rattle.std.proofs.lemmas.Fn.{filter_same}
 use Rattle.mt_exchange.proofs.exchange.owed_but.Goals as goal
 

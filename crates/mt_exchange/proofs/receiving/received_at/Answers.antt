@@ -1,5 +1,5 @@
 -- The message is taken on the exchange behind its acknowledgement.
-use Rattle.std.proofs.Common.{◌∙◌, ap, sym}
+use Rattle.std.proofs.Common.{◌∙◌, ap}
 use Rattle.mt_session.specs.Opening.{arrival}
 use Rattle.mt_exchange.specs.declared.exchange.Exchange.{Exchange}
 use Rattle.mt_exchange.specs.Opened.{nothing}

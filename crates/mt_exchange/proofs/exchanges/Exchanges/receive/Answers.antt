@@ -1,10 +1,10 @@
 -- The exchanges of a run stand by rising key, so what the message is and leaves is what the definition says.
-use Rattle.std.proofs.Common.{◌≡◌, true, List, ap, sym, subst, ◌∙◌}
+use Rattle.std.proofs.Common.{true, List, ap, sym, subst, ◌∙◌}
 use Rattle.mt_session.specs.Opening.{arrival}
 use Rattle.mt_exchange.specs.declared.exchange.Exchange.{Exchange}
 use Rattle.mt_exchange.specs.Places.{IsRising}
 use Rattle.mt_exchange.specs.Receiving.{received, taken}
-use Rattle.mt_exchange.specs.Runs.{Run, arrived, run}
+use Rattle.mt_exchange.specs.Runs.{Run, arrived}
 use Rattle.mt_exchange.proofs.Sealings.{run-more}
 use Rattle.mt_exchange.proofs.Settling.{rising-run}
 use Rattle.mt_exchange.proofs.exchanges.Exchanges.receive.Goals as goal
