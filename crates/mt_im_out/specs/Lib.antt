@@ -1,4 +1,5 @@
 pub mod Chunks
+pub mod Fronts
 pub mod Greedy
 pub mod Messages
 pub mod Packing

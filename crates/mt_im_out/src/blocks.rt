@@ -5,37 +5,24 @@ ghost use Rattle.mt_tlv.specs.declared.value.Tag.TheVariants.{Context};
 ghost use Rattle.mt_tlv.specs.Narrow.{narrow, narrow_elements, length_and_value};
 ghost use Rattle.mt_model.specs.declared.messages.message.Item.TheVariants as items;
 ghost use Rattle.mt_im_out.specs.Messages.{cluster_status_tree};
-ghost use Rattle.mt_model.specs.messages.Blocks.{path_tree, event_path_tree, path_of, index_field, status_tree, refused_tree, event_tree, item_block};
+ghost use Rattle.mt_model.specs.messages.Blocks.{path_tree, event_path_tree, path_of, status_tree, refused_tree, event_tree, item_block};
 ghost use Rattle.mt_im.specs.Requests.{command_path_tree, command_tree};
 
 use crate::fields::{
-    LIST, NULL, STRUCTURE, close, close_both, open, open_field, open_within, write_endpoint,
-    write_number, write_optional,
+    LIST, STRUCTURE, close, close_both, open, open_field, write_endpoint, write_number,
+    write_optional,
 };
+use crate::front::Front;
 use mt_model::{Happened, Index, Item, Path, Place};
 use mt_tlv::{Tag, Value, write};
 use std::alloc::AllocError;
 
 /// The body of an AttributePath.
-#[tactic(auto, using(crate::proofs::Tails::path_fields))]
 pub fn write_path(path: &Path, out: &mut Vec<u8>) -> Result<(), AllocError>
     ensures { OnOk result (out.new.items ≡ out.old.items ++ length_and_value (path_tree path.now)) }
 {
-    write_endpoint(2, path.endpoint, out)?;
-    write_optional(3, path.cluster, out)?;
-    write_optional(4, path.leaf, out)?;
-    write_index(path.index, out)?;
-    close(out)
-}
-
-fn write_index(index: Index, out: &mut Vec<u8>) -> Result<(), AllocError>
-    ensures { OnOk result (out.new.items ≡ out.old.items ++ narrow_elements (index_field index)) }
-{
-    match index {
-        Index::Whole => Ok(()),
-        Index::Append => open_field(5, NULL, out),
-        Index::At(number) => write_number(5, number as u64, out),
-    }
+    let front = Front::of_path(path);
+    front.append_to(out)
 }
 
 /// The body of an EventPath.
@@ -126,10 +113,8 @@ pub fn write_attribute(
 ) -> Result<(), AllocError>
     ensures { OnOk result (out.new.items ≡ out.old.items ++ item_block (items.Attribute path.now version value.now)) }
 {
-    open_within(1, out)?;
-    write_number(0, version as u64, out)?;
-    open_field(1, LIST, out)?;
-    write_path(path, out)?;
+    let front = Front::of_data(path, version);
+    front.append_to(out)?;
     write(&Tag::Context(2), value, out)?;
     close_both(out)
 }

@@ -28,11 +28,11 @@ const FALSE: u8 = 0x08;
 
 const TRUE: u8 = 0x09;
 
-// The element type that ends a container.
-const END: u8 = 0x18;
+/// The element type that ends a container.
+pub const END: u8 = 0x18;
 
-// The bits of a control octet whose tag is a context tag of one byte.
-const CONTEXT: u8 = 0x20;
+/// The bits of a control octet whose tag is a context tag of one byte.
+pub const CONTEXT: u8 = 0x20;
 
 /// Opens a container with no tag.
 pub fn open(container: u8, out: &mut Vec<u8>) -> Result<(), AllocError>
@@ -48,13 +48,6 @@ pub fn open_field(tag: u8, container: u8, out: &mut Vec<u8>) -> Result<(), Alloc
     ensures { OnOk result (out.new.items ≡ out.old.items ++ opening (Context tag) container) }
 {
     out.extend_from_slice(&[CONTEXT + container, tag])
-}
-
-/// Opens a structure under a context tag in a structure with no tag.
-pub fn open_within(tag: u8, out: &mut Vec<u8>) -> Result<(), AllocError>
-    ensures { OnOk result (out.new.items ≡ out.old.items ++ (opening Anonymous STRUCTURE ++ opening (Context tag) STRUCTURE)) }
-{
-    out.extend_from_slice(&[STRUCTURE, CONTEXT + STRUCTURE, tag])
 }
 
 /// Closes the two innermost containers.

@@ -2,6 +2,7 @@
 //! Encoding): the payloads of a reply, into which the items of a report are put greedily, and requests.
 //!
 //! - `fields`: the fields of messages, appended to bytes;
+//! - `front`: the path of an attribute, and what stands in front of its value, made before it is appended;
 //! - `blocks`: paths, statuses and items;
 //! - `answers`: the replies that are one message;
 //! - `reports`: reports, whose items are put into payloads;
@@ -15,6 +16,7 @@ ghost use Rattle.mt_im_out.specs.Chunks.{chunks_of};
 mod answers;
 mod blocks;
 mod fields;
+mod front;
 mod laws;
 mod reports;
 mod requests;
