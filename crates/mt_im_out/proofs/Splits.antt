@@ -1,6 +1,6 @@
 -- Which items are split.
-use Rattle.std.proofs.Common.{◌≡◌, ℕ, ◌<◌, ◌≤◌, true, false, [], ◌∷◌, length, refl, ap, ◌∙◌, if◌then◌else◌, arith}
-use Rattle.std.specs.Prelude.{nat_le}
+use Rattle.std.proofs.Common.{◌≡◌, ℕ, ◌+◌, ◌<◌, ◌≤◌, Bool, true, false, [], ◌∷◌, ◌++◌, length, length-append, refl, ap, subst, ◌∙◌, if◌then◌else◌, arith}
+use Rattle.std.specs.Prelude.{nat_le, ◌||◌}
 use Rattle.std.specs.List.{flat_map}
 use Rattle.std.proofs.lemmas.Bool.{le-leb}
 use Rattle.std.proofs.lemmas.Bool.Decides.{nat_tests}
@@ -15,6 +15,7 @@ use Rattle.mt_model.specs.declared.messages.message.Item.{Item}
 use Rattle.mt_model.specs.declared.messages.message.Item.TheVariants as items
 use Rattle.mt_model.specs.declared.messages.message.Path.{Path}
 use Rattle.mt_im_out.specs.Chunks.{fit, appended, split_list, split_item}
+use Rattle.mt_im_out.specs.Packing.{Packed, blocks_payload, is_empty, joins, put_all}
 use Rattle.mt_im_out.specs.Greedy.{trees, brought}
 
 pub fit_alone : (x : Item) → fit (x ∷ []) ≡ nat_le (length (item_block x)) ITEM_BYTES
@@ -31,6 +32,25 @@ pub short_stays : (x : Item) → length (item_block x) ≤ ITEM_BYTES → split_
 short_stays (items.Attribute path version (values.Array es)) h = ap (λ b. if b then items.Attribute path version (values.Array es) ∷ [] else items.Attribute path version (values.Array none) ∷ appended path version es) (fits (items.Attribute path version (values.Array es)) h)
 short_stays (items.Attribute path version v) h = refl
 short_stays x h = refl
+
+or_true : (b : Bool) → b || true ≡ true
+or_true true = refl
+or_true false = refl
+
+-- an item joins those of a payload with which it is short enough
+abbrev pub AreShort : Packed → Item → Type 0
+AreShort p x = length (p.begun ++ item_block x) ≤ ITEM_BYTES
+
+joins_short : (p : Packed) (x : Item) → AreShort p x → joins p.begun (item_block x) ≡ true
+joins_short p x h =
+    let sum : length p.begun + length (item_block x) ≤ ITEM_BYTES = subst (λ n. n ≤ ITEM_BYTES) (length-append p.begun (item_block x)) h in
+    ap (λ b. is_empty p.begun || b) (le-leb (length p.begun + length (item_block x)) ITEM_BYTES sum) ∙ or_true (is_empty p.begun)
+
+pub joins_where_short : (p : Packed) (x : Item) → AreShort p x → put_all p (split_item x) ≡ record p { begun = p.begun ++ item_block x }
+joins_where_short p x h =
+    let sum : length p.begun + length (item_block x) ≤ ITEM_BYTES = subst (λ n. n ≤ ITEM_BYTES) (length-append p.begun (item_block x)) h in
+    ap (λ xs. put_all p xs) (short_stays x (omega (arith, sum)))
+    ∙ ap (λ b. if b then record p { begun = p.begun ++ item_block x } else record p { done = p.done ++ blocks_payload p.subscription p.begun [] true false ∷ []; begun = item_block x }) (joins_short p x h)
 
 -- a list that is too long is split
 pub long_splits : (path : Path) (version : ℕ) (es : Elements) → ITEM_BYTES < length (item_block (items.Attribute path version (values.Array es)))

@@ -1,6 +1,6 @@
 //! Reports, whose items are put into payloads greedily.
 
-ghost use Rattle.std.specs.Prelude.{◌≡◌, ◌<◌, ◌++◌, [], ◌∷◌, length, true, false, None, IfOk, OnOk};
+ghost use Rattle.std.specs.Prelude.{◌≡◌, ◌<◌, ◌≤◌, ◌++◌, [], ◌∷◌, length, take, drop, true, false, None, IfOk, OnOk};
 ghost use Rattle.mt_tlv.specs.Narrow.{narrow_elements};
 ghost use Rattle.mt_tlv.specs.Tree.{none};
 ghost use Rattle.mt_tlv.specs.View.{elements, tree, value_of};
@@ -22,7 +22,7 @@ use mt_tlv::{Bytes, Members, Tag, Value, values_are_trees};
 use std::alloc::{AllocError, Global};
 use std::mem;
 
-// How many bytes a block is given first, so that it need not grow from a few bytes on.
+// How much room a block is given first, so that bytes need not grow from a few on.
 const FIRST_ROOM: usize = 64;
 
 // The most bytes that a payload has beside its blocks.
@@ -87,14 +87,40 @@ impl Packing {
         self.put_item(item)
     }
 
-    // Puts an item, or what stands for it where no payload takes it.
-    #[tactic(auto, using(crate::proofs::Splits::short_stays))]
+    // Puts an item, or what stands for it where no payload takes it. Most items are written where they stay,
+    // behind those of the payload that is begun.
+    #[tactic(auto, using(crate::proofs::Splits::short_stays, crate::proofs::Splits::joins_where_short))]
     fn put_item(&mut self, item: &Item) -> Result<(), AllocError>
         ensures { OnOk result (packed self.new ≡ put_all (packed self.old) (split_item item.now)) }
     {
+        let before = self.begun.len();
+        self.begun.reserve(FIRST_ROOM)?;
+        write_item(item, &mut self.begun)?;
+        if self.begun.len() <= ITEM_BYTES {
+            return Ok(());
+        }
+        self.take_back(before)?;
+        self.put_apart(item)
+    }
+
+    // Takes what stands behind so many bytes of the payload that is begun to be the block.
+    fn take_back(&mut self, before: usize) -> Result<(), AllocError>
+        requires { before ≤ length self.old.begun.items }
+        ensures begun { OnOk result (packed self.new ≡ record (packed self.old) { begun = take before self.old.begun.items }) }
+        ensures block { OnOk result (self.new.block.items ≡ drop before self.old.begun.items) }
+    {
         self.block.clear();
-        self.block.reserve(FIRST_ROOM)?;
-        write_item(item, &mut self.block)?;
+        self.block.extend_from_slice(&self.begun[before..])?;
+        self.begun.truncate(before);
+        Ok(())
+    }
+
+    // Puts an item whose block is made.
+    #[tactic(auto, using(crate::proofs::Splits::short_stays))]
+    fn put_apart(&mut self, item: &Item) -> Result<(), AllocError>
+        requires { self.old.block.items ≡ item_block item.now }
+        ensures { OnOk result (packed self.new ≡ put_all (packed self.old) (split_item item.now)) }
+    {
         if self.block.len() <= ITEM_BYTES {
             return self.put_block();
         }
