@@ -16,7 +16,8 @@ null, a number, a list or a structure as JSON writes them, octets behind 0x, and
 No counter may be used twice in a boot of the node. So the next one stands in FILE, which is CONFIG.SESSION.counter where nothing is said. It
 may go on in a later boot, and must not be removed while this one lasts.
 
-The status is 0 where all was granted, 1 where something was refused, 2 where the words or CONFIG are not right, 3 where nobody answered."""
+The status is 0 where all was granted, 1 where something was refused, 2 where the words or CONFIG are not right, 3 where HOST can't be
+reached or nobody answered."""
 import argparse
 import contextlib
 import fcntl
@@ -97,6 +98,14 @@ def place_told(path):
     endpoint, cluster, attribute = (path.get(field) for field in ((2, 3, 4) if 4 in path else (0, 1, 2)))
     name = {TOGGLE: 'Toggle'}.get(attribute, attribute) if 4 not in path else attributes_of(cluster).get(attribute, attribute)
     return f'{endpoint}/{CLUSTERS.get(cluster, (cluster,))[0]}/{name}'
+
+
+def node_in(word):
+    """The host and the port of a node; an IPv6 address may stand in brackets."""
+    host, _, port = word.rpartition(':')
+    if not host or not port.isdecimal() or int(port) > 65535:
+        raise argparse.ArgumentTypeError(f'{word} is not HOST:PORT')
+    return host.strip('[]'), int(port)
 
 
 def value_in(word):
@@ -221,7 +230,7 @@ def words_of(words):
     parser = Words(add_help=False)
     parser.add_argument('config')
     parser.add_argument('session', type=int)
-    parser.add_argument('node')
+    parser.add_argument('node', type=node_in)
     parser.add_argument('--counter')
     commands = parser.add_subparsers(dest='command', required=True)
     commands.add_parser('read').add_argument('places', type=place_in, nargs='+')
@@ -253,17 +262,26 @@ def main(words):
         print(__doc__)
         return 2
     asked = words_of(words)
-    with open(asked.config, encoding='utf-8') as file:
-        rows = [row for row in json.load(file)['sessions'] if row['session'] == asked.session]
+    try:
+        with open(asked.config, encoding='utf-8') as file:
+            rows = [row for row in json.load(file)['sessions'] if row['session'] == asked.session]
+        sessions = [matter.Session(row) for row in rows]
+    except (OSError, ValueError, KeyError, TypeError) as fault:
+        print(f'{asked.config} has no sessions that can be read: {type(fault).__name__}: {fault}', file=sys.stderr)
+        return 2
     if len(rows) != 1:
         print(f'{asked.config} has {len(rows)} sessions {asked.session}', file=sys.stderr)
         return 2
-    session = matter.Session(rows[0])
+    session, boot = sessions[0], rows[0].get('boot')
     counters = CounterFile(asked.counter or f'{asked.config}.{asked.session}.counter', session.first_counter)
-    host, _, port = asked.node.rpartition(':')
+    host, port = asked.node
     telling = Telling()
     with socket.socket(socket.AF_INET6 if ':' in host else socket.AF_INET, socket.SOCK_DGRAM) as ours:
-        ours.connect((host.strip('[]'), int(port)))
+        try:
+            ours.connect((host, port))
+        except OSError as fault:
+            print(f"{host} can't be reached: {fault}", file=sys.stderr)
+            return 3
         controller = matter.Controller(session, ours, counters)
         try:
             answers = controller.ask(*request_of(asked))
@@ -271,7 +289,8 @@ def main(words):
             if answers[-1][0] == matter.SUBSCRIBED:
                 tell_reports(controller, telling, answers[-1][1][0], asked.seconds)
         except matter.Unanswered:
-            print(f'nobody answers at {asked.node}', file=sys.stderr)
+            print(f'nobody answers session {asked.session} at {host}, port {port}; a node has it in boot {boot} alone, '
+                  'and each start on a journal is a boot more', file=sys.stderr)
             return 3
         except KeyboardInterrupt:
             pass
