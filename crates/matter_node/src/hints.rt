@@ -4,8 +4,8 @@
 use std::fs::File;
 use std::io;
 
-// As the repository counts the program's forms of words and texts.
-const VERSION: &str = "1";
+// The newest version of CHANGELOG.md.
+const VERSION: &str = "0.4.2";
 
 /// A text that is to be read.
 #[derive(Clone, Copy)]
