@@ -60,10 +60,22 @@ fn with_files<'a>(alloc: Global, command: Command<'a>) -> Result<Command<'a>, Er
         .required_unless_present("check")?
         .conflicts_with("journal")?
         .help("The recording");
-    let second = Arg::new(alloc, "SECOND")
+    // It conflicts by itself with what `--compare` conflicts with: clap does not ask for a word that another one excludes,
+    // so with `--why` alone a second recording would be passed over.
+    let second = without_looks(Arg::new(alloc, "SECOND"))?
         .requires_arg("compare")?
         .help("The recording with which the first is compared");
     Ok(command.arg(config)?.arg(recording)?.arg(second)?)
+}
+
+// What has no form with the words that say how a run is shown.
+fn without_looks(arg: Arg<'_>) -> Result<Arg<'_>, Error> {
+    Ok(
+        arg.conflicts_with("json")?
+            .conflicts_with("words")?
+            .conflicts_with("fabric")?
+            .conflicts_with("why")?,
+    )
 }
 
 // How a run is shown.
@@ -109,15 +121,11 @@ fn with_ways<'a>(alloc: Global, command: Command<'a>) -> Result<Command<'a>, Err
 }
 
 fn check_of<'a>(alloc: Global) -> Result<Arg<'a>, Error> {
-    let check = Arg::new(alloc, "check")
+    let check = without_looks(Arg::new(alloc, "check"))?
         .long("check")
         .action(ArgAction::SetTrue)
         .conflicts_with("RECORDING")?
         .conflicts_with("journal")?
-        .conflicts_with("json")?
-        .conflicts_with("words")?
-        .conflicts_with("fabric")?
-        .conflicts_with("why")?
         .help(
             "Say whether the configuration is one, which row, field and rule is wrong, and what the node then is",
         );
@@ -126,15 +134,11 @@ fn check_of<'a>(alloc: Global) -> Result<Arg<'a>, Error> {
 
 // With a journal and with a check a recording has no form, and so has this.
 fn compare_of<'a>(alloc: Global) -> Result<Arg<'a>, Error> {
-    let compare = Arg::new(alloc, "compare")
+    let compare = without_looks(Arg::new(alloc, "compare"))?
         .long("compare")
         .value_name("F")
         .value_parser(value_parser!(u8))
         .requires_arg("SECOND")?
-        .conflicts_with("json")?
-        .conflicts_with("words")?
-        .conflicts_with("fabric")?
-        .conflicts_with("why")?
         .help(
             "Say where two recordings first differ for fabric F, and both values of what differs",
         );
