@@ -6,7 +6,7 @@ ghost use Rattle.mt_say.specs.Shapes.{names_of};
 
 use crate::names::number_among;
 use mt_meta::clusters::{GROUP_KEY_MANAGEMENT, access_control, group_key_management};
-use mt_meta::{Kind, find};
+use mt_meta::{Kind, attributes_of};
 use mt_model::{Auth, Path, Place, Privilege};
 use mt_names::{
     Named, auth_name, command_field_names, item_field_names, privilege_name, target_field_names,
@@ -24,19 +24,27 @@ pub enum Shape {
     KeySet(&'static [Named]),
 }
 
-/// What the structures in the value of an attribute are.
+/// What the structures in the value of an attribute are: what its cluster says, whichever the endpoint.
 pub(crate) fn shape_of_attribute(path: &Path) -> Shape {
     let Some(place) = path.place() else {
         return Shape::Fields(&[]);
     };
-    let kind = match find(&place) {
-        Ok(meta) => meta.kind,
-        Err(_) => Kind::Null,
-    };
+    let kind = kind_of(&place);
     match item_field_names(kind) {
         _ if kind == Kind::Acl => Shape::Entry,
         [] => Shape::Fields(value_field_names(place.cluster, place.leaf)),
         names => Shape::Fields(names),
+    }
+}
+
+// The form of an attribute of a cluster; Null where the cluster has none of that number.
+fn kind_of(place: &Place) -> Kind {
+    match attributes_of(place.cluster)
+        .iter()
+        .find(|row| row.number == place.leaf)
+    {
+        Some(row) => row.meta.kind,
+        None => Kind::Null,
     }
 }
 
