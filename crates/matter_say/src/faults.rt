@@ -2,10 +2,10 @@
 
 use mt_files::ConfigField;
 use mt_names::{
-    Named, attribute_names, cluster_name, cluster_names, command_names, event_names,
-    extension_names, global_names,
+    Named, attribute_names, auth_name, cluster_name, cluster_names, command_names, event_names,
+    extension_names, global_names, privilege_name,
 };
-use mt_say::{SayFault, Wanted};
+use mt_say::{MODES, PRIVILEGES, SayFault, Wanted};
 use std::alloc::{AllocError, AllocFailed, Global};
 use std::io;
 
@@ -139,9 +139,41 @@ fn fitting(alloc: Global, wanted: Wanted) -> Result<String, AllocError> {
             text.push_str("a field, by its number from 0 to 255 or its name: ")?;
             push_names(&mut text, &[shape.names()])?;
         }
+        Wanted::Privilege => push_privileges(&mut text)?,
+        Wanted::Mode => push_modes(&mut text)?,
+        Wanted::Subject => text.push_str(
+            "a subject: a number, 16 digits of hex, or CAT, its identifier in 4 digits of hex, version and a number; null for none",
+        )?,
         Wanted::Kind(kind) => text.push_str(kind)?,
     }
     Ok(text)
+}
+
+fn push_privileges(text: &mut String) -> Result<(), AllocError> {
+    text.push_str("a privilege, by its number or its name: ")?;
+    let mut is_first = true;
+    for privilege in PRIVILEGES {
+        push_name(text, is_first, privilege_name(privilege))?;
+        is_first = false;
+    }
+    Ok(())
+}
+
+fn push_modes(text: &mut String) -> Result<(), AllocError> {
+    text.push_str("a mode, by its number or its name: ")?;
+    let mut is_first = true;
+    for mode in MODES {
+        push_name(text, is_first, auth_name(mode))?;
+        is_first = false;
+    }
+    Ok(())
+}
+
+fn push_name(text: &mut String, is_first: bool, name: &str) -> Result<(), AllocError> {
+    if !is_first {
+        text.push_str(", ")?;
+    }
+    text.push_str(name)
 }
 
 fn push_leaf(text: &mut String, what: &str, cluster: u32) -> Result<(), AllocError> {
@@ -158,11 +190,8 @@ fn push_names(text: &mut String, columns: &[&'static [Named]]) -> Result<(), All
     let mut is_first = true;
     for column in columns {
         for named in *column {
-            if !is_first {
-                text.push_str(", ")?;
-            }
+            push_name(text, is_first, named.name)?;
             is_first = false;
-            text.push_str(named.name)?;
         }
     }
     if is_first {

@@ -23,6 +23,12 @@ pub enum Wanted {
     Command(u32),
     /// The name or the number of a field of such a structure.
     Field(Shape),
+    /// The name or the number of a privilege.
+    Privilege,
+    /// The name or the number of a mode.
+    Mode,
+    /// A subject, or null for no subjects.
+    Subject,
     /// What these words tell of.
     Kind(&'static str),
 }

@@ -35,5 +35,5 @@ pub use reading::sayings;
 pub use recorded::recording;
 pub use saying::{Said, Saying, Sayings, Speaker};
 pub use scripted::script;
-pub use shapes::Shape;
+pub use shapes::{MODES, PRIVILEGES, Shape};
 pub use speaking::{say, say_on};

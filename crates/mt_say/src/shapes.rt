@@ -103,15 +103,21 @@ impl Shape {
     }
 }
 
+/// The privileges.
+pub const PRIVILEGES: [Privilege; 5] = [
+    Privilege::View,
+    Privilege::ProxyView,
+    Privilege::Operate,
+    Privilege::Manage,
+    Privilege::Administer,
+];
+
+/// The modes.
+pub const MODES: [Auth; 3] = [Auth::Pase, Auth::Case, Auth::Group];
+
 // The number of the privilege of a name.
 fn privilege(word: &[u8]) -> Option<u64> {
-    for privilege in [
-        Privilege::View,
-        Privilege::ProxyView,
-        Privilege::Operate,
-        Privilege::Manage,
-        Privilege::Administer,
-    ] {
+    for privilege in PRIVILEGES {
         if privilege_name(privilege).as_bytes() == word {
             return Some(privilege as u64);
         }
@@ -121,7 +127,7 @@ fn privilege(word: &[u8]) -> Option<u64> {
 
 // The number of the mode of a name.
 fn mode(word: &[u8]) -> Option<u64> {
-    for auth in [Auth::Pase, Auth::Case, Auth::Group] {
+    for auth in MODES {
         if auth_name(auth).as_bytes() == word {
             return Some(auth as u64);
         }

@@ -5,6 +5,7 @@ use crate::numbers::{hex_behind_mark, hex_digit, hex_number, want_octets, want_s
 use crate::shapes::Shape;
 use crate::words::Words;
 use mt_files::number;
+use mt_meta::clusters::access_control;
 use mt_tlv::{Bytes, Members, Tag, Value};
 use std::alloc::Global;
 use std::str;
@@ -196,7 +197,17 @@ fn leaf(alloc: Global, words: &mut Words<'_>, spot: Spot) -> Result<Value, Misfi
             words.next();
             Ok(value)
         }
-        None => Err(words.misfit(VALUE)),
+        None => Err(words.misfit(wanted_at(spot))),
+    }
+}
+
+// What would fit at a place where a value does not.
+fn wanted_at(spot: Spot) -> Wanted {
+    match (spot.of, spot.field) {
+        (Shape::Entry, Some(access_control::PRIVILEGE)) => Wanted::Privilege,
+        (Shape::Entry, Some(access_control::AUTH_MODE)) => Wanted::Mode,
+        (Shape::Entry, Some(access_control::SUBJECTS)) => Wanted::Subject,
+        _ => VALUE,
     }
 }
 
