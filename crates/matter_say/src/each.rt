@@ -1,7 +1,7 @@
 //! Lines told by themselves: what each comes to in a recording, or what is wrong with it.
 
 use crate::WRONG;
-use crate::faults::{Fault, words_of};
+use crate::faults::{Fault, too_long, words_of};
 use mt_files::cut_line;
 use mt_say::{SayFault, say};
 use std::alloc::{AllocError, Global};
@@ -25,7 +25,7 @@ pub(crate) fn told(alloc: Global, words: &[u8]) -> Result<(Vec<u8>, u8), Fault> 
             Ok(recording) => push_events(&mut text, recording.as_slice())?,
             Err(SayFault::Memory) => return Err(Fault::Memory),
             Err(fault) => {
-                text.extend_from_slice(words_of(alloc, on_line(fault, number))?.as_bytes())?;
+                text.extend_from_slice(on_line(alloc, fault, number)?.as_bytes())?;
                 text.push(b'\n')?;
                 status = WRONG;
             }
@@ -44,18 +44,22 @@ fn push_events(text: &mut Vec<u8>, recording: &[u8]) -> Result<(), AllocError> {
     }
 }
 
-// The fault of the line of this number, which was told by itself.
-fn on_line(fault: SayFault, number: u64) -> SayFault {
+// The fault of the line of this number, which was read by itself, in words.
+fn on_line(alloc: Global, fault: SayFault, number: u64) -> Result<String, AllocError> {
     match fault {
         SayFault::Wrong {
             line: _,
             column,
             wanted,
-        } => SayFault::Wrong {
-            line: number,
-            column,
-            wanted,
-        },
-        _ => fault,
+        } => {
+            let fault = SayFault::Wrong {
+                line: number,
+                column,
+                wanted,
+            };
+            words_of(alloc, fault)
+        }
+        SayFault::TooLong => too_long(alloc, Some(number)),
+        SayFault::Memory => words_of(alloc, fault),
     }
 }

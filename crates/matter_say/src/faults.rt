@@ -1,5 +1,6 @@
 //! Why nothing was written, in words, with the statuses that matter_node has for it.
 
+use crate::options::Options;
 use mt_files::ConfigField;
 use mt_names::{
     Named, attribute_names, auth_name, cluster_name, cluster_names, command_names, event_names,
@@ -8,6 +9,13 @@ use mt_names::{
 use mt_say::{MODES, PRIVILEGES, SayFault, Wanted};
 use std::alloc::{AllocError, AllocFailed, Global};
 use std::io;
+
+/// Which of the files it is.
+#[derive(Clone, Copy)]
+pub(crate) enum Which {
+    Words,
+    Configuration,
+}
 
 /// Why nothing was written.
 #[derive(Clone, Copy)]
@@ -18,8 +26,9 @@ pub(crate) enum Fault {
     Configuration(ConfigField),
     /// No session of boot 1 has the id.
     NoSession,
-    /// The words, or the configuration.
-    Unread,
+    Unread(Which),
+    /// The first line that is too long, or comes to something too long; None where all of them together do.
+    TooLong(Option<u64>),
     Unwritten,
     Memory,
 }
@@ -40,7 +49,8 @@ impl From<SayFault> for Fault {
     fn from(fault: SayFault) -> Fault {
         match fault {
             SayFault::Memory => Fault::Memory,
-            _ => Fault::Words(fault),
+            SayFault::TooLong => Fault::TooLong(None),
+            SayFault::Wrong { .. } => Fault::Words(fault),
         }
     }
 }
@@ -51,16 +61,16 @@ impl Fault {
         match self {
             Fault::Configuration(_) => 3,
             Fault::Words(SayFault::Wrong { .. }) => 4,
-            Fault::Unread => 5,
+            Fault::Unread(_) => 5,
             Fault::Unwritten => 6,
             Fault::Memory | Fault::Words(SayFault::Memory) => 7,
-            Fault::Words(SayFault::TooLong) => 10,
+            Fault::TooLong(_) | Fault::Words(SayFault::TooLong) => 10,
             Fault::NoSession => 15,
         }
     }
 
     /// Writes on standard error what was wrong.
-    pub(crate) fn tell(self, rt: &HostRuntime) -> io::Result<()> {
+    pub(crate) fn tell(self, rt: &HostRuntime, options: &Options<'_>) -> io::Result<()> {
         match self {
             Fault::Words(fault) => {
                 let text = words_of(rt.alloc(), fault)?;
@@ -73,10 +83,37 @@ impl Fault {
             Fault::NoSession => {
                 eprintln!(rt; "The configuration has no session of that id for boot 1.")
             }
-            Fault::Unread => eprintln!(rt; "The words or the configuration can't be read."),
+            Fault::Unread(which) => tell_unread(rt, which, options),
+            Fault::TooLong(line) => {
+                let text = too_long(rt.alloc(), line)?;
+                eprintln!(rt; "{text}")
+            }
             Fault::Unwritten => eprintln!(rt; "What the words say can't be written."),
             Fault::Memory => eprintln!(rt; "There is not enough memory."),
         }
+    }
+}
+
+fn tell_unread(rt: &HostRuntime, which: Which, options: &Options<'_>) -> io::Result<()> {
+    match (which, options.file) {
+        (Which::Configuration, _) => {
+            let config = options.config.unwrap_or("");
+            eprintln!(rt; "The configuration {config} can't be read.")
+        }
+        (Which::Words, Some(file)) => eprintln!(rt; "The words {file} can't be read."),
+        (Which::Words, None) => eprintln!(rt; "Standard input can't be read."),
+    }
+}
+
+/// That a line is too long, or what it comes to; or, of no line, that all of them are.
+pub(crate) fn too_long(alloc: Global, line: Option<u64>) -> Result<String, AllocError> {
+    match line {
+        Some(line) => format!(in alloc;
+            "line {line}: it is too long, or what it comes to: 65,536 bytes in a line of words; 1,198 bytes in a payload of a script"
+        ),
+        None => format!(in alloc;
+            "The words or what they come to are too long: 67,108,864 bytes, 2,097,152 lines of words, 1,048,576 lines of a recording, 65,535 requests of a script."
+        ),
     }
 }
 
@@ -91,9 +128,7 @@ pub(crate) fn words_of(alloc: Global, fault: SayFault) -> Result<String, AllocEr
             let fitting = fitting(alloc, wanted)?;
             format!(in alloc; "line {line}, column {column}: what fits here is {fitting}")
         }
-        SayFault::TooLong => format!(in alloc;
-            "The words or what they come to are too long: 65,536 bytes in a line of words, 67,108,864 bytes, 1,048,576 lines of a recording; 1,198 bytes in a payload of a script, and 65,535 requests."
-        ),
+        SayFault::TooLong => too_long(alloc, None),
         SayFault::Memory => format!(in alloc; "There is not enough memory."),
     }
 }

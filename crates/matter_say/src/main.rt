@@ -13,7 +13,8 @@ mod options;
 mod sessions;
 mod wrong;
 
-use faults::Fault;
+use faults::{Fault, Which};
+use mt_files::cut_line;
 use mt_model::limits::RECORDING_BYTES;
 use mt_say::{SayFault, Speaker, say, say_on};
 use options::{Options, options_of};
@@ -45,7 +46,7 @@ fn run(rt: &HostRuntime, words: &[String]) -> u8 {
         Ok(status) => status,
         Err(fault) => {
             // Where even this can't be written, the status alone tells.
-            let _ = fault.tell(rt);
+            let _ = fault.tell(rt, &options);
             fault.status()
         }
     }
@@ -91,8 +92,34 @@ fn written(rt: &HostRuntime, options: &Options<'_>) -> Result<u8, Fault> {
             let _ = tell_wrong(rt, speaker, words.as_slice());
             Ok(WRONG)
         }
+        Err(SayFault::TooLong) => Err(Fault::TooLong(long_line(
+            rt.alloc(),
+            speaker,
+            words.as_slice(),
+        ))),
         Err(fault) => Err(fault.into()),
     }
+}
+
+// The first line that is too long by itself, or comes to something too long, counted from 1; None where none is.
+fn long_line(alloc: Global, session: Option<Speaker>, words: &[u8]) -> Option<u64> {
+    if words.len() > RECORDING_BYTES {
+        return None;
+    }
+    let mut number = 1u64;
+    let mut rest = words;
+    for _ in 0..words.len() {
+        if rest.is_empty() {
+            break;
+        }
+        let (line, behind) = cut_line(rest);
+        if let Err(SayFault::TooLong) = said(alloc, session, line) {
+            return Some(number);
+        }
+        number = number.saturating_add(1);
+        rest = behind;
+    }
+    None
 }
 
 // The script of the session of this speaker, or the recording, that words come to.
@@ -120,7 +147,7 @@ fn read_words(rt: &HostRuntime, file: Option<&str>) -> Result<Vec<u8>, Fault> {
     match read {
         Ok(words) => Ok(words),
         Err(error) if error.kind() == io::ErrorKind::OutOfMemory => Err(Fault::Memory),
-        Err(_) => Err(Fault::Unread),
+        Err(_) => Err(Fault::Unread(Which::Words)),
     }
 }
 

@@ -1,6 +1,6 @@
 //! Who speaks on a session.
 
-use crate::faults::Fault;
+use crate::faults::{Fault, Which};
 use mt_files::{ConfigFault, config as configuration};
 use mt_model::{Auth, Config, SessionRow};
 use mt_say::Speaker;
@@ -11,7 +11,7 @@ pub(crate) fn speaker(rt: &HostRuntime, session: u16, name: &str) -> Result<Spea
     let bytes = match fs::read(rt, name) {
         Ok(bytes) => bytes,
         Err(error) if error.kind() == io::ErrorKind::OutOfMemory => return Err(Fault::Memory),
-        Err(_) => return Err(Fault::Unread),
+        Err(_) => return Err(Fault::Unread(Which::Configuration)),
     };
     match configuration(rt.alloc(), &bytes) {
         Ok(config) => speaker_in(&config, session),
