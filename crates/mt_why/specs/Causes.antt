@@ -11,8 +11,11 @@ use Rattle.mt_machine.specs.Step.{session_actor}
 use Rattle.mt_meta.specs.Finding.{find_of, privilege_of}
 use Rattle.mt_meta.specs.declared.meta.Meta.{Meta}
 use Rattle.mt_model.specs.Optional.{is_that}
+use Rattle.mt_model.specs.declared.messages.message.Request.{Request}
+use Rattle.mt_model.specs.declared.messages.message.Request.TheVariants as requests
 use Rattle.mt_model.specs.declared.messages.status.Status.{Status}
 use Rattle.mt_model.specs.declared.messages.status.Status.TheVariants as statuses
+use Rattle.mt_model.specs.declared.rows.place.Place.{Place}
 use Rattle.mt_model.specs.declared.node.state.Standing.TheVariants.{Waits, Ended}
 use Rattle.mt_model.specs.declared.texts.recording.Event.{Event}
 use Rattle.mt_model.specs.declared.texts.recording.Event.TheVariants as events
@@ -21,12 +24,18 @@ use Rattle.mt_names.specs.Words.{status_of as status_named}
 use Rattle.mt_subs.specs.Owed.{has_passed}
 use Rattle.mt_subs.specs.Subscriptions.{kept_at}
 use Rattle.mt_subs.specs.declared.subscription.Kept.{Kept}
-use Rattle.mt_why.specs.Refusal.{is_scoped_change, is_timed, missing_at, version_at}
+use Rattle.mt_tlv.specs.View.{tree}
+use Rattle.mt_why.specs.Refusal.{has_form_at, is_scoped_change, is_timed, missing_at, version_at}
 use Rattle.mt_why.specs.Silence.{IsSpared, asks_no_answer, has_lost_fabric, has_news, session_of, standing_of}
 use Rattle.mt_why.specs.declared.cause.Cause.{Cause}
 use Rattle.mt_why.specs.declared.cause.Cause.TheVariants as causes
 use Rattle.mt_why.specs.declared.refusals.Wish.{Wish}
 use Rattle.mt_why.specs.declared.scene.Scene.{Scene}
+
+-- This command is invoked, with fields that have the form of the table, or with such that have not.
+abbrev pub IsInvoked : Place → Bool → Option Request → Type 0
+IsInvoked command form (Some (requests.Invoke suppress timed asked fields)) = (command ≡ asked) × (has_form_at asked (tree fields) ≡ form)
+IsInvoked command form other = ⊥
 
 -- The cause holds of the node as the line begins, and of what was answered.
 abbrev pub Holds : Scene → Cause → Type 0
@@ -54,6 +63,8 @@ Holds scene (causes.NotWritable place) = IsOkAnd (find_of place) (λ (meta : Met
 Holds scene (causes.SingleItem place) = Unit {0}
 Holds scene (causes.NeedsTimed what place) = is_timed what place ≡ true
 Holds scene (causes.OtherVersion place wanted version) = (version_at scene.state.now place ≡ version) × (wanted ≢ version)
+Holds scene (causes.OtherForm command) = IsInvoked command false (option_copied scene.request)
+Holds scene (causes.RefusedFields command) = IsInvoked command true (option_copied scene.request)
 Holds scene (causes.Answered status) = slice_index scene.codes.now (code_of status) ≢ 0
 
 -- The status with which a refusal is answered.
@@ -64,6 +75,8 @@ status_of (causes.NotWritable place) = Some statuses.UnsupportedWrite
 status_of (causes.SingleItem place) = Some statuses.UnsupportedWrite
 status_of (causes.NeedsTimed what place) = Some statuses.NeedsTimedInteraction
 status_of (causes.OtherVersion place wanted version) = Some statuses.DataVersionMismatch
+status_of (causes.OtherForm command) = Some statuses.InvalidCommand
+status_of (causes.RefusedFields command) = Some statuses.InvalidCommand
 status_of (causes.Answered status) = Some status
 status_of other = None
 

@@ -1,6 +1,9 @@
 -- What an actor wants of a place, and what stands in its way.
 use Rattle.std.specs.Prelude.{ℕ, Bool, false, Option, Some, None, Result, Ok, Err}
 use Rattle.mt_acl.specs.Access.{is_granted_if_asked}
+use Rattle.mt_tlv.specs.Tree.{Tree}
+use Rattle.mt_meta.specs.Fields.{has_fields}
+use Rattle.mt_meta.specs.Table.{command_fields}
 use Rattle.mt_meta.specs.Finding.{find_command_of, find_event_of, find_of, privilege_of}
 use Rattle.mt_meta.specs.declared.finding.Asked.{Asked}
 use Rattle.mt_meta.specs.declared.finding.Asked.TheVariants.{Read, Write, Command, Event}
@@ -44,6 +47,10 @@ is_timed Event place = false
 -- the actor is granted what is asked for what it wants
 abbrev pub is_granted_to : NodeState → Wish → Bool
 is_granted_to s wish = is_granted_if_asked s.entries wish.actor wish.place (privilege_of wish.place wish.what) (is_scoped_change wish.what wish.place)
+
+-- whether the fields of a command have the form that the table gives them
+abbrev pub has_form_at : Place → Tree → Bool
+has_form_at command fields = has_fields (command_fields command.cluster command.leaf) fields
 
 abbrev pub version_at : NodeState → Place → ℕ
 version_at s place = version_in s.versions place.endpoint place.cluster

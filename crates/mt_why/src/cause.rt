@@ -107,6 +107,14 @@ pub enum Cause {
         wanted: u32,
         version: u32,
     },
+    /// The fields of the command have not the form that the table gives them.
+    OtherForm {
+        command: Place,
+    },
+    /// The fields of the command have their form, and its cluster refuses what they say.
+    RefusedFields {
+        command: Place,
+    },
     /// This status is in what was answered.
     Answered {
         status: Status,
@@ -125,6 +133,8 @@ impl Cause {
             Cause::SingleItem { .. } => Some(Status::UnsupportedWrite),
             Cause::NeedsTimed { .. } => Some(Status::NeedsTimedInteraction),
             Cause::OtherVersion { .. } => Some(Status::DataVersionMismatch),
+            Cause::OtherForm { .. } => Some(Status::InvalidCommand),
+            Cause::RefusedFields { .. } => Some(Status::InvalidCommand),
             Cause::Answered { status } => Some(*status),
             _ => None,
         }

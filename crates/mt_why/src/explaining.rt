@@ -1,16 +1,17 @@
 //! The causes of a line.
 
-ghost use Rattle.std.specs.Prelude.{◌≡◌, ◌≤◌, ◌<◌, ◌∷◌, ◌++◌, [], ℕ, false, true, All, IfOk, OnOk};
+ghost use Rattle.std.specs.Prelude.{◌≡◌, ◌≢◌, ◌≤◌, ◌<◌, ◌∷◌, ◌++◌, [], ℕ, Some, false, true, All, IfOk, OnOk, slice_index};
 ghost use Rattle.std.specs.List.{list_any};
-ghost use Rattle.mt_why.specs.Causes.{Holds, IsAccounted, IsSparedIfNone, has_code};
+ghost use Rattle.mt_model.specs.messages.Status.{code_of};
+ghost use Rattle.mt_why.specs.Causes.{Holds, IsAccounted, IsSparedIfNone, has_code, status_of};
 
 use crate::actors::asking;
 use crate::cause::Cause;
 use crate::refusals::{Wish, refusal};
 use crate::scene::Scene;
 use crate::silences::silence;
-use mt_meta::Asked;
-use mt_model::{Actor, Path, Request, WriteItem};
+use mt_meta::{Asked, command_fields, has_fields};
+use mt_model::{Actor, Path, Request, Status, WriteItem};
 use mt_names::status_of;
 use std::alloc::{AllocError, Global};
 
@@ -223,7 +224,35 @@ fn note_answer(scene: &Scene<'_>, code: usize, causes: &mut Vec<Cause>) -> Resul
     if has_any(causes.as_slice(), code as u8) && count <= counted(causes.as_slice(), code as u8) {
         return Ok(());
     }
-    add(scene, Cause::Answered { status }, causes)
+    add(scene, answered(scene, status), causes)
+}
+
+// Why this status, which is in what was sent, was answered, as far as what is asked tells it: INVALID_COMMAND is asked of the
+// fields' form first, and then by the command's cluster.
+fn answered(scene: &Scene<'_>, status: Status) -> Cause
+    requires { slice_index scene.now.codes.now (code_of status) ≢ 0 }
+    ensures holds { Holds scene.now result }
+    ensures status { status_of result ≡ Some status }
+{
+    match (status, scene.request) {
+        (
+            Status::InvalidCommand,
+            Some(
+                Request::Invoke {
+                    command,
+                    fields,
+                    ..
+                },
+            ),
+        ) => {
+            if has_fields(command_fields(command.cluster, command.leaf), fields) {
+                Cause::RefusedFields { command: *command }
+            } else {
+                Cause::OtherForm { command: *command }
+            }
+        }
+        _ => Cause::Answered { status },
+    }
 }
 
 // Whether one of the causes has a status of this code.

@@ -5,6 +5,10 @@ ghost use Rattle.std.specs.Io.{StartsWith};
 
 use crate::cause::Cause;
 use mt_meta::Asked;
+use mt_meta::clusters::{
+    ADMINISTRATOR_COMMISSIONING, GROUP_KEY_MANAGEMENT, OPERATIONAL_CREDENTIALS,
+    administrator_commissioning, group_key_management, operational_credentials,
+};
 use mt_model::{Actor, Auth, Place, Privilege, Status};
 use mt_names::{
     attribute_name, cluster_name, command_name, event_name, privilege_name, status_name,
@@ -137,7 +141,41 @@ fn tell_refusal(text: &mut String, cause: &Cause, status: Status) -> Result<(), 
             tell_at(text, "the data version of the cluster of ", place)?;
             write!(text, " is {version}, and not {wanted}")
         }
+        Cause::OtherForm { command } => {
+            text.push_str("the fields are no structure, or one is missing or has not its type, its range or its length: ")?;
+            tell_place(text, Asked::Command, command)
+        }
+        Cause::RefusedFields { command } => {
+            text.push_str(refused(command))?;
+            text.push_str(": ")?;
+            tell_place(text, Asked::Command, command)
+        }
         _ => text.push_str(meaning(status)),
+    }
+}
+
+// What a command refuses with INVALID_COMMAND whose fields have their form.
+fn refused(command: &Place) -> &'static str {
+    match (command.cluster, command.leaf) {
+        (ADMINISTRATOR_COMMISSIONING, administrator_commissioning::OPEN_COMMISSIONING_WINDOW) =>
+            "the timeout or the discriminator is out of its range",
+        (
+            ADMINISTRATOR_COMMISSIONING,
+            administrator_commissioning::OPEN_BASIC_COMMISSIONING_WINDOW,
+        ) => "the timeout is out of its range",
+        (OPERATIONAL_CREDENTIALS, operational_credentials::CSR_REQUEST) => {
+            "a request for an update is not made over PASE"
+        }
+        (OPERATIONAL_CREDENTIALS, operational_credentials::ADD_TRUSTED_ROOT_CERTIFICATE) => {
+            "the configuration has no verdict on the certificate"
+        }
+        (GROUP_KEY_MANAGEMENT, group_key_management::KEY_SET_WRITE) => {
+            "what is to be written is no group key set"
+        }
+        (GROUP_KEY_MANAGEMENT, group_key_management::KEY_SET_REMOVE) => {
+            "the group key set 0 can't be removed"
+        }
+        _ => "the cluster does not take what the fields say",
     }
 }
 
@@ -223,7 +261,9 @@ fn meaning(status: Status) -> &'static str {
         Status::UnsupportedEndpoint => "there is no such endpoint",
         Status::InvalidAction => "the request is malformed, or is none that can be asked so",
         Status::UnsupportedCommand => "the cluster has no such command",
-        Status::InvalidCommand => "the fields are not those of the command",
+        Status::InvalidCommand => {
+            "the fields have not the form of the command's, or its cluster does not take what they say"
+        }
         Status::UnsupportedAttribute => "the cluster has no such attribute",
         Status::ConstraintError =>
             "a value is out of its limits, or does not go with what is there",
