@@ -142,7 +142,9 @@ fn tell_refusal(text: &mut String, cause: &Cause, status: Status) -> Result<(), 
             write!(text, " is {version}, and not {wanted}")
         }
         Cause::OtherForm { command } => {
-            text.push_str("the fields are no structure, or one is missing or has not its type, its range or its length: ")?;
+            text.push_str(
+                "the fields are no structure, or one is missing or has not its type, its range or its length: ",
+            )?;
             tell_place(text, Asked::Command, command)
         }
         Cause::RefusedFields { command } => {
